@@ -1,0 +1,186 @@
+// The rules that a diagram, an input file or a C text can break, and refusals by them.
+ghost use Rattle.std.specs.Prelude.{◌≡◌};
+
+use smallvec::SmallVec;
+use std::alloc::Global;
+
+/// There was no memory.
+#[derive(Clone, Copy, Debug, PartialEq, Eq)]
+pub struct NoMemory;
+
+/// A rule, by the number and the name that a refusal prints.
+#[derive(Clone, Copy, Debug, Drop, PartialEq, Eq)]
+pub enum Rule {
+    /// The bytes are no JSON text (RFC 8259).
+    NotJson,
+    /// A required field is absent.
+    MissingField,
+    /// A field hasn't its form.
+    WrongField,
+    /// A superblock would be at level 17.
+    TooDeep,
+    /// More than 2,048 blocks are neither superblocks nor pass-through objects.
+    TooManyBlocks,
+    /// More than 16,384 links over all levels.
+    TooManyLinks,
+    /// No kind and no pass-through object has this name.
+    UnknownBlock,
+    /// A parameter breaks the kind's form.
+    BadParameter,
+    /// A count of ports, or the length of a list of sizes or types, breaks the kind's form.
+    PortShape,
+    /// A port declares a type that is no integer type.
+    NotInteger,
+    /// A block is declared always active.
+    AlwaysActive,
+    /// A link's type is unknown, or one of its ends is no port of its class.
+    LinkEnd,
+    /// An earlier link of the same diagram ends at the same regular input.
+    InputTwice,
+    /// The port blocks inside a superblock don't match its ports.
+    SuperPorts,
+    /// No output feeds a regular input.
+    NoSource,
+    /// An earlier sensor has the same column.
+    ColumnTwice,
+    /// Ports that are tied to one type declare two.
+    TypeConflict,
+    /// Ports that are tied to one size declare two.
+    SizeConflict,
+    /// Nothing decides a port's type.
+    TypeOpen,
+    /// Nothing decides a port's size.
+    SizeOpen,
+    /// The kind doesn't take the type, or a parameter is outside it.
+    TypeNotHere,
+    /// A size, or a parameter's length, breaks the kind's shape.
+    ShapeRule,
+    /// An output has more than 256 elements, or all together more than 65,536.
+    SignalTooLarge,
+    /// Some activation source's dependencies close a cycle.
+    AlgebraicLoop,
+    /// The schedules have more than 262,144 entries and guards.
+    ScheduleTooLong,
+    /// The bytes are no program of the C subset.
+    NotC,
+    /// The input file is no list of lists of whole numbers, or has too few lists.
+    InputShape,
+    /// A sensor's value is outside its type.
+    InputRange,
+    /// A file passes its limit.
+    FileTooLong,
+    /// A form that this version doesn't build yet.
+    Unbuilt,
+}
+
+impl Rule {
+    ghost use Rattle.sci_base.specs.Rules.{number_of, name_of};
+
+    /// From 1 to 30.
+    pub fn number(self) -> u8
+        ensures { result ≡ number_of self }
+    {
+        match self {
+            Rule::NotJson => 1,
+            Rule::MissingField => 2,
+            Rule::WrongField => 3,
+            Rule::TooDeep => 4,
+            Rule::TooManyBlocks => 5,
+            Rule::TooManyLinks => 6,
+            Rule::UnknownBlock => 7,
+            Rule::BadParameter => 8,
+            Rule::PortShape => 9,
+            Rule::NotInteger => 10,
+            Rule::AlwaysActive => 11,
+            Rule::LinkEnd => 12,
+            Rule::InputTwice => 13,
+            Rule::SuperPorts => 14,
+            Rule::NoSource => 15,
+            Rule::ColumnTwice => 16,
+            Rule::TypeConflict => 17,
+            Rule::SizeConflict => 18,
+            Rule::TypeOpen => 19,
+            Rule::SizeOpen => 20,
+            Rule::TypeNotHere => 21,
+            Rule::ShapeRule => 22,
+            Rule::SignalTooLarge => 23,
+            Rule::AlgebraicLoop => 24,
+            Rule::ScheduleTooLong => 25,
+            Rule::NotC => 26,
+            Rule::InputShape => 27,
+            Rule::InputRange => 28,
+            Rule::FileTooLong => 29,
+            Rule::Unbuilt => 30,
+        }
+    }
+
+    /// The name as it is printed.
+    pub fn name(self) -> &'static str
+        ensures { result.now ≡ name_of self }
+    {
+        match self {
+            Rule::NotJson => "NotJson",
+            Rule::MissingField => "MissingField",
+            Rule::WrongField => "WrongField",
+            Rule::TooDeep => "TooDeep",
+            Rule::TooManyBlocks => "TooManyBlocks",
+            Rule::TooManyLinks => "TooManyLinks",
+            Rule::UnknownBlock => "UnknownBlock",
+            Rule::BadParameter => "BadParameter",
+            Rule::PortShape => "PortShape",
+            Rule::NotInteger => "NotInteger",
+            Rule::AlwaysActive => "AlwaysActive",
+            Rule::LinkEnd => "LinkEnd",
+            Rule::InputTwice => "InputTwice",
+            Rule::SuperPorts => "SuperPorts",
+            Rule::NoSource => "NoSource",
+            Rule::ColumnTwice => "ColumnTwice",
+            Rule::TypeConflict => "TypeConflict",
+            Rule::SizeConflict => "SizeConflict",
+            Rule::TypeOpen => "TypeOpen",
+            Rule::SizeOpen => "SizeOpen",
+            Rule::TypeNotHere => "TypeNotHere",
+            Rule::ShapeRule => "ShapeRule",
+            Rule::SignalTooLarge => "SignalTooLarge",
+            Rule::AlgebraicLoop => "AlgebraicLoop",
+            Rule::ScheduleTooLong => "ScheduleTooLong",
+            Rule::NotC => "NotC",
+            Rule::InputShape => "InputShape",
+            Rule::InputRange => "InputRange",
+            Rule::FileTooLong => "FileTooLong",
+            Rule::Unbuilt => "Unbuilt",
+        }
+    }
+}
+
+/// The place of an object: its positions in the lists of objects from the outermost diagram inward, counted from 1. The
+/// empty place is the diagram as a whole.
+#[derive(Drop)]
+pub struct Place {
+    pub path: SmallVec<u32, 8, Global>,
+}
+
+/// The first rule that is broken, where, and the numbers that tell how.
+#[derive(Drop)]
+pub struct Refusal {
+    pub rule: Rule,
+    pub place: Place,
+    pub detail: Vec<i64>,
+}
+
+impl Refusal {
+    ghost use Rattle.sci_base.specs.Plain.{violation_of, of_the_whole};
+
+    /// A refusal of the whole file, with no detail. It takes no memory.
+    pub fn of_the_whole(alloc: Global, rule: Rule) -> Refusal
+        ensures { violation_of result ≡ of_the_whole rule }
+    {
+        Refusal {
+            rule,
+            place: Place {
+                path: SmallVec::new(alloc),
+            },
+            detail: Vec::new(alloc),
+        }
+    }
+}
