@@ -1,0 +1,52 @@
+-- What a sink took of a text that was due on it.
+use Rattle.std.specs.Prelude.{ℕ, ◌≡◌, ◌≤◌, ◌++◌, List, [], ◌∷◌, Option, Some, None, Result, OnOk, OnErr}
+use Rattle.std.specs.Borrow.{Bor}
+use Rattle.sci_io.specs.Causes.{Rose}
+
+-- A sink as its caller sees it: the bytes that it gave on, where it tells them, those that it took and still holds, and how often it failed.
+pub record SinkState : Type 0 where
+  pub taken : Option (List ℕ)
+  pub held : List ℕ
+  pub faults : ℕ
+
+-- a sink that holds nothing back
+abbrev pub direct : Option (List ℕ) → ℕ → SinkState
+direct taken faults = record { taken = taken; held = []; faults = faults }
+
+-- a sink that holds bytes back behind those of another
+abbrev pub behind : SinkState → List ℕ → SinkState
+behind s bytes = record { taken = s.taken; held = s.held ++ bytes; faults = s.faults }
+
+-- the bytes taken, with the piece behind them
+abbrev pub followed : Option (List ℕ) → List ℕ → Option (List ℕ)
+followed None piece = None
+followed (Some bytes) piece = Some (bytes ++ piece)
+
+-- A front of what was due was given on, and the rest is due still.
+pub record Advances (old new : Option (List ℕ)) (due rest : List ℕ) : Type 0 where
+  pub front : List ℕ
+  pub split : due ≡ front ++ rest
+  pub taken : new ≡ followed old front
+
+-- A front of what was due was given on.
+abbrev pub TakesFront : Option (List ℕ) → Option (List ℕ) → List ℕ → Type 0
+TakesFront old new due = (rest : List ℕ) × Advances old new due rest
+
+-- A call that writes this text to a sink. What was held and the text behind it are due: after Ok a front of them was given on, the rest
+-- is held, and the faults are as before; after an Err a front of them was given on, and the faults rose.
+pub record Writes {T E : Type 0} (old new : SinkState) (text : List ℕ) (result : Result T E) : Type 0 where
+  pub ok : OnOk result (Advances old.taken new.taken (old.held ++ text) new.held)
+  pub quiet : OnOk result (new.faults ≡ old.faults)
+  pub cut : OnErr result (TakesFront old.taken new.taken (old.held ++ text))
+  pub cause : OnErr result (Rose old.faults new.faults)
+  pub later : old.faults ≤ new.faults
+
+-- pieces behind one another
+abbrev pub joined : List (Bor (List ℕ)) → List ℕ
+joined [] = []
+joined (p ∷ ps) = p.now ++ joined ps
+
+-- A text is being written: this rest of it is still to be handed to the sink, and nothing has failed.
+pub record UnderWay (old now : SinkState) (text rest : List ℕ) : Type 0 where
+  pub advances : Advances old.taken now.taken (old.held ++ text) (now.held ++ rest)
+  pub quiet : now.faults ≡ old.faults
