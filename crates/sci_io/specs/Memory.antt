@@ -1,14 +1,11 @@
 -- When a folder or a sink in memory fails: at the calls that it was told, counted from 1, at a name that it hasn't, and where the room is too small.
-use Rattle.std.specs.Prelude.{Some, ℕ, ◌+◌, ◌-◌, ◌^◌, ◌≡◌, List, length, map, Bool, ◌||◌, min, nat_eq, nat_lt, string_bytes, is_none}
+use Rattle.std.specs.Prelude.{Some, ℕ, ◌-◌, List, length, map, Bool, ◌||◌, nat_eq, nat_lt, string_bytes, is_none}
 use Rattle.std.specs.List.{list_any}
-use Rattle.sci_io.specs.Files.{file_named}
+use Rattle.sci_io.specs.Causes.{counted}
+use Rattle.sci_io.specs.Files.{file_named, FolderState, folder_state}
 use Rattle.sci_io.specs.Taken.{SinkState, direct}
 use Rattle.sci_io.specs.declared.memory_folder.MemFolder.{MemFolder}
 use Rattle.sci_io.specs.declared.memory_sink.MemSink.{MemSink}
-
--- a count with one more, which stays at its last value
-abbrev pub counted : ℕ → ℕ
-counted n = min (n + 1) (2 ^ 64 - 1)
 
 -- the call of this number is told to fail
 abbrev pub is_told : List ℕ → ℕ → Bool
@@ -24,8 +21,8 @@ sink_fails s size = is_told s.fails.items (counted s.calls) || nat_lt (s.room - 
 abbrev pub files_of : MemFolder → List (List ℕ × List ℕ)
 files_of f = map (λ e. (string_bytes e.0, e.1.items)) f.files.items
 
-abbrev pub asked_of : MemFolder → List (List ℕ)
-asked_of f = map string_bytes f.asked.items
+abbrev pub folder_of : MemFolder → FolderState
+folder_of f = folder_state (Some (files_of f)) (map string_bytes f.asked.items) f.faults
 
 -- the next call fails, for this name
 abbrev pub folder_fails : MemFolder → List ℕ → Bool

@@ -30,6 +30,13 @@ impl<S: Sink + Drop> BufferedSink<S> {
         }
     }
 
+    /// The sink behind the buffer.
+    pub fn behind(&self) -> &S
+        ensures { result.now ≡ self.now.sink }
+    {
+        &self.sink
+    }
+
     // Gives the buffer to the sink.
     fn give(&mut self) -> Result<(), Failed>
         ensures written { Writes (behind (S.state self.old.sink) self.old.buffer.items) (behind (S.state self.new.sink) self.new.buffer.items) [] result }

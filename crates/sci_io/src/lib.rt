@@ -1,6 +1,7 @@
 //! The outside of the program: folders that files are read from, and sinks that take bytes.
 #![tactic(auto)]
 
+mod asked;
 mod buffered;
 mod folder;
 mod memory_folder;
@@ -18,3 +19,6 @@ pub use pieces::put_all;
 pub use real::{RealFolder, RealSink};
 pub use sink::{Failed, Sink};
 pub use sure::SureSink;
+
+#[cfg(test)]
+mod tests;

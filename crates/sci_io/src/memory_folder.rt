@@ -1,8 +1,9 @@
-ghost use Rattle.std.specs.Prelude.{◌≡◌, ◌≤◌, ◌+◌, ◌⊎◌, ◌++◌, [], ◌∷◌, Some, None, map, option_map, take, length, true, false, string_bytes, IfOk, IfSome, IfNone, OnOk, OnErr, IsErrOf};
-ghost use Rattle.sci_io.specs.Causes.{Rose};
-ghost use Rattle.sci_io.specs.Files.{file_named, read_of};
-ghost use Rattle.sci_io.specs.Memory.{files_of, asked_of, folder_fails, counted};
+ghost use Rattle.std.specs.Prelude.{◌≡◌, ◌≤◌, [], Some, None, map, true, false, string_bytes, IfSome, IfNone, OnOk, IsErrOf};
+ghost use Rattle.sci_io.specs.Causes.{counted};
+ghost use Rattle.sci_io.specs.Files.{file_named, HasFront, Reads};
+ghost use Rattle.sci_io.specs.Memory.{files_of, folder_of, folder_fails};
 
+use crate::asked::remember;
 use crate::{Folder, ReadEnd};
 use std::alloc::Global;
 
@@ -67,9 +68,7 @@ fn find<'a>(files: &'a [(String, Vec<u8>)], name: &str) -> Option<&'a [u8]>
 // The first `limit + 1` bytes.
 fn front(alloc: Global, bytes: &[u8], limit: usize) -> Result<Vec<u8>, ReadEnd>
     requires { limit ≤ 67108864 }
-    ensures front { IfOk result (λ f. option_map (λ b. take (limit + 1) b) (Some bytes.now) ≡ Some f.items) }
-    ensures bound { IfOk result (λ f. length f.items ≤ limit + 1) }
-    ensures memory { OnErr result (IsErrOf result ReadEnd.Memory) }
+    ensures { HasFront bytes.now limit result }
 {
     let count = bytes.len().min(limit + 1);
     match bytes[..count].to_vec(alloc) {
@@ -79,24 +78,12 @@ fn front(alloc: Global, bytes: &[u8], limit: usize) -> Result<Vec<u8>, ReadEnd>
 }
 
 impl Folder for MemFolder {
-    ghost files = { λ f. Some (files_of f) };
-
-    ghost asked = { λ f. asked_of f };
-
-    ghost faults = { λ f. f.faults };
+    ghost state = { λ f. folder_of f };
 
     fn read(&mut self, alloc: Global, name: &str, limit: usize) -> Result<Vec<u8>, ReadEnd>
         requires { limit ≤ 67108864 }
-        ensures content { IfOk result (λ bytes. read_of (files_of self.old) name.now limit ≡ Some bytes.items) }
-        ensures bound { IfOk result (λ bytes. length bytes.items ≤ limit + 1) }
+        ensures read { Reads (folder_of self.old) (folder_of self.new) name.now limit result }
         ensures kept { files_of self.new ≡ files_of self.old }
-        ensures asked_ok { OnOk result (asked_of self.new ≡ asked_of self.old ++ name.now ∷ []) }
-        ensures asked_failed { IsErrOf result ReadEnd.Failed → asked_of self.new ≡ asked_of self.old ++ name.now ∷ [] }
-        ensures asked_memory { IsErrOf result ReadEnd.Memory → (asked_of self.new ≡ asked_of self.old) ⊎ (asked_of self.new ≡ asked_of self.old ++ name.now ∷ []) }
-        ensures ok { OnOk result (self.new.faults ≡ self.old.faults) }
-        ensures memory { IsErrOf result ReadEnd.Memory → self.new.faults ≡ self.old.faults }
-        ensures failed { IsErrOf result ReadEnd.Failed → Rose self.old.faults self.new.faults }
-        ensures later { self.old.faults ≤ self.new.faults }
         ensures no_cause { OnOk result (folder_fails self.old name.now ≡ false) }
         ensures cause { IsErrOf result ReadEnd.Failed → folder_fails self.old name.now ≡ true }
         ensures counted { IsErrOf result ReadEnd.Failed → self.new.faults ≡ counted self.old.faults }
@@ -104,10 +91,7 @@ impl Folder for MemFolder {
         ensures told { self.new.fails ≡ self.old.fails }
     {
         self.calls = self.calls.saturating_add(1);
-        let Ok(kept) = String::from_str(self.alloc, name) else {
-            return Err(ReadEnd::Memory);
-        };
-        if self.asked.push(kept).is_err() {
+        if remember(self.alloc, &mut self.asked, name).is_err() {
             return Err(ReadEnd::Memory);
         }
         let told = self.fails.contains(&self.calls);

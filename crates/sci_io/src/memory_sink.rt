@@ -58,7 +58,8 @@ impl MemSink {
 impl Sink for MemSink {
     ghost use Rattle.std.specs.Prelude.{◌≡◌, [], length, true, false, OnErr, OnOk};
     ghost use Rattle.sci_io.specs.Taken.{Writes};
-    ghost use Rattle.sci_io.specs.Memory.{state_of, sink_fails, counted};
+    ghost use Rattle.sci_io.specs.Causes.{counted};
+    ghost use Rattle.sci_io.specs.Memory.{state_of, sink_fails};
 
     ghost state = { λ s. state_of s };
 

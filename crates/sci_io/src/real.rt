@@ -1,13 +1,16 @@
-ghost use Rattle.std.specs.Prelude.{◌≤◌, ◌+◌, None, map, length, string_bytes, IfOk};
-ghost use Rattle.sci_io.specs.Taken.{direct};
+ghost use Rattle.std.specs.Prelude.{◌≡◌, ◌≤◌, ◌+◌, [], None, map, length, string_bytes, IfOk, OnOk, OnErr, IsErrOf};
+ghost use Rattle.sci_io.specs.Causes.{counted};
+ghost use Rattle.sci_io.specs.Files.{folder_state, Reads};
+ghost use Rattle.sci_io.specs.Taken.{direct, Writes};
 
+use crate::asked::remember;
 use crate::{Failed, Folder, ReadEnd, Sink};
 use std::alloc::Global;
 use std::fs;
 use std::io::{Read, Write};
 use std::rt::Files;
 
-/// The machine's files.
+/// The machine's files. It tells no content; each read that fails raises its faults by one.
 #[derive(Drop)]
 pub struct RealFolder<'r, R: Files> {
     rt: &'r R,
@@ -26,17 +29,15 @@ impl<'r, R: Files> RealFolder<'r, R> {
 }
 
 impl<'r, R: Files> Folder for RealFolder<'r, R> {
-    ghost files = { λ _. None };
+    ghost state = { λ f. folder_state None (map string_bytes f.asked.items) f.faults };
 
-    ghost asked = { λ f. map string_bytes f.asked.items };
-
-    ghost faults = { λ f. f.faults };
-
-    fn read(&mut self, alloc: Global, name: &str, limit: usize) -> Result<Vec<u8>, ReadEnd> {
-        let Ok(kept) = String::from_str(alloc, name) else {
-            return Err(ReadEnd::Memory);
-        };
-        if self.asked.push(kept).is_err() {
+    fn read(&mut self, alloc: Global, name: &str, limit: usize) -> Result<Vec<u8>, ReadEnd>
+        requires { limit ≤ 67108864 }
+        ensures read { Reads (folder_state None (map string_bytes self.old.asked.items) self.old.faults) (folder_state None (map string_bytes self.new.asked.items) self.new.faults) name.now limit result }
+        ensures kept { (folder_state None (map string_bytes self.new.asked.items) self.new.faults).files ≡ (folder_state None (map string_bytes self.old.asked.items) self.old.faults).files }
+        ensures counted { IsErrOf result ReadEnd.Failed → self.new.faults ≡ counted self.old.faults }
+    {
+        if remember(alloc, &mut self.asked, name).is_err() {
             return Err(ReadEnd::Memory);
         }
         let Ok(mut file) = fs::open(self.rt, name) else {
@@ -79,7 +80,7 @@ fn read_front<R: Read>(file: &mut R, alloc: Global, limit: usize) -> Result<Vec<
     Ok(bytes)
 }
 
-/// A standard stream.
+/// A standard stream. It tells no content and holds nothing back; each call that fails raises its faults by one.
 #[derive(Drop)]
 pub struct RealSink<W: Write + Drop> {
     writer: W,
@@ -95,7 +96,10 @@ impl<W: Write + Drop> RealSink<W> {
 impl<W: Write + Drop> Sink for RealSink<W> {
     ghost state = { λ s. direct None s.faults };
 
-    fn put(&mut self, piece: &[u8]) -> Result<(), Failed> {
+    fn put(&mut self, piece: &[u8]) -> Result<(), Failed>
+        ensures written { Writes (direct None self.old.faults) (direct None self.new.faults) piece.now result }
+        ensures counted { OnErr result (self.new.faults ≡ counted self.old.faults) }
+    {
         if write_whole(&mut self.writer, piece) {
             return Ok(());
         }
@@ -103,7 +107,11 @@ impl<W: Write + Drop> Sink for RealSink<W> {
         Err(Failed)
     }
 
-    fn flush(&mut self) -> Result<(), Failed> {
+    fn flush(&mut self) -> Result<(), Failed>
+        ensures written { Writes (direct None self.old.faults) (direct None self.new.faults) [] result }
+        ensures all { OnOk result ((direct None self.new.faults).held ≡ []) }
+        ensures counted { OnErr result (self.new.faults ≡ counted self.old.faults) }
+    {
         if self.writer.flush().is_ok() {
             return Ok(());
         }

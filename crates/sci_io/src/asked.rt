@@ -1,0 +1,17 @@
+ghost use Rattle.std.specs.Prelude.{◌≡◌, ◌++◌, ◌∷◌, [], map, string_bytes, OnOk, OnErr};
+
+use std::alloc::{AllocError, Global};
+
+/// Puts a name at the end of those that were asked for.
+pub fn remember(alloc: Global, asked: &mut Vec<String>, name: &str) -> Result<(), AllocError>
+    ensures added { OnOk result (map string_bytes asked.new.items ≡ map string_bytes asked.old.items ++ name.now ∷ []) }
+    ensures kept { OnErr result (map string_bytes asked.new.items ≡ map string_bytes asked.old.items) }
+{
+    let Ok(kept) = String::from_str(alloc, name) else {
+        return Err(AllocError);
+    };
+    if asked.push(kept).is_err() {
+        return Err(AllocError);
+    }
+    Ok(())
+}
