@@ -1,0 +1,4 @@
+pub mod TestLemmas
+pub mod Rings
+pub mod Tables
+pub mod Arrays
