@@ -1,0 +1,41 @@
+-- The pending events, which have their numbers and stand in no order, as the list of (date, source) in the order in which
+-- they fire.
+use Rattle.std.specs.Prelude.{◌≡◌, ℕ, ◌<◌, Bool, List, [], ◌∷◌, Option, Some, None, if◌then◌else◌, map}
+use Rattle.sci_net.specs.Pending.{Event, Pending, is_earlier, next, without, is_pending, programmed}
+use Rattle.sci_agenda.specs.Firing.{put_behind, is_pending as waits}
+
+-- before all that are later
+abbrev pub put_sorted : Event → List Event → List Event
+put_sorted e [] = e ∷ []
+put_sorted e (x ∷ xs) = if is_earlier e x then e ∷ x ∷ xs else x ∷ put_sorted e xs
+
+abbrev pub sorted : List Event → List Event
+sorted [] = []
+sorted (e ∷ es) = put_sorted e (sorted es)
+
+abbrev pub due : Event → ℕ × ℕ
+due e = (e.date, e.source)
+
+abbrev pub in_order : List Event → List (ℕ × ℕ)
+in_order es = map due (sorted es)
+
+-- the newest first: each number is less than the one before, and than n
+abbrev pub Falls : ℕ → List Event → Type 0
+Falls n [] = Unit {0}
+Falls n (e ∷ es) = (e.order < n) × Falls e.order es
+
+-- the events are numbered as they were programmed
+abbrev pub IsNumbered : Pending → Type 0
+IsNumbered p = Falls p.programmed p.events
+
+-- The pending events and their list in the order of firing stand for one another in each step.
+pub record FiringOrderLaw : Type 0 where
+  -- an event more goes behind all of the same or a lesser date
+  pub put : (p : Pending) (date source : ℕ) → IsNumbered p → in_order (programmed p date source).events ≡ put_behind (date, source) (in_order p.events)
+  pub put_numbered : (p : Pending) (date source : ℕ) → IsNumbered p → IsNumbered (programmed p date source)
+  -- the next event is the first, before the others
+  pub before_others : (n : ℕ) (es : List Event) (e : Event) → Falls n es → next es ≡ Some e → in_order es ≡ due e ∷ in_order (without e.order es)
+  pub nothing_due : (es : List Event) → next es ≡ None → in_order es ≡ []
+  pub others_numbered : (n order : ℕ) (es : List Event) → Falls n es → Falls n (without order es)
+  -- the same sources are pending
+  pub pending : (source : ℕ) (es : List Event) → waits source (in_order es) ≡ is_pending source es

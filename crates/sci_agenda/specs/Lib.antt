@@ -1,0 +1,4 @@
+pub mod Firing
+pub mod Chained
+pub mod Wheel
+pub mod FiringOrder
