@@ -1,0 +1,5 @@
+pub mod Targets
+pub mod Firing
+pub mod Ended
+pub mod Running
+pub mod Turns
