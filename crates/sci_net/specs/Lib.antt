@@ -1,0 +1,4 @@
+pub mod Timer
+pub mod Pending
+pub mod Run
+pub mod Rows
