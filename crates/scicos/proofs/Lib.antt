@@ -1,0 +1,6 @@
+mod Spoken
+mod Whole
+mod Giving
+mod Coming
+mod Causes
+mod OneAnswer

@@ -1,0 +1,14 @@
+use Rattle.std.proofs.Common.{rules, arith, ◌≤◌, length}
+use Rattle.scicos.proofs.Whole.{long_whole, short_whole}
+use Rattle.scicos.proofs.look.file.Goals as goal
+
+pub returns-then-len-gt-LONGEST-clause-file : goal.returns-then-len-gt-LONGEST-clause-file
+returns-then-len-gt-LONGEST-clause-file g c =
+    let r = c.in-Ok.ensures.read in
+    (long_whole (g.F.Folder.state c.args.folder.now).files c.args.name.now 16777216 c.in-Ok.bytes.items r.0 r.1 (omega (arith, c.len.ensures, c.if-len-gt-LONGEST.true, c.in-Ok.bytes.ok)), (r.2, r.3))
+
+pub returns-else-len-gt-LONGEST-clause-file : goal.returns-else-len-gt-LONGEST-clause-file
+returns-else-len-gt-LONGEST-clause-file g c =
+    let r = c.in-Ok.ensures.read in
+    let short : length c.in-Ok.bytes.items ≤ 16777216 = omega (arith, c.len.ensures, c.if-len-gt-LONGEST.false, c.in-Ok.bytes.ok) in
+    (short_whole (g.F.Folder.state c.args.folder.now).files c.args.name.now 16777216 c.in-Ok.bytes.items r.0 short, short, (r.2, r.3))

@@ -1,0 +1,10 @@
+pub mod Words
+pub mod Inputs
+pub mod Answer
+pub mod Due
+pub mod Reached
+pub mod Written
+pub mod Look
+pub mod Prepare
+pub mod Headline
+pub mod Laws

@@ -1,0 +1,36 @@
+-- The words of the command line.
+use Rattle.std.specs.Prelude.{ℕ, ◌≡◌, ◌≤◌, ◌^◌, List, [], ◌∷◌, Option, Some, None, codes, decimal}
+use Rattle.scicos.specs.declared.command.Command.{Command}
+use Rattle.scicos.specs.declared.command.Command.TheVariants.{Simulate}
+
+-- a command: to simulate the diagram of a file, with an input file, the last date and the most events
+pub data Asked : Type 0 where
+  simulate : List ℕ → List ℕ → ℕ → ℕ → Asked
+
+-- the words that spell a command; a number has its decimal digits alone
+abbrev pub spelled : Asked → List (List ℕ)
+spelled (simulate d i until limit) = codes "simulate" ∷ d ∷ i ∷ decimal until ∷ decimal limit ∷ []
+
+-- its numbers are in their bounds
+abbrev pub InBounds : Asked → Type 0
+InBounds (simulate d i until limit) = (until ≤ 2 ^ 62) × (limit ≤ 1000000)
+
+-- these words are this command
+abbrev pub Spells : List (List ℕ) → Asked → Type 0
+Spells words c = (words ≡ spelled c) × InBounds c
+
+-- these words are no command
+abbrev pub NoCommand : List (List ℕ) → Type 0
+NoCommand words = (c : Asked) → Spells words c → ⊥
+
+-- the files that a command names, in the order in which they are read
+abbrev pub files_of : Asked → List (List ℕ)
+files_of (simulate d i until limit) = d ∷ i ∷ []
+
+-- what the code's command asks for
+abbrev pub asked_by : Command → Asked
+asked_by (Simulate d i until limit) = simulate d.now i.now until limit
+
+abbrev pub Parses : List (List ℕ) → Option Command → Type 0
+Parses words None = NoCommand words
+Parses words (Some c) = Spells words (asked_by c)

@@ -1,0 +1,6 @@
+ghost use Rattle.scicos.specs.Laws.{OneAnswer};
+
+/// Where the files are told, one answer is due of the words, with one list of names that are read for it.
+pub fn one_answer_is_due()
+    ensures { OneAnswer }
+{}

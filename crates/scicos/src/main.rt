@@ -1,0 +1,38 @@
+//! Checks, simulates and compiles Scicos block diagrams in discrete time over integer signals.
+#![tactic(auto)]
+
+mod command;
+mod deliver;
+mod laws;
+mod look;
+mod prepare;
+#[cfg(test)]
+mod tests;
+mod top;
+mod words;
+
+use sci_io::{BufferedSink, RealFolder, RealSink, Sink};
+use std::env;
+use std::process::ExitCode;
+
+/// The room of the buffer before standard output, in bytes.
+const ROOM: usize = 65_536;
+
+fn main(rt: HostRuntime) -> ExitCode {
+    let alloc = rt.alloc();
+    let words = match env::args(&rt) {
+        Ok(args) => args.skip(1).collect::<Vec<String>>(alloc),
+        // A word that is no UTF-8 is no word of a command.
+        Err(_) => Ok(Vec::new(alloc)),
+    };
+    let mut err = RealSink::new(rt.stderr());
+    let (Ok(words), Ok(mut out)) = (
+        words,
+        BufferedSink::new(alloc, RealSink::new(rt.stdout()), ROOM),
+    ) else {
+        let _ = err.put("out of memory\n".as_bytes());
+        return ExitCode::from(5);
+    };
+    let mut folder = RealFolder::new(&rt, alloc);
+    ExitCode::from(top::top(alloc, &words, &mut folder, &mut out, &mut err))
+}
