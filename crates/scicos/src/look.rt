@@ -92,10 +92,7 @@ pub fn inputs<F: Folder>(alloc: Global, folder: &mut F, name: &str) -> Result<()
             if has_no_columns(&bytes) {
                 Ok(())
             } else {
-                Err(LookStop::Refused(Refusal::of_the_whole(
-                    alloc,
-                    Rule::Unbuilt,
-                )))
+                Err(LookStop::Refused(Refusal::of_the_whole(alloc, Rule::Unbuilt)))
             }
         }
         Err(FileStop::TooLong) => Err(file_too_long(alloc, 2)),

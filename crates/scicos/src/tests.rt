@@ -4,7 +4,8 @@ use std::alloc::Global;
 use std::test::Fail;
 
 // A clock of period 3 that fires first at 2.
-const CLOCK: &str = "{\"objs\":[{\"obj\":\"Block\",\"gui\":\"EVTDLY_c\",\"model\":{\"evtin\":1,\"evtout\":1,\"ipar\":3,\"firing\":2}},{\"obj\":\"Link\",\"from\":[1,1,0],\"to\":[1,1,1],\"ct\":[5,-1]}]}";
+const CLOCK: &str =
+    "{\"objs\":[{\"obj\":\"Block\",\"gui\":\"EVTDLY_c\",\"model\":{\"evtin\":1,\"evtout\":1,\"ipar\":3,\"firing\":2}},{\"obj\":\"Link\",\"from\":[1,1,0],\"to\":[1,1,1],\"ct\":[5,-1]}]}";
 
 #[derive(Drop)]
 struct Call {
@@ -27,8 +28,14 @@ fn run_line(
         words.push(String::from_str(alloc, word)?)?;
     }
     let mut files = Vec::new(alloc);
-    files.push((String::from_str(alloc, "d")?, diagram.as_bytes().to_vec(alloc)?))?;
-    files.push((String::from_str(alloc, "i")?, inputs.as_bytes().to_vec(alloc)?))?;
+    files.push((
+        String::from_str(alloc, "d")?,
+        diagram.as_bytes().to_vec(alloc)?,
+    ))?;
+    files.push((
+        String::from_str(alloc, "i")?,
+        inputs.as_bytes().to_vec(alloc)?,
+    ))?;
     let mut folder = MemFolder::new(alloc, files, Vec::new(alloc));
     let mut out = MemSink::new(alloc, fails, room)?;
     let mut err = MemSink::new(alloc, Vec::new(alloc), 200)?;
@@ -45,9 +52,19 @@ fn run_line(
 #[test]
 fn a_clock_runs(rt: HostRuntime) -> Result<(), Fail> {
     let alloc = rt.alloc();
-    let done = run_line(alloc, "simulate d i 8 10", CLOCK, "[]\n", Vec::new(alloc), 200)?;
+    let done = run_line(
+        alloc,
+        "simulate d i 8 10",
+        CLOCK,
+        "[]\n",
+        Vec::new(alloc),
+        200,
+    )?;
     assert_eq!(rt; done.status, 0);
-    assert_eq!(rt; done.out.taken(), "start\nevent 2 1 1\nevent 5 1 1\nevent 8 1 1\nend until\n".as_bytes());
+    assert_eq!(rt;
+        done.out.taken(),
+        "start\nevent 2 1 1\nevent 5 1 1\nevent 8 1 1\nend until\n".as_bytes()
+    );
     assert_eq!(rt; done.err.taken(), "".as_bytes());
     assert_eq!(rt; done.asked, 2);
     Ok(())
@@ -56,7 +73,14 @@ fn a_clock_runs(rt: HostRuntime) -> Result<(), Fail> {
 #[test]
 fn a_failed_write_is_told(rt: HostRuntime) -> Result<(), Fail> {
     let alloc = rt.alloc();
-    let failed = run_line(alloc, "simulate d i 8 10", CLOCK, "[]", Vec::from_array(alloc, [1])?, 200)?;
+    let failed = run_line(
+        alloc,
+        "simulate d i 8 10",
+        CLOCK,
+        "[]",
+        Vec::from_array(alloc, [1])?,
+        200,
+    )?;
     assert_eq!(rt; failed.status, 4);
     assert_eq!(rt; failed.out.taken(), "".as_bytes());
     assert_eq!(rt; failed.err.taken(), "write fault\n".as_bytes());
@@ -69,7 +93,14 @@ fn a_failed_write_is_told(rt: HostRuntime) -> Result<(), Fail> {
 #[test]
 fn what_is_no_run_is_told(rt: HostRuntime) -> Result<(), Fail> {
     let alloc = rt.alloc();
-    let unbuilt = run_line(alloc, "simulate d i 8 10", CLOCK, "[[1]]", Vec::new(alloc), 0)?;
+    let unbuilt = run_line(
+        alloc,
+        "simulate d i 8 10",
+        CLOCK,
+        "[[1]]",
+        Vec::new(alloc),
+        0,
+    )?;
     assert_eq!(rt; unbuilt.status, 1);
     assert_eq!(rt; unbuilt.err.taken(), "refused 30 Unbuilt at -\n".as_bytes());
     let missing = run_line(alloc, "simulate d j 8 10", CLOCK, "[]", Vec::new(alloc), 0)?;
