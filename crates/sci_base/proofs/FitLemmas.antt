@@ -1,12 +1,14 @@
-use Rattle.std.proofs.Common.{◌≡◌, ℕ, ◌^◌, ◌*◌, ◌+◌, ◌/◌, ◌<◌, ◌≤◌, ℤ, pos, negsuc, ◌+ℤ◌, ◌-ℤ◌, ◌*ℤ◌, ◌≤ℤ◌, ◌<ℤ◌, Bool, ◌&&◌, true, false, Option, Some, None, refl, arith, rules, sym, ap, ◌∙◌, FitsSigned, w64, to_z, of_z, lit<, subst, cond}
+use Rattle.std.proofs.Common.{◌≡◌, ℕ, zero, suc, ◌^◌, ◌*◌, ◌/◌, ◌<◌, ◌≤◌, ℤ, pos, negsuc, ◌+ℤ◌, ◌-ℤ◌, ◌*ℤ◌, ◌≤ℤ◌, ◌<ℤ◌, Bool, true, false, Some, refl, arith, sym, ap, ◌∙◌, FitsSigned, w64, lit<, subst, cond}
+use Rattle.std.proofs.Math.IntN.{suc_ℤ, suc_ℤ-*ℤ}
+use Rattle.std.proofs.Math.Nat.{zero-mul}
 use Rattle.std.specs.Prelude.{int_lt, int_le, unsigned_abs}
 use Rattle.std.specs.Int.{int_rem_euclid, w128}
-use Rattle.std.proofs.lemmas.Int.{ints, int_rem_euclid_is, to_z-of_z, fits_signed_mul}
+use Rattle.std.proofs.lemmas.Int.{ints, fits_signed_mul}
 use Rattle.sci_base.specs.declared.Mode.{Mode}
 use Rattle.sci_base.specs.declared.Mode.TheVariants.{Wrap, Saturate, Stop}
 use Rattle.sci_base.specs.declared.Ty.{Ty}
 use Rattle.sci_base.specs.declared.Ty.TheVariants.{I32, I16, I8, U32, U16, U8}
-use Rattle.sci_base.specs.Fit.{width, low, high, span, wrap, in_range, nearer_end, fit, fit_outside, InRange, WrapIsTheNumber}
+use Rattle.sci_base.specs.Fit.{width, low, high, span, wrap, in_range, fit, fit_outside, InRange, WrapLaw}
 
 -- the ends of the types, as bounds
 pub low_at_least : (t : Ty) → negsuc 2147483647 ≤ℤ low t
@@ -114,13 +116,67 @@ pub quotient_of : (z : ℤ) (n : ℕ) → 0 < n → (k : ℤ) × (z ≡ int_rem_
 quotient_of (pos a) n h = (pos (a / n), grind (arith, ints))
 quotient_of (negsuc a) n h = (negsuc (a / n), grind (arith, ints))
 
-pub wrap_is : WrapIsTheNumber
-wrap_is t v =
+pub span-pow : (t : Ty) → span t ≡ 2 ^ width t
+span-pow I32 = refl
+span-pow I16 = refl
+span-pow I8 = refl
+span-pow U32 = refl
+span-pow U16 = refl
+span-pow U8 = refl
+
+one_more : (a : ℤ) → suc_ℤ a ≡ a +ℤ pos 1
+one_more (pos n) = omega (arith, ints)
+one_more (negsuc zero) = omega (arith, ints)
+one_more (negsuc (suc n)) = omega (arith, ints)
+
+-- d more times n
+more_times : (a : ℤ) (d n : ℕ) → (a +ℤ pos d) *ℤ pos n ≡ (a *ℤ pos n) +ℤ pos (d * n)
+more_times a zero n =
+    let e : a +ℤ pos 0 ≡ a = omega (arith, ints) in
+    let z : pos (0 * n) ≡ pos 0 = ap pos (zero-mul n) in
+    rw (e, z) (omega (arith, ints))
+more_times a (suc d) n =
+    let e : a +ℤ pos (suc d) ≡ suc_ℤ (a +ℤ pos d) = omega (arith, ints, one_more (a +ℤ pos d)) in
+    let m = more_times a d n in
+    rw (e, suc_ℤ-*ℤ, m) (omega (arith, ints))
+
+-- two numbers of which one is the other and a multiple of n, less than n apart, are one
+apart_small : (q r x y : ℤ) (d n : ℕ) → y ≡ x +ℤ pos (d * n) → q +ℤ x ≡ r +ℤ y → q <ℤ (r +ℤ pos n) → q ≡ r
+apart_small q r x y zero n e h k = omega (arith, ints)
+apart_small q r x y (suc d) n e h k = absurd (omega (arith, ints))
+
+-- two numbers in range that differ by a multiple of the span are one
+only_one : (t : Ty) (v q r a b : ℤ) → InRange t q → InRange t r → v ≡ q +ℤ (a *ℤ pos (span t)) → v ≡ r +ℤ (b *ℤ pos (span t)) → q ≡ r
+only_one t v q r a b f g e d = by_difference (b -ℤ a) refl
+  where
+    near : (x y : ℤ) → InRange t x → InRange t y → x <ℤ (y +ℤ pos (span t))
+    near x y f g =
+        let s = low+span t in let top = f.below in let bottom = g.above in omega (arith, ints)
+
+    by_difference : (z : ℤ) → b -ℤ a ≡ z → q ≡ r
+    by_difference (pos k) h =
+        let m : b ≡ a +ℤ pos k = omega (arith, ints) in
+        let p : b *ℤ pos (span t) ≡ (a *ℤ pos (span t)) +ℤ pos (k * span t) = rw m (more_times a k (span t)) in
+        apart_small q r (a *ℤ pos (span t)) (b *ℤ pos (span t)) k (span t) p (sym e ∙ d) (near q r f g)
+    by_difference (negsuc k) h =
+        let m : a ≡ b +ℤ pos (suc k) = omega (arith, ints) in
+        let p : a *ℤ pos (span t) ≡ (b *ℤ pos (span t)) +ℤ pos (suc k * span t) = rw m (more_times b (suc k) (span t)) in
+        sym (apart_small r q (b *ℤ pos (span t)) (a *ℤ pos (span t)) (suc k) (span t) p (sym d ∙ e) (near r q g f))
+
+pub wrap_law : WrapLaw
+wrap_law t v =
     let q = quotient_of (v -ℤ low t) (span t) (span_pos t) in
-    record { in_range = wrap_bounds t v; times = q.0; differs = apart v (low t) _ _ q.1 }
+    let d : v ≡ wrap t v +ℤ (q.0 *ℤ pos (span t)) = apart v (low t) _ _ q.1 in
+    record {
+      is = record { in_range = wrap_bounds t v; times = q.0; differs = by_span _ _ _ _ (span-pow t) d };
+      only = λ r o. only_one t v r (wrap t v) o.times q.0 o.in_range (wrap_bounds t v) (by_span _ _ _ _ (sym (span-pow t)) o.differs) d;
+    }
   where
     apart : (v l r k : ℤ) → v -ℤ l ≡ r +ℤ k → v ≡ (l +ℤ r) +ℤ k
     apart v l r k h = omega (arith, ints)
+
+    by_span : (r k : ℤ) (m n : ℕ) → m ≡ n → v ≡ r +ℤ (k *ℤ pos m) → v ≡ r +ℤ (k *ℤ pos n)
+    by_span r k m n e h = rw (← e) h
 
 some_same : (a b : ℤ) → Some a ≡ Some b → a ≡ b
 some_same a b e = cc

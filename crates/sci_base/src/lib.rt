@@ -3,13 +3,15 @@
 #![tactic(auto)]
 
 ghost use Rattle.std.specs.Prelude.{◌≡◌, ◌^◌, ◌<◌, ◌≤ℤ◌, ◌<ℤ◌, ◌*ℤ◌, pos, negsuc, ℤ, IfSome};
-ghost use Rattle.sci_base.specs.Fit.{fit, in_range, low, high, width, span, ty_of_code, WrapIsTheNumber, IsNumberOfType};
+ghost use Rattle.sci_base.specs.Fit.{fit, in_range, low, high, width, span, ty_of_code, WrapLaw};
 
 pub mod bits;
 mod block;
 mod ints;
 mod observation;
 mod refusal;
+#[cfg(test)]
+mod tests;
 
 pub use block::BlockFields;
 pub use ints::Ints;
@@ -139,7 +141,7 @@ pub fn mul_fit(t: Ty, m: Mode, a: i64, b: i64) -> Option<i64>
     fit_wide(t, m, i128::from(a) * i128::from(b))
 }
 
-/// What Wrap gives is in range and differs by a multiple of the span.
-pub fn wrap_is_congruent()
-    ensures { WrapIsTheNumber }
+/// What `Mode::Wrap` gives is the one number in range that differs by a multiple of 2 to the width.
+pub fn wrap_law()
+    ensures { WrapLaw }
 {}

@@ -1,9 +1,9 @@
-use Rattle.std.proofs.Common.{rules, ◌≡◌, ◌^◌, ◌<◌, ◌≤ℤ◌, ◌<ℤ◌, ◌*ℤ◌, pos, negsuc, ℤ, ℕ, Some, ◌+ℤ◌, ◌-ℤ◌, FitsSigned, to_z, of_z, arith, ap, sym, ◌∙◌, w64}
-use Rattle.std.specs.Int.{int_rem_euclid, w128}
+use Rattle.std.proofs.Common.{◌≡◌, ◌≤ℤ◌, pos, Some, ◌+ℤ◌, ◌-ℤ◌, to_z, of_z, arith, ap, sym, ◌∙◌, w64}
+use Rattle.std.specs.Int.{w128}
 use Rattle.std.proofs.lemmas.Int.{ints, to_z-of_z}
 use Rattle.sci_base.specs.declared.Mode.TheVariants.{Wrap}
-use Rattle.sci_base.specs.Fit.{fit, low, high, width, span, wrap}
-use Rattle.sci_base.proofs.FitLemmas.{fit_inside, fit_below, fit_above, low_at_least, high_at_most, low+span, span_pos, wrap_bounds, wrap_fits, span_at_most}
+use Rattle.sci_base.specs.Fit.{low, high, span, wrap}
+use Rattle.sci_base.proofs.FitLemmas.{fit_inside, fit_below, fit_above, low_at_least, high_at_most, wrap_bounds, wrap_fits, span_at_most}
 use Rattle.sci_base.proofs.fit_wide.Goals as goal
 use Rattle.sci_base.proofs.fit_wide.Goals.{else-low-v-via-then-low-v+else-v-high, else-low-v-via-else-low-v}
 

@@ -1,0 +1,12 @@
+use Rattle.std.proofs.Common.{refl}
+use Rattle.sci_bank.specs.Bank.{Meaning, after_update}
+use Rattle.sci_bank.proofs.LibraryLemmas.{bank_changed, stays_full}
+use Rattle.sci_bank.proofs.library.Library.update.Goals as goal
+
+pub returns-clause-changed : goal.returns-clause-changed
+returns-clause-changed g c =
+    bank_changed _ (λ (b : Meaning). after_update b c.args.slot c.args.mask c.args.ins.now) _ _ _ _ _ c.place.ensures c.requires.known c.index_mut.ensures.value c.update.ensures
+
+pub returns-clause-full : goal.returns-clause-full
+returns-clause-full g c =
+    stays_full _ (λ (b : Meaning). after_update b c.args.slot c.args.mask c.args.ins.now) _ _ _ _ _ c.place.ensures c.requires.known c.index_mut.ensures.value c.update.ensures (λ b. refl)

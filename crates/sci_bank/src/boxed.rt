@@ -1,0 +1,44 @@
+// A box of a bank is a bank.
+use crate::{Bank, Fate};
+use sci_kinds::{Kind, Spec};
+use std::alloc::AllocError;
+
+impl Bank for Box<dyn Bank> {
+    ghost meaning = { λ b. (Bank-box b).meaning b.value };
+
+    fn kind(&self) -> Kind {
+        (**self).kind()
+    }
+
+    fn outs(&self) -> u64 {
+        (**self).outs()
+    }
+
+    fn reset(&mut self) {
+        (**self).reset()
+    }
+
+    fn add(&mut self, spec: &Spec) -> Result<usize, AllocError> {
+        (**self).add(spec)
+    }
+
+    fn out(&mut self, slot: usize, mask: u64, ins: &[i64], outs: &mut [i64]) -> Fate {
+        (**self).out(slot, mask, ins, outs)
+    }
+
+    fn branch(&self, slot: usize, ins: &[i64]) -> u32 {
+        (**self).branch(slot, ins)
+    }
+
+    fn delay(&self, slot: usize, port: u32, ins: &[i64]) -> i64 {
+        (**self).delay(slot, port, ins)
+    }
+
+    fn update(&mut self, slot: usize, mask: u64, ins: &[i64]) {
+        (**self).update(slot, mask, ins)
+    }
+
+    fn state_at(&self, slot: usize, i: usize) -> i64 {
+        (**self).state_at(slot, i)
+    }
+}

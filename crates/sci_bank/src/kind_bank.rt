@@ -1,0 +1,139 @@
+// A bank over the functions of one kind.
+ghost use Rattle.std.specs.Prelude.{◌≡◌, ℕ, ◌+◌, ◌<◌, true, List, [], length, IfOk, OnErr, slice_set};
+ghost use Rattle.sci_forms.specs.Ports.{total, Fills};
+ghost use Rattle.sci_kinds.specs.Asks.{IsState, IsMask, entering_of};
+ghost use Rattle.sci_kinds.specs.Table.{branch, delay, out, state_len, first_state, next};
+ghost use Rattle.sci_bank.specs.Bank.{Meaning, IsOfKind, Tells, Held, row_in, row_after_update};
+
+use crate::{Bank, Fate};
+use crate::rows::Row;
+use crate::rule::Rule;
+use sci_base::Ints;
+use sci_kinds::{Cell, Kind, Spec};
+use std::alloc::{AllocError, Global};
+use std::marker::Model;
+
+/// The blocks of the kind whose functions are `R`.
+#[derive(Drop)]
+pub struct KindBank<R: Rule> {
+    rule: R,
+    alloc: Global,
+    rows: Vec<Row>,
+    outs: u64,
+}
+
+impl<R: Rule> Model for KindBank<R> {
+    ghost use Rattle.sci_bank.specs.Bank.{Held, AreRows};
+
+    ghost Value = { Held };
+
+    ghost view = { λ b. record { rows = b.rows.items; outs = b.outs } };
+
+    ghost invariant = { λ b. AreRows R.kind b.rows.items };
+}
+
+impl<R: Rule> KindBank<R> {
+    /// A bank of this kind without instances.
+    pub fn new(alloc: Global) -> Self
+        ensures rows { result.rows ≡ [] }
+        ensures outs { result.outs ≡ 0 }
+    {
+        KindBank::of(alloc, R::rule())
+    }
+
+    /// A bank of this rule's kind without instances.
+    pub fn of(alloc: Global, rule: R) -> KindBank<R>
+        ensures rows { result.rows ≡ [] }
+        ensures outs { result.outs ≡ 0 }
+    {
+        KindBank {
+            rule,
+            alloc,
+            rows: Vec::new(alloc),
+            outs: 0,
+        }
+    }
+}
+
+/// Fills the outputs of one instance.
+fn fill<R: Rule>(rule: &R, spec: &Spec, state: &Ints, mask: u64, ins: &[i64], outs: &mut [i64]) -> Fate
+    requires typed { IsOfKind R.kind spec.now }
+    requires state { IsState spec.now state.now }
+    requires mask { IsMask spec.now mask }
+    requires ins { Fills (entering_of R.kind spec.now) ins.now }
+    requires room { length outs.old ≡ total spec.now.outs }
+    ensures answer { Tells (out spec.now state.now mask ins.now) result outs.new }
+    ensures in_range { Fills spec.now.outs outs.old → Fills spec.now.outs outs.new }
+{
+    for at in 0..outs.len() {
+        match rule.cell(spec, state, mask, ins, at) {
+            Cell::Value(v) => outs[at] = v,
+            Cell::Overflow => return Fate::Overflow,
+            Cell::Zero => return Fate::Zero,
+        }
+    }
+    Fate::Done
+}
+
+/// Steps the state of one instance.
+fn advance<R: Rule>(rule: &R, spec: &Spec, state: &mut Ints, mask: u64, ins: &[i64])
+    requires typed { IsOfKind R.kind spec.now }
+    requires state { IsState spec.now state.old }
+    requires mask { IsMask spec.now mask }
+    requires ins { Fills (entering_of R.kind spec.now) ins.now }
+    ensures { state.new ≡ next spec.now state.old mask ins.now }
+{
+    for at in 0..state.len() {
+        let v = rule.next(spec, state, mask, ins, at);
+        state.set(at, v);
+    }
+}
+
+impl<R: Rule> Bank for KindBank<R> {
+    ghost meaning = { λ b. record { kind = R.kind; rows = b.rows; outs = b.outs } };
+
+    fn kind(&self) -> Kind {
+        self.rule.kind()
+    }
+
+    fn outs(&self) -> u64 {
+        self.outs
+    }
+
+    fn reset(&mut self) {
+        self.rows.clear();
+        self.outs = 0;
+    }
+
+    fn add(&mut self, spec: &Spec) -> Result<usize, AllocError> {
+        let slot = self.rows.len();
+        let copy = spec.copy(self.alloc)?;
+        let state = Ints::spread(self.alloc, &spec.state, spec.state_len())?;
+        self.rows.push(Row { spec: copy, state })?;
+        Ok(slot)
+    }
+
+    fn out(&mut self, slot: usize, mask: u64, ins: &[i64], outs: &mut [i64]) -> Fate {
+        let row = &self.rows[slot];
+        let fate = fill(&self.rule, &row.spec, &row.state, mask, ins, outs);
+        self.outs = self.outs.saturating_add(1);
+        fate
+    }
+
+    fn branch(&self, slot: usize, ins: &[i64]) -> u32 {
+        self.rule.branch(&self.rows[slot].spec, ins)
+    }
+
+    fn delay(&self, slot: usize, port: u32, ins: &[i64]) -> i64 {
+        self.rule.delay(&self.rows[slot].spec, port, ins)
+    }
+
+    fn update(&mut self, slot: usize, mask: u64, ins: &[i64]) {
+        let row = &mut self.rows[slot];
+        advance(&self.rule, &row.spec, &mut row.state, mask, ins);
+    }
+
+    fn state_at(&self, slot: usize, i: usize) -> i64 {
+        self.rows[slot].state.get(i)
+    }
+}

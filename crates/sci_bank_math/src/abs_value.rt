@@ -1,0 +1,48 @@
+// ABS_VALUE: the magnitude of each element.
+ghost use Rattle.std.specs.Prelude.{refl, ◌≡◌};
+ghost use Rattle.sci_base.specs.Fit.{InRange};
+ghost use Rattle.sci_kinds.specs.Table.{abs_cell};
+ghost use Rattle.sci_forms.specs.declared.Kind.TheVariants.{AbsValue as AbsValueKind};
+
+use sci_bank::kind_bank::KindBank;
+use sci_bank::plain::{CellRule, Plain};
+use sci_bank::words::{cell_of, mode, only_input, out_type};
+use sci_base::{Mode, Ty, fit};
+use sci_kinds::{Cell, Kind, Spec};
+
+/// One element of the output.
+#[derive(Drop)]
+pub struct AbsValueRule;
+
+/// The bank of `AbsValue` blocks.
+pub type AbsValue = KindBank<Plain<AbsValueRule>>;
+
+/// The fitted magnitude of a number of the type.
+fn abs_cell(t: Ty, m: Mode, v: i64) -> Cell
+    requires { InRange t v }
+    ensures { result ≡ abs_cell t m v }
+{
+    if v < 0 { cell_of(fit(t, m, 0 - v)) } else { Cell::Value(v) }
+}
+
+impl CellRule for AbsValueRule {
+    ghost kind = { AbsValueKind };
+
+    fn rule() -> Self {
+        AbsValueRule
+    }
+
+    fn kind(&self) -> Kind {
+        Kind::AbsValue
+    }
+
+    fn cell(&self, spec: &Spec, _mask: u64, ins: &[i64], at: usize) -> Cell {
+        abs_cell(out_type(spec), mode(spec), only_input(spec, ins, at))
+    }
+
+    ghost no_state = { λ s. refl };
+
+    ghost no_branch = { refl };
+
+    ghost no_delay = { refl };
+}

@@ -1,0 +1,37 @@
+// DEMUX: the input cut in order.
+ghost use Rattle.std.specs.Prelude.{refl};
+ghost use Rattle.sci_forms.specs.declared.Kind.TheVariants.{Demux as DemuxKind};
+
+use sci_bank::kind_bank::KindBank;
+use sci_bank::plain::{CellRule, Plain};
+use sci_bank::words::{element};
+use sci_kinds::{Cell, Kind, Spec};
+
+/// One element of the output.
+#[derive(Drop)]
+pub struct DemuxRule;
+
+/// The bank of `Demux` blocks.
+pub type Demux = KindBank<Plain<DemuxRule>>;
+
+impl CellRule for DemuxRule {
+    ghost kind = { DemuxKind };
+
+    fn rule() -> Self {
+        DemuxRule
+    }
+
+    fn kind(&self) -> Kind {
+        Kind::Demux
+    }
+
+    fn cell(&self, _spec: &Spec, _mask: u64, ins: &[i64], at: usize) -> Cell {
+        Cell::Value(element(ins, at))
+    }
+
+    ghost no_state = { λ s. refl };
+
+    ghost no_branch = { refl };
+
+    ghost no_delay = { refl };
+}

@@ -1,0 +1,37 @@
+// MUX: the inputs one below the other.
+ghost use Rattle.std.specs.Prelude.{refl};
+ghost use Rattle.sci_forms.specs.declared.Kind.TheVariants.{Mux as MuxKind};
+
+use sci_bank::kind_bank::KindBank;
+use sci_bank::plain::{CellRule, Plain};
+use sci_bank::words::{element};
+use sci_kinds::{Cell, Kind, Spec};
+
+/// One element of the output.
+#[derive(Drop)]
+pub struct MuxRule;
+
+/// The bank of `Mux` blocks.
+pub type Mux = KindBank<Plain<MuxRule>>;
+
+impl CellRule for MuxRule {
+    ghost kind = { MuxKind };
+
+    fn rule() -> Self {
+        MuxRule
+    }
+
+    fn kind(&self) -> Kind {
+        Kind::Mux
+    }
+
+    fn cell(&self, _spec: &Spec, _mask: u64, ins: &[i64], at: usize) -> Cell {
+        Cell::Value(element(ins, at))
+    }
+
+    ghost no_state = { λ s. refl };
+
+    ghost no_branch = { refl };
+
+    ghost no_delay = { refl };
+}

@@ -1,0 +1,44 @@
+// PRODUCT: two inputs multiplied, or the first over the second rounded toward zero.
+ghost use Rattle.std.specs.Prelude.{refl};
+ghost use Rattle.sci_forms.specs.declared.Kind.TheVariants.{Product as ProductKind};
+
+use sci_bank::kind_bank::KindBank;
+use sci_bank::plain::{CellRule, Plain};
+use sci_bank::words::{alike_input, div_cell, mode, mul_cell, out_type, param};
+use sci_forms::values::is_equal;
+use sci_kinds::{Cell, Kind, Spec};
+
+/// One element of the output.
+#[derive(Drop)]
+pub struct ProductRule;
+
+/// The bank of `Product` blocks.
+pub type Product = KindBank<Plain<ProductRule>>;
+
+impl CellRule for ProductRule {
+    ghost kind = { ProductKind };
+
+    fn rule() -> Self {
+        ProductRule
+    }
+
+    fn kind(&self) -> Kind {
+        Kind::Product
+    }
+
+    fn cell(&self, spec: &Spec, _mask: u64, ins: &[i64], at: usize) -> Cell {
+        let a = alike_input(spec, ins, 0, at);
+        let b = alike_input(spec, ins, 1, at);
+        if is_equal(param(spec, 1), 1) {
+            mul_cell(out_type(spec), mode(spec), a, b)
+        } else {
+            div_cell(out_type(spec), mode(spec), a, b)
+        }
+    }
+
+    ghost no_state = { λ s. refl };
+
+    ghost no_branch = { refl };
+
+    ghost no_delay = { refl };
+}

@@ -1,0 +1,2 @@
+pub mod FirstNot
+pub mod TestLemmas

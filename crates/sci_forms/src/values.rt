@@ -1,0 +1,207 @@
+//! The tests of a block's parameters and state, each by one column of the table of forms.
+ghost use Rattle.std.specs.Prelude.{◌≡◌, ◌<◌, ◌≤◌, ◌^◌, ◌*◌, length, ℕ, IfSome, true, not, ◌||◌};
+ghost use Rattle.sci_base.specs.Lists.{at};
+ghost use Rattle.sci_base.specs.Fit.{int_eq};
+ghost use Rattle.sci_forms.specs.declared.Kind.TheVariants.{Logic as LogicKind, ModuloCount as CountKind};
+ghost use Rattle.sci_forms.specs.Forms.{has_delay, between, is_mode, is_flag, is_sign, is_operation, params_len_ok, param_ok, state_len_ok, state_ok, firing_ok, within, first_not};
+
+use crate::Kind;
+
+pub fn between(low: i64, high: i64, v: i64) -> bool
+    ensures { result ≡ between low high v }
+{
+    low <= v && v <= high
+}
+
+pub fn within(least: usize, most: usize, n: usize) -> bool
+    ensures { result ≡ within least most n }
+{
+    least <= n && n <= most
+}
+
+fn is_sign(v: i64) -> bool
+    ensures { result ≡ is_sign v }
+{
+    is_equal(v, 1) || is_equal(v, -1)
+}
+
+pub fn is_equal(v: i64, w: i64) -> bool
+    ensures { result ≡ int_eq v w }
+{
+    v <= w && w <= v
+}
+
+fn is_operation(n: usize, v: i64) -> bool
+    ensures { result ≡ is_operation n v }
+{
+    if n == 1 {
+        is_equal(v, 5)
+    } else {
+        between(0, 4, v)
+    }
+}
+
+fn two_to(n: usize) -> usize
+    requires { n ≤ 8 }
+    ensures { result ≡ 2 ^ n }
+{
+    match n {
+        0 => 1,
+        1 => 2,
+        2 => 4,
+        3 => 8,
+        4 => 16,
+        5 => 32,
+        6 => 64,
+        7 => 128,
+        _ => 256,
+    }
+}
+
+fn table_len(n: usize, m: usize) -> usize
+    requires ins { n ≤ 8 }
+    requires outs { m ≤ 8 }
+    ensures { result ≡ 2 ^ n * m }
+{
+    two_to(n) * m
+}
+
+/// The number of parameters.
+pub fn params_len_ok(kind: Kind, n: usize, m: usize, len: usize) -> bool
+    requires few { n < 2 ^ 32 }
+    requires ins { kind ≡ LogicKind → n ≤ 8 }
+    requires outs { kind ≡ LogicKind → m ≤ 8 }
+    ensures { result ≡ params_len_ok kind n m len }
+{
+    match kind {
+        Kind::Const => 1 <= len,
+        Kind::Summation => len == n + 1,
+        Kind::GainBlk
+        | Kind::Product
+        | Kind::Saturation
+        | Kind::LogicalOp
+        | Kind::Shift
+        | Kind::ExtractBits
+        | Kind::Switch2 => len == 2,
+        Kind::AbsValue
+        | Kind::MaxMin
+        | Kind::Convert
+        | Kind::RelationalOp
+        | Kind::BitSet
+        | Kind::BitClear
+        | Kind::ModuloCount
+        | Kind::Sensor
+        | Kind::EvtDly => len == 1,
+        Kind::DeadBand => len == 3,
+        Kind::Extractor => 1 <= len && len <= 256,
+        Kind::Logic => len == table_len(n, m),
+        _ => len == 0,
+    }
+}
+
+/// Parameter `k`.
+pub fn param_ok(kind: Kind, n: usize, ps: &[i64], k: usize) -> bool
+    requires { k < length ps.now }
+    ensures { result ≡ param_ok kind n ps.now k }
+{
+    let v = ps[k];
+    match kind {
+        Kind::Summation | Kind::Product => if k == 0 { between(0, 2, v) } else { is_sign(v) },
+        Kind::GainBlk => if k == 0 { between(0, 2, v) } else { true },
+        Kind::AbsValue | Kind::Convert => between(0, 2, v),
+        Kind::MaxMin => between(1, 2, v),
+        Kind::Saturation => if k == 1 { ps[0] <= v } else { true },
+        Kind::DeadBand => {
+            if k == 0 {
+                between(0, 2, v)
+            } else if k == 2 {
+                ps[1] <= v
+            } else {
+                true
+            }
+        }
+        Kind::Extractor => 1 <= v,
+        Kind::LogicalOp => if k == 0 {
+            is_operation(n, v)
+        } else {
+            between(0, 1, v)
+        },
+        Kind::RelationalOp => between(0, 5, v),
+        Kind::Shift => if k == 0 {
+            between(-31, 31, v)
+        } else {
+            between(0, 1, v)
+        },
+        Kind::BitSet | Kind::BitClear => between(0, 31, v),
+        Kind::ExtractBits => {
+            if k == 0 {
+                between(0, 31, v)
+            } else {
+                between(0, 31, v) && ps[0] <= v
+            }
+        }
+        Kind::Switch2 => if k == 0 {
+            between(0, 2, v)
+        } else {
+            between(-2147483648, 4294967295, v)
+        },
+        Kind::Logic => between(0, 1, v),
+        Kind::ModuloCount => between(1, 2147483647, v),
+        Kind::Sensor => between(1, 255, v),
+        Kind::EvtDly => between(-1, 2147483647, v),
+        _ => true,
+    }
+}
+
+/// The number of values of the state.
+pub fn state_len_ok(kind: Kind, len: usize) -> bool
+    ensures { result ≡ state_len_ok kind len }
+{
+    match kind {
+        Kind::Dollar | Kind::GatedDelay => 1 <= len,
+        Kind::Register => 1 <= len && len <= 256,
+        Kind::ModuloCount => len == 1,
+        _ => true,
+    }
+}
+
+/// Value `k` of the state.
+pub fn state_ok(kind: Kind, ps: &[i64], xs: &[i64], k: usize) -> bool
+    requires at { k < length xs.now }
+    requires base { kind ≡ CountKind → 0 < length ps.now }
+    ensures { result ≡ state_ok kind ps.now xs.now k }
+{
+    match kind {
+        Kind::ModuloCount => 0 <= xs[k] && xs[k] < ps[0],
+        _ => true,
+    }
+}
+
+/// The first parameter that isn't as it should be.
+#[tactic(auto, using(crate::proofs::FirstNot::found, crate::proofs::FirstNot::passed))]
+pub fn first_param(kind: Kind, n: usize, ps: &[i64]) -> Option<usize>
+    ensures first { result ≡ first_not (param_ok kind n ps.now) (length ps.now) }
+    ensures within { IfSome result (λ k. k < length ps.now) }
+{
+    for k in 0..ps.len() {
+        if !param_ok(kind, n, ps, k) {
+            return Some(k);
+        }
+    }
+    None
+}
+
+/// The first value of the state that isn't as it should be.
+#[tactic(auto, using(crate::proofs::FirstNot::found, crate::proofs::FirstNot::passed))]
+pub fn first_state(kind: Kind, ps: &[i64], xs: &[i64]) -> Option<usize>
+    requires { kind ≡ CountKind → 0 < length ps.now }
+    ensures first { result ≡ first_not (state_ok kind ps.now xs.now) (length xs.now) }
+    ensures within { IfSome result (λ k. k < length xs.now) }
+{
+    for k in 0..xs.len() {
+        if !state_ok(kind, ps, xs, k) {
+            return Some(k);
+        }
+    }
+    None
+}

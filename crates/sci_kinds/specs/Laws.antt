@@ -1,0 +1,37 @@
+use Rattle.std.specs.Prelude.{◌≡◌, ◌≢◌, ℕ, ◌<◌, ◌≤◌, ℤ, pos, negsuc, ◌≤ℤ◌, List, length, false, true}
+use Rattle.sci_forms.specs.declared.Kind.TheVariants.{Sensor}
+use Rattle.sci_forms.specs.declared.spec.Spec.{Spec}
+use Rattle.sci_forms.specs.Ports.{Fills}
+use Rattle.sci_kinds.specs.Table.{Values, out, next, delay, branch, first_state, first_held}
+use Rattle.sci_forms.specs.Forms.{needs, is_sync}
+use Rattle.sci_forms.specs.Typed.{typed}
+use Rattle.sci_kinds.specs.Asks.{IsState, IsMask, entering, SameBut}
+
+-- without feedthrough the outputs are the same for all inputs
+abbrev pub NoFeedthroughLaw : Type 0
+NoFeedthroughLaw =
+    (s : Spec) (x : List ℤ) (m : ℕ) (u v : List ℤ) → typed s ≡ true → s.kind ≢ Sensor → s.feed ≡ false → out s x m u ≡ out s x m v
+
+-- where the kind doesn't need input k, the outputs and the branch are the same for all values of input k
+abbrev pub FreeInputLaw : Type 0
+FreeInputLaw =
+    (s : Spec) (x : List ℤ) (m k : ℕ) (u v : List ℤ) → typed s ≡ true → k < length s.ins → needs s.kind k ≡ false → SameBut s k u v
+    → (out s x m u ≡ out s x m v) × (branch s u ≡ branch s v)
+
+-- values in range give values in range
+abbrev pub RangeLaw : Type 0
+RangeLaw =
+    (s : Spec) (x : List ℤ) (m : ℕ) (u : List ℤ) → typed s ≡ true → IsState s x → IsMask s m → Fills (entering s) u
+    → ((vs : List ℤ) → out s x m u ≡ Values vs → Fills s.outs vs) × IsState s (next s x m u)
+
+-- the first state and the first held outputs are in range
+abbrev pub FirstHeldLaw : Type 0
+FirstHeldLaw = (s : Spec) → typed s ≡ true → IsState s (first_state s) × Fills s.outs (first_held s)
+
+-- a delay is from -1 to 2^31 - 1
+abbrev pub DelayLaw : Type 0
+DelayLaw = (s : Spec) (p : ℕ) (u : List ℤ) → typed s ≡ true → (negsuc 0 ≤ℤ delay s p u) × (delay s p u ≤ℤ pos 2147483647)
+
+-- a branch is from 1 to the number of activation outputs
+abbrev pub BranchLaw : Type 0
+BranchLaw = (s : Spec) (u : List ℤ) → typed s ≡ true → is_sync s.kind ≡ true → (1 ≤ branch s u) × (branch s u ≤ s.evtout)

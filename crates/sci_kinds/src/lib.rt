@@ -1,0 +1,49 @@
+//! What each kind of block means: the values of its outputs, its next state, its delays and branches, as one table, and the laws
+//! that the table keeps. With it come the kinds' forms and specs, and the check of a block.
+#![tactic(auto)]
+
+ghost use Rattle.sci_kinds.specs.Laws.{NoFeedthroughLaw, FreeInputLaw, RangeLaw, FirstHeldLaw, DelayLaw, BranchLaw};
+
+pub use sci_check::{SpecStop, check_spec};
+pub use sci_forms::{Broken, Counts, Detail, Kind, Port, Ports, Spec};
+
+/// What one element of an output is.
+#[derive(Clone, Copy, Debug, Drop, PartialEq, Eq)]
+pub enum Cell {
+    /// A value in range of the output's type.
+    Value(i64),
+    /// The exact value is out of range, and the block's mode is to stop.
+    Overflow,
+    /// The divisor is 0.
+    Zero,
+}
+
+/// Where a typed spec has no feedthrough, its outputs are the same for all inputs, the value of a sensor's column aside.
+pub fn no_feedthrough_law()
+    ensures { NoFeedthroughLaw }
+{}
+
+/// Where the kind doesn't need an input, the outputs and the branch are the same for all values of this input.
+pub fn free_input_law()
+    ensures { FreeInputLaw }
+{}
+
+/// With inputs, state and mask in range the values of the outputs and of the next state are in range.
+pub fn range_law()
+    ensures { RangeLaw }
+{}
+
+/// The first state and the outputs before the first activation are in range.
+pub fn first_held_law()
+    ensures { FirstHeldLaw }
+{}
+
+/// A delay is from -1 to 2^31 - 1 ticks.
+pub fn delay_law()
+    ensures { DelayLaw }
+{}
+
+/// A branch is from 1 to the number of activation outputs.
+pub fn branch_law()
+    ensures { BranchLaw }
+{}
