@@ -1,14 +1,14 @@
 -- The run over the list in the order of firing is the run over what is pending.
-use Rattle.std.proofs.Common.{◌≡◌, ◌<◌, ◌≤◌, ◌+◌, nat_lt, ℕ, zero, suc, ℤ, pos, negsuc, Bool, true, false, List, [], ◌∷◌, ◌++◌, Option, Some, None, Result, Ok, Err, if◌then◌else◌, refl, sym, ◌∙◌, ap, subst, arith}
+use Rattle.std.proofs.Common.{◌≡◌, ◌+◌, nat_lt, ℕ, zero, suc, ℤ, pos, negsuc, Bool, true, false, List, [], ◌∷◌, ◌++◌, Option, Some, None, Result, Ok, Err, if◌then◌else◌, refl, sym, ◌∙◌, ap, subst}
 use Rattle.sci_base.specs.declared.observation.Obs.{Obs}
 use Rattle.sci_base.specs.declared.observation.Obs.TheVariants.{Start, End, Stop}
-use Rattle.sci_base.specs.declared.observation.EndWord.TheVariants.{Events, Empty, Until}
+use Rattle.sci_base.specs.declared.observation.EndWord.TheVariants.{Empty, Until}
 use Rattle.sci_base.specs.declared.observation.StopWord.TheVariants.{Conflict}
 use Rattle.sci_net.specs.Timer.{EventDelay, is_fed}
 use Rattle.sci_net.specs.Pending.{Event, Pending, next, without, is_pending, programmed}
 use Rattle.sci_net.specs.Run.{first_event, first_events, at_start, program, then_programs, programs, Turn, ends, fires, reacts, turn_at, turn, then_goes, run, trace}
-use Rattle.sci_agenda.specs.Firing.{put_behind, is_pending as waits}
-use Rattle.sci_agenda.specs.FiringOrder.{in_order, due, IsNumbered, FiringOrderLaw}
+use Rattle.sci_agenda.specs.Firing.{put_behind}
+use Rattle.sci_agenda.specs.FiringOrder.{in_order, IsNumbered}
 use Rattle.sci_agenda.proofs.InOrder.{firing_order}
 use Rattle.sci_sim.specs.declared.targets.Target.{Target}
 use Rattle.sci_sim.specs.Targets.{target_of, targets_from}

@@ -1,10 +1,9 @@
 -- What waits after events were programmed.
-use Rattle.std.proofs.Common.{◌≡◌, ◌≢◌, ◌<◌, ◌≤◌, ◌+◌, ◌==◌, ◌||◌, nat_lt, ℕ, zero, suc, ℤ, pos, negsuc, Bool, true, false, List, [], ◌∷◌, length, map, get_or, drop, All, Result, Ok, Err, refl, sym, ◌∙◌, ap, subst, arith, add-one, if◌then◌else◌}
+use Rattle.std.proofs.Common.{◌≡◌, ◌<◌, ◌+◌, ◌==◌, ◌||◌, nat_lt, ℕ, suc, ℤ, pos, negsuc, Bool, true, false, List, [], ◌∷◌, length, get_or, drop, Err, refl, sym, ◌∙◌, ap, arith, add-one, if◌then◌else◌}
 use Rattle.std.proofs.Math.Seq.{drop-cons}
-use Rattle.sci_net.specs.Timer.{EventDelay}
 use Rattle.sci_agenda.specs.Firing.{Meaning, put_behind, is_pending}
 use Rattle.sci_sim.specs.declared.targets.Target.{Target}
-use Rattle.sci_sim.specs.Firing.{program_due, due_first, first_due}
+use Rattle.sci_sim.specs.Firing.{program_due, due_first}
 use Rattle.sci_sim.proofs.Cases.{by_cases, differ}
 
 -- a target that isn't pending is programmed, and the others go on

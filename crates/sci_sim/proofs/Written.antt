@@ -1,5 +1,5 @@
 -- What a step wrote, with another answer.
-use Rattle.std.proofs.Common.{◌≡◌, ℕ, List, [], ◌∷◌, Option, Some, None, Result, Ok, Err, refl, sym, ◌∙◌, ap, subst}
+use Rattle.std.proofs.Common.{◌≡◌, ℕ, List, [], ◌∷◌, Some, Result, Ok, Err, sym, ap, subst}
 use Rattle.sci_io.specs.Taken.{SinkState, Writes}
 use Rattle.sci_agenda.specs.Firing.{first_date}
 

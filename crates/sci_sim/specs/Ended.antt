@@ -1,5 +1,5 @@
 -- How a run ended, by its last observation.
-use Rattle.std.specs.Prelude.{List, [], ◌∷◌, ℤ, Option, Some, None, Bool, true, false}
+use Rattle.std.specs.Prelude.{List, [], ◌∷◌, Option, Some, None, Bool, true, false}
 use Rattle.sci_base.specs.declared.observation.Obs.{Obs}
 use Rattle.sci_base.specs.declared.observation.Obs.TheVariants.{Start, Event, Val, End, Stop}
 use Rattle.sci_trace.specs.Lines.{last_after}

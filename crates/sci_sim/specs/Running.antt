@@ -1,5 +1,5 @@
 -- A net that is ready to run, or whose run is under way.
-use Rattle.std.specs.Prelude.{◌≡◌, ℕ, ◌+◌, List, length}
+use Rattle.std.specs.Prelude.{◌≡◌, List, length}
 use Rattle.sci_net.specs.Timer.{EventDelay, IsNet}
 use Rattle.sci_net.specs.Run.{at_start}
 use Rattle.sci_agenda.specs.Firing.{Meaning}

@@ -1,4 +1,4 @@
-use Rattle.std.proofs.Common.{◌++◌, [], ◌∷◌, List, ℕ, sym, ◌∙◌, ap, Result, Ok, Err, rules, pos}
+use Rattle.std.proofs.Common.{◌++◌, [], sym, ◌∙◌, ap, rules, pos}
 use Rattle.std.proofs.lemmas.List.{append-nil}
 use Rattle.sci_base.specs.declared.observation.Obs.TheVariants.{Stop}
 use Rattle.sci_base.specs.declared.observation.StopWord.TheVariants.{Conflict}

@@ -1,5 +1,4 @@
-use Rattle.std.proofs.Common.{◌≡◌, ◌∷◌, [], ◌++◌, List, ℕ, Some, Result, sym, ◌∙◌, ap, subst, rules}
-use Rattle.std.specs.Prelude.{IfOk}
+use Rattle.std.proofs.Common.{◌≡◌, ◌∷◌, [], List, ℕ, Some, sym, ◌∙◌, ap, subst, rules}
 use Rattle.sci_base.specs.declared.observation.Obs.{Obs}
 use Rattle.sci_base.specs.declared.observation.Obs.TheVariants.{Start}
 use Rattle.sci_io.specs.Taken.{Writes}

@@ -1,13 +1,11 @@
-use Rattle.std.proofs.Common.{◌≡◌, ◌+◌, ◌<◌, [], ◌∷◌, List, ℕ, All, length, sym, ◌∙◌, ap, subst, arith, Result, OnOk, IfErr, Ok, Err}
-use Rattle.sci_base.specs.declared.observation.Obs.{Obs}
-use Rattle.sci_base.specs.declared.observation.Obs.TheVariants.{End}
+use Rattle.std.proofs.Common.{◌≡◌, ◌<◌, List, ℕ, All, length, sym, ◌∙◌, ap, subst, arith}
 use Rattle.sci_io.specs.Taken.{Writes}
 use Rattle.sci_io.proofs.Advance.{same_text}
 use Rattle.sci_trace.specs.Lines.{text}
-use Rattle.sci_net.specs.Run.{Turn, ends, reacts}
+use Rattle.sci_net.specs.Run.{Turn, reacts}
 use Rattle.sci_agenda.specs.Firing.{IsPort}
 use Rattle.sci_sim.specs.declared.targets.Target.{Target}
-use Rattle.sci_sim.specs.Targets.{row, targets_from}
+use Rattle.sci_sim.specs.Targets.{targets_from}
 use Rattle.sci_sim.specs.Firing.{turn_due, program_due}
 use Rattle.sci_sim.specs.Running.{Running}
 use Rattle.sci_sim.proofs.Tables.{row_ports, row_delays}

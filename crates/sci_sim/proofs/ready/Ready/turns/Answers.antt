@@ -1,11 +1,11 @@
-use Rattle.std.proofs.Common.{◌≡◌, ◌+◌, List, ℕ, Option, Some, None, Result, sym, ◌∙◌, subst, rules}
+use Rattle.std.proofs.Common.{List, Option, ◌∙◌, subst, rules}
 use Rattle.sci_io.specs.Taken.{Writes}
 use Rattle.sci_net.specs.Timer.{EventDelay}
 use Rattle.sci_trace.specs.Lines.{text}
 use Rattle.sci_sim.specs.declared.ready.RunEnd.{RunEnd}
 use Rattle.sci_sim.specs.Firing.{turn_due}
 use Rattle.sci_sim.specs.Turns.{TurnIs}
-use Rattle.sci_sim.proofs.Runs.{turn_goes, turn_ends, turn_ended, turn_cut, limit_ends, limit_ended, limit_cut}
+use Rattle.sci_sim.proofs.Runs.{turn_goes, turn_ends, turn_ended, turn_cut, limit_ends, limit_cut}
 use Rattle.sci_sim.proofs.ready.Ready.turns.Goals as goal
 
 pub returns-in_err-turn-clause-written : goal.returns-in_err-turn-clause-written

@@ -1,7 +1,6 @@
-use Rattle.std.proofs.Common.{◌≡◌, ◌++◌, ◌∷◌, [], ◌+◌, List, drop, get_or, set, sym, subst}
+use Rattle.std.proofs.Common.{◌+◌, List, drop, sym, subst}
 use Rattle.sci_sim.specs.declared.targets.Target.{Target}
-use Rattle.sci_sim.specs.Targets.{row}
-use Rattle.sci_sim.proofs.Turning.{Adding, adding_more, adding_all}
+use Rattle.sci_sim.proofs.Turning.{Adding, adding_more}
 use Rattle.sci_sim.proofs.targets.Targets.add_all.Goals as goal
 
 pub loop-source-preserved : goal.loop-source-preserved

@@ -1,7 +1,7 @@
-use Rattle.std.proofs.Common.{◌≡◌, ◌+◌, List, ℕ, map, drop, length, sym, subst, ap, arith, ◌∙◌}
+use Rattle.std.proofs.Common.{◌≡◌, map, length, arith}
 use Rattle.std.proofs.lemmas.List.{length-map}
-use Rattle.sci_net.specs.Timer.{EventDelay, event_delay}
-use Rattle.sci_sim.proofs.Turning.{Turning, turning_none, turning_more, turning_all, delays-drop, delays-none, timer_of, sources_within}
+use Rattle.sci_net.specs.Timer.{event_delay}
+use Rattle.sci_sim.proofs.Turning.{timer_of, sources_within}
 use Rattle.sci_sim.proofs.targets.Targets.of_net.Goals as goal
 
 pub add_timer-requires-clause-rising : goal.add_timer-requires-clause-rising
