@@ -1,9 +1,8 @@
 -- The calls of the chain.
-use Rattle.std.proofs.Common.{◌≡◌, ◌≢◌, ◌<◌, ◌≤◌, ◌+◌, ◌-◌, ◌==◌, ◌||◌, ◌&&◌, ◌⊎◌, inl, inr, nat_lt, not, ℕ, zero, suc, Bool, true, false, List, [], ◌∷◌, ◌++◌, length, get_or, Option, Some, None, if◌then◌else◌, refl, sym, ◌∙◌, ap, subst, arith, get_or-set_other, get_or-set_same, set, length-set}
+use Rattle.std.proofs.Common.{◌≡◌, ◌<◌, ◌≤◌, ◌+◌, ◌==◌, ◌||◌, ◌⊎◌, inl, inr, not, ℕ, Bool, true, false, List, [], ◌∷◌, ◌++◌, length, Option, Some, None, refl, sym, ◌∙◌, ap, subst, arith, get_or-set_same, set}
 use Rattle.std.specs.Prelude.{IsTrue, ◌↔◌}
-use Rattle.std.proofs.lemmas.Bool.Decides.{nat_tests}
-use Rattle.sci_links.specs.Table.{Table, IsTable, Distinct, chain, chain_of, list_of, has, behind, changed, inserted, inserted_in, pushed, removed, removed_in, popped, put_before, without as without_node, first as first_node, rest}
-use Rattle.sci_links.proofs.TestLemmas.{by_cases, when, unless, known, eq_true, eq_false, same, differ, has_here, has_there, has_cases}
+use Rattle.sci_links.specs.Table.{Table, chain, list_of, has, changed, inserted, inserted_in, pushed, removed, removed_in, popped, put_before, without as without_node, first as first_node, rest}
+use Rattle.sci_links.proofs.TestLemmas.{known, eq_true, has_here}
 use Rattle.sci_agenda.specs.Firing.{Meaning, put_behind, is_pending, without, first, first_date, after_put, after_take, after_remove}
 use Rattle.sci_agenda.specs.Chained.{date_at, events_of, first_later, IsChain}
 use Rattle.sci_agenda.proofs.Chains.{events_set, put_none, put_some, later_has, pending_is, without_is}

@@ -1,9 +1,9 @@
 -- A chain in the order of firing.
-use Rattle.std.proofs.Common.{◌≡◌, ◌≢◌, ◌<◌, ◌≤◌, ◌+◌, ◌-◌, ◌==◌, ◌||◌, ◌&&◌, ◌⊎◌, inl, inr, nat_lt, not, ℕ, zero, suc, Bool, true, false, List, [], ◌∷◌, ◌++◌, length, get_or, Option, Some, None, if◌then◌else◌, refl, sym, ◌∙◌, ap, subst, arith, get_or-set_other, get_or-set_same, set, length-set}
+use Rattle.std.proofs.Common.{◌≡◌, ◌≢◌, ◌<◌, ◌≤◌, ◌+◌, ◌==◌, ◌||◌, inl, inr, nat_lt, ℕ, Bool, true, false, List, [], ◌∷◌, ◌++◌, length, Option, Some, None, if◌then◌else◌, refl, sym, ◌∙◌, ap, arith, get_or-set_other, set}
 use Rattle.std.proofs.lemmas.Bool.Decides.{nat_tests}
-use Rattle.sci_links.specs.Table.{Table, IsTable, Distinct, chain, list_of, has, behind, put_before, without as without_node, first as first_node, rest}
-use Rattle.sci_links.proofs.TestLemmas.{by_cases, when, unless, known, eq_true, eq_false, same, differ, has_here, has_there, has_cases, lacks_head, lacks_tail, apart}
-use Rattle.sci_agenda.specs.Firing.{put_behind, is_pending, without, first, first_date}
+use Rattle.sci_links.specs.Table.{Distinct, has, behind, put_before, without as without_node, first as first_node, rest}
+use Rattle.sci_links.proofs.TestLemmas.{by_cases, when, unless, known, eq_true, eq_false, same, differ, has_here, has_there, has_cases, apart}
+use Rattle.sci_agenda.specs.Firing.{put_behind, is_pending, without}
 use Rattle.sci_agenda.specs.Chained.{date_at, events_of, first_later, from_node, from}
 
 -- dates of other nodes don't matter

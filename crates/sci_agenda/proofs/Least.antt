@@ -1,7 +1,7 @@
 -- The least date among the nodes so far.
 use Rattle.std.specs.Prelude.{IfSome}
 use Rattle.std.specs.Option.{is_some}
-use Rattle.std.proofs.Common.{arith, refl, true, false, sym, ◌∙◌, ap, subst, ◌+◌, ◌==◌, ◌⊎◌, inl, inr, ◌≡◌, ◌<◌, ◌≤◌, ℕ, List, Option, None, Some}
+use Rattle.std.proofs.Common.{arith, refl, true, false, sym, ◌∙◌, ap, subst, ◌+◌, ◌==◌, inl, inr, ◌≡◌, ◌<◌, ◌≤◌, ℕ, List, Option, None, Some}
 use Rattle.sci_links.specs.Table.{Table, IsTable, list_of}
 use Rattle.sci_links.proofs.TestLemmas.{known, eq_true, eq_false}
 use Rattle.sci_agenda.specs.Chained.{date_at}

@@ -1,15 +1,13 @@
 -- Nodes that are moved as now moves.
-use Rattle.std.proofs.Common.{◌≡◌, ◌≢◌, ◌<◌, ◌≤◌, ◌+◌, ◌-◌, ◌*◌, ◌/◌, ◌%◌, ◌==◌, ◌||◌, ◌&&◌, ◌⊎◌, inl, inr, nat_lt, not, min, ℕ, zero, suc, Bool, true, false, List, [], ◌∷◌, ◌++◌, length, get_or, Option, Some, None, if◌then◌else◌, refl, sym, ◌∙◌, ap, subst, arith, append_assoc, append-nil, get_or-set_other, get_or-set_same, set, length-set}
-use Rattle.std.proofs.lemmas.Bool.Decides.{nat_tests}
-use Rattle.sci_links.specs.Table.{Table, IsTable, Distinct, chain, list_of, has, counted, changed, pushed, popped, first as first_node, rest}
-use Rattle.sci_links.proofs.TestLemmas.{by_cases, when, unless, known, eq_true, eq_false, same, differ, has_here, has_there, has_cases}
-use Rattle.sci_agenda.specs.Firing.{Meaning, put_behind, first, first_date}
+use Rattle.std.proofs.Common.{◌≡◌, ◌≢◌, ◌<◌, ◌≤◌, ◌+◌, ◌/◌, ◌%◌, ◌==◌, ◌⊎◌, inl, inr, ℕ, true, false, List, [], ◌∷◌, ◌++◌, length, Some, None, refl, sym, ◌∙◌, ap, subst, arith, append_assoc, append-nil, length-set}
+use Rattle.sci_links.specs.Table.{Table, IsTable, Distinct, chain, list_of, has, counted, pushed, popped, first as first_node, rest}
+use Rattle.sci_links.proofs.TestLemmas.{known, eq_true, eq_false, has_here, has_there}
 use Rattle.sci_agenda.specs.Chained.{date_at, events_of}
-use Rattle.sci_agenda.specs.Wheel.{in_order, sorted, all_nodes, weight, place, at_date, Moving, Turned, IsLeast, Placed, IsWheel, Wheel}
-use Rattle.sci_agenda.proofs.Sorting.{Event, AllFrom, Sorted, from-sorted, at-append, at_here, at_other, same_sorted}
+use Rattle.sci_agenda.specs.Wheel.{in_order, all_nodes, weight, place, at_date, Moving, Turned, Placed}
+use Rattle.sci_agenda.proofs.Sorting.{Event, AllFrom, from-sorted, at-append, at_here, at_other, same_sorted}
 use Rattle.sci_agenda.proofs.Chains.{events_push}
-use Rattle.sci_agenda.proofs.Places.{place_below, stays, falls, steady, alone, place_now}
-use Rattle.sci_agenda.proofs.Wheels.{none_at, sorted_order, at_order, chain_here, chain_other, has-push, has-rest, in_changed, not_moved}
+use Rattle.sci_agenda.proofs.Places.{stays, falls, steady, alone, place_now}
+use Rattle.sci_agenda.proofs.Wheels.{none_at, sorted_order, at_order, chain_here, chain_other, has-push, has-rest, in_changed}
 use Rattle.sci_agenda.proofs.WheelSteps.{weight_less, weight_more, first_has, first_cons, unique}
 use Rattle.sci_agenda.proofs.ChainSteps.{option_cases}
 

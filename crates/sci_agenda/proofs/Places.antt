@@ -1,6 +1,5 @@
 -- The place of a date, as now moves.
-use Rattle.std.proofs.Common.{◌≡◌, ◌≢◌, ◌<◌, ◌≤◌, ◌+◌, ◌-◌, ◌*◌, ◌/◌, ◌%◌, ◌==◌, ◌⊎◌, inl, inr, ℕ, Bool, true, false, if◌then◌else◌, refl, sym, ◌∙◌, ap, subst, arith}
-use Rattle.std.proofs.lemmas.Bool.Decides.{nat_tests}
+use Rattle.std.proofs.Common.{◌≡◌, ◌≢◌, ◌<◌, ◌≤◌, ◌+◌, ◌/◌, ◌%◌, ◌==◌, inl, inr, ℕ, refl, ◌∙◌, arith}
 use Rattle.sci_links.proofs.TestLemmas.{when, unless, known, eq_true, eq_false}
 use Rattle.sci_agenda.specs.Wheel.{place}
 

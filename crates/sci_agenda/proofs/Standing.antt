@@ -1,8 +1,7 @@
 -- Each event of a wheel stands in the list of its place.
-use Rattle.std.proofs.Common.{◌≡◌, ◌<◌, ◌≤◌, ◌+◌, ◌-◌, ◌==◌, ◌||◌, ◌&&◌, ◌⊎◌, inl, inr, nat_lt, ℕ, Bool, true, false, List, [], ◌∷◌, Option, Some, None, refl, sym, ◌∙◌, ap, subst, arith}
-use Rattle.std.proofs.lemmas.Bool.Decides.{nat_tests}
-use Rattle.sci_links.specs.Table.{Table, IsTable, chain, list_of, has}
-use Rattle.sci_links.proofs.TestLemmas.{by_cases, known, eq_true, or_cases, has_here, has_there, swap_or}
+use Rattle.std.proofs.Common.{◌≡◌, ◌+◌, ◌-◌, ◌==◌, ◌||◌, ◌&&◌, inl, inr, nat_lt, ℕ, Bool, true, false, List, [], ◌∷◌, Some, refl, sym, ◌∙◌, ap, arith}
+use Rattle.sci_links.specs.Table.{Table, list_of, has}
+use Rattle.sci_links.proofs.TestLemmas.{by_cases, eq_true, or_cases, has_here, has_there, swap_or}
 use Rattle.sci_agenda.specs.Chained.{date_at, events_of}
 use Rattle.sci_agenda.specs.Wheel.{in_order, sorted, put_front, all_nodes, place, IsWheel, has_event}
 use Rattle.sci_agenda.proofs.WheelSteps.{all_has}

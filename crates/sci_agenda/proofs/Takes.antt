@@ -1,15 +1,15 @@
 -- The wheel's `take` and `next_date`.
-use Rattle.std.proofs.Common.{◌≡◌, ◌≢◌, ◌<◌, ◌≤◌, ◌+◌, ◌-◌, ◌*◌, ◌/◌, ◌%◌, ◌==◌, ◌⊎◌, inl, inr, nat_lt, min, ℕ, zero, suc, Bool, true, false, List, [], ◌∷◌, ◌++◌, length, Option, Some, None, refl, sym, ◌∙◌, ap, subst, arith, length-set}
+use Rattle.std.proofs.Common.{◌≡◌, ◌<◌, ◌≤◌, ◌+◌, ◌*◌, ◌%◌, ◌==◌, inl, inr, nat_lt, ℕ, zero, suc, true, false, List, [], ◌∷◌, ◌++◌, length, Some, None, refl, sym, ◌∙◌, ap, subst, arith, length-set}
 use Rattle.std.proofs.lemmas.Bool.Decides.{nat_tests}
-use Rattle.sci_links.specs.Table.{Table, IsTable, nothing, chain, list_of, has, counted, changed, popped, first as first_node, rest}
-use Rattle.sci_links.proofs.TestLemmas.{known, eq_true, eq_false, has_here, has_there, has_cases}
-use Rattle.sci_agenda.specs.Firing.{Meaning, first, first_date, after_take, taken_from}
+use Rattle.sci_links.specs.Table.{Table, IsTable, nothing, chain, list_of, has, popped, first as first_node, rest}
+use Rattle.sci_links.proofs.TestLemmas.{known, eq_true, eq_false, has_here, has_cases}
+use Rattle.sci_agenda.specs.Firing.{Meaning, first, first_date, after_take}
 use Rattle.sci_agenda.specs.Chained.{date_at, events_of}
-use Rattle.sci_agenda.specs.Wheel.{in_order, sorted, all_nodes, weight, place, at_date, Turned, IsLeast, Placed, IsWheel}
+use Rattle.sci_agenda.specs.Wheel.{in_order, sorted, all_nodes, weight, place, at_date, Turned, IsLeast, IsWheel}
 use Rattle.sci_agenda.proofs.Sorting.{Event, AllFrom, Sorted, from-sorted, at_here, at_other, at_none}
 use Rattle.sci_agenda.proofs.Places.{place_now}
 use Rattle.sci_agenda.proofs.Wheels.{sorted_order, at_order, has-rest, in_changed}
-use Rattle.sci_agenda.proofs.WheelSteps.{all_has, has_all, weight_less, first_has, first_cons}
+use Rattle.sci_agenda.proofs.WheelSteps.{all_has, weight_less, first_has, first_cons}
 use Rattle.sci_agenda.proofs.Moves.{all_from, take_placed, take_order}
 
 no_nodes : (xs : List ℕ) → ((x : ℕ) → has x xs ≡ true → ⊥) → xs ≡ []

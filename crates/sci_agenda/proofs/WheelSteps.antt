@@ -1,19 +1,18 @@
 -- The calls of the wheel.
-use Rattle.std.proofs.Common.{◌≡◌, ◌≢◌, ◌<◌, ◌≤◌, ◌+◌, ◌-◌, ◌*◌, ◌/◌, ◌%◌, ◌==◌, ◌||◌, ◌&&◌, ◌⊎◌, inl, inr, nat_lt, not, min, ℕ, zero, suc, Bool, true, false, List, [], ◌∷◌, ◌++◌, length, get_or, Option, Some, None, if◌then◌else◌, refl, sym, ◌∙◌, ap, subst, arith, append_assoc, append-nil, get_or-set_other, get_or-set_same, set, length-set}
+use Rattle.std.proofs.Common.{◌≡◌, ◌≢◌, ◌<◌, ◌≤◌, ◌+◌, ◌*◌, ◌/◌, ◌==◌, ◌||◌, ◌⊎◌, inl, inr, nat_lt, not, min, ℕ, zero, suc, Bool, true, false, List, [], ◌∷◌, ◌++◌, length, get_or, Option, Some, None, refl, sym, ◌∙◌, ap, subst, arith, get_or-set_other, get_or-set_same, set, length-set}
 use Rattle.std.specs.Prelude.{IsTrue, ◌↔◌}
-use Rattle.std.proofs.lemmas.Bool.Decides.{nat_tests}
-use Rattle.std.proofs.lemmas.List.{length_push, get_or_past}
+use Rattle.std.proofs.lemmas.List.{length_push}
 use Rattle.std.proofs.Math.Nat.{mul-suc}
-use Rattle.sci_links.specs.Table.{Table, IsTable, Distinct, chain, list_of, has, counted, changed, pushed, removed, removed_in, popped, without as without_node, first as first_node, rest}
-use Rattle.sci_links.proofs.TestLemmas.{by_cases, when, unless, known, eq_true, eq_false, same, differ, or_left, or_right, or_cases, has_here, has_there, has_cases, lacks_head, lacks_tail, apart, swap_or}
-use Rattle.sci_agenda.specs.Firing.{Meaning, put_behind, is_pending, without, first, first_date, taken_from, after_take}
+use Rattle.sci_links.specs.Table.{Table, IsTable, chain, list_of, has, changed, pushed, removed, removed_in, without as without_node, first as first_node, rest}
+use Rattle.sci_links.proofs.TestLemmas.{by_cases, known, eq_false, has_here, has_there, has_cases, apart, swap_or}
+use Rattle.sci_agenda.specs.Firing.{put_behind, is_pending, without}
 use Rattle.sci_agenda.specs.Chained.{date_at, events_of}
-use Rattle.sci_agenda.specs.Wheel.{in_order, sorted, put_front, all_nodes, weight, place, at_date, Moving, Turned, IsLeast, Placed, IsWheel, Wheel}
-use Rattle.sci_agenda.proofs.Sorting.{Event, AllFrom, Sorted, from-sorted, at-append, at_here, at_other, same_sorted}
-use Rattle.sci_agenda.proofs.Chains.{events_push, pending_is}
+use Rattle.sci_agenda.specs.Wheel.{in_order, sorted, put_front, all_nodes, weight, place, IsWheel}
+use Rattle.sci_agenda.proofs.Sorting.{Event}
+use Rattle.sci_agenda.proofs.Chains.{pending_is}
 use Rattle.sci_agenda.proofs.ChainSteps.{option_cases, pending_port}
-use Rattle.sci_agenda.proofs.Places.{place_below, stays, falls, steady, alone, place_now}
-use Rattle.sci_agenda.proofs.Wheels.{none_at, sorted_order, at_order, chain_here, chain_other, has-push, has-rest, has-less, in_changed, put_order, remove_order, weight_set, not_moved}
+use Rattle.sci_agenda.proofs.Places.{place_below}
+use Rattle.sci_agenda.proofs.Wheels.{has-push, has-less, in_changed, put_order, remove_order, weight_set}
 
 -- what waits
 pending-put_front : (s : ℕ) (e : Event) (xs : List Event) → is_pending s (put_front e xs) ≡ is_pending s (e ∷ xs)

@@ -1,14 +1,12 @@
 -- The events of a wheel's table in the order of firing.
-use Rattle.std.proofs.Common.{◌≡◌, ◌≢◌, ◌<◌, ◌≤◌, ◌+◌, ◌-◌, ◌*◌, ◌/◌, ◌==◌, ◌||◌, ◌&&◌, ◌⊎◌, inl, inr, nat_lt, not, ℕ, zero, suc, Bool, true, false, List, [], ◌∷◌, ◌++◌, length, get_or, Option, Some, None, if◌then◌else◌, refl, sym, ◌∙◌, ap, subst, arith, append_assoc, append-nil, get_or-set_other, get_or-set_same, set, length-set}
-use Rattle.std.proofs.lemmas.Bool.Decides.{nat_tests}
-use Rattle.std.proofs.lemmas.List.{length_push, get_or_past}
-use Rattle.sci_links.specs.Table.{Table, IsTable, Distinct, chain, list_of, has, changed, pushed, removed, removed_in, popped, without as without_node, first as first_node, rest}
-use Rattle.sci_links.proofs.TestLemmas.{by_cases, when, unless, known, eq_true, eq_false, same, differ, has_here, has_there, has_cases, lacks_head, lacks_tail, apart}
-use Rattle.sci_agenda.specs.Firing.{put_behind, is_pending, without, first, first_date}
+use Rattle.std.proofs.Common.{◌≡◌, ◌≢◌, ◌<◌, ◌+◌, ◌*◌, ◌/◌, ◌==◌, ◌⊎◌, inl, inr, ℕ, zero, suc, true, false, List, [], ◌∷◌, ◌++◌, length, get_or, refl, sym, ◌∙◌, ap, subst, arith, append-nil, get_or-set_other, get_or-set_same, set}
+use Rattle.sci_links.specs.Table.{Table, chain, has, changed, pushed, without as without_node, rest}
+use Rattle.sci_links.proofs.TestLemmas.{by_cases, unless, known, eq_true, eq_false, differ, has_here, has_there, has_cases, lacks_head, lacks_tail, apart}
+use Rattle.sci_agenda.specs.Firing.{put_behind, without}
 use Rattle.sci_agenda.specs.Chained.{date_at, events_of}
-use Rattle.sci_agenda.specs.Wheel.{in_order, sorted, all_nodes, weight, place, at_date, Moving, Turned, IsLeast, Placed, IsWheel, Wheel}
-use Rattle.sci_agenda.proofs.Sorting.{Event, AllFrom, Sorted, Sorted-sorted, from-sorted, Sorted-put_behind, Sorted-without, at-append, at_here, at_other, at_none, at-sorted, at-put_behind, same_sorted, Dated, Dated-sorted, at-without}
-use Rattle.sci_agenda.proofs.Chains.{events_same, events_set, events_push, pending_is, without_is}
+use Rattle.sci_agenda.specs.Wheel.{in_order, all_nodes, weight, at_date, Moving, Placed}
+use Rattle.sci_agenda.proofs.Sorting.{Event, Sorted, Sorted-sorted, Sorted-put_behind, Sorted-without, at-append, at_other, at-sorted, at-put_behind, same_sorted, Dated, Dated-sorted, at-without}
+use Rattle.sci_agenda.proofs.Chains.{events_set, events_push, without_is}
 
 -- no event of that date
 pub none_at : (ds xs : List ℕ) (d : ℕ) → ((x : ℕ) → has x xs ≡ true → date_at ds x ≢ d) → at_date d (events_of ds xs) ≡ []

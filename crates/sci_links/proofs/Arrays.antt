@@ -1,13 +1,13 @@
 -- The arrays of the table.
-use Rattle.std.proofs.Common.{◌≡◌, ◌≢◌, ◌<◌, ◌≤◌, ◌+◌, ◌==◌, ◌||◌, ◌&&◌, ◌⊎◌, inl, inr, nat_lt, not, ℕ, zero, suc, Bool, true, false, List, [], ◌∷◌, ◌++◌, length, get_or, Option, Some, None, if◌then◌else◌, refl, sym, ◌∙◌, ap, subst, arith, get_or-set_other, get_or-set_same, set, length-set}
+use Rattle.std.proofs.Common.{◌≡◌, ◌≢◌, ◌<◌, ◌≤◌, ◌+◌, ◌==◌, ◌⊎◌, inl, inr, nat_lt, ℕ, zero, suc, true, false, List, [], ◌∷◌, ◌++◌, length, get_or, Option, Some, None, refl, sym, ◌∙◌, ap, subst, arith, get_or-set_other, get_or-set_same, set, length-set}
 use Rattle.std.proofs.lemmas.List.{get_or_read, get_or_past, get_or_push, get_or_append_left, length_push, set-get_or}
 use Rattle.std.proofs.lemmas.Bool.Decides.{nat_tests}
-use Rattle.sci_links.specs.Table.{Table, IsTable, nothing, chain, list_of, counted, changed, removed, inserted, pushed, popped, has, put_before, without, first, rest, behind, holder_from}
+use Rattle.sci_links.specs.Table.{Table, IsTable, nothing, chain, list_of, has, put_before, without, first, rest, behind, holder_from}
 use Rattle.sci_links.specs.Table.{Distinct}
-use Rattle.sci_links.specs.Linked.{walk, rings, Joined, Linked, IsLinked, owns, at, owner, node_at}
-use Rattle.sci_links.proofs.TestLemmas.{by_cases, when, known, same, eq_true, eq_false, has_here, has_there, has_cases}
-use Rattle.sci_links.proofs.Rings.{joined_prev, joined_next, behind_next, first_of_ring}
-use Rattle.sci_links.proofs.Tables.{lacks_end, length_rings, same_rings, linked_put, linked_remove, free_apart, small, held, owns_true, ring_cases}
+use Rattle.sci_links.specs.Linked.{rings, Joined, Linked, IsLinked, owns, at, owner, node_at}
+use Rattle.sci_links.proofs.TestLemmas.{by_cases, when, known, same, eq_true, eq_false, has_here, has_cases}
+use Rattle.sci_links.proofs.Rings.{joined_prev, behind_next, first_of_ring}
+use Rattle.sci_links.proofs.Tables.{length_rings, same_rings, linked_put, linked_remove, free_apart, small, held, owns_true}
 
 at_two_last : (xs : List ℕ) (i u j v : ℕ) → j < length xs → at (set (set xs i u) j v) j ≡ v
 at_two_last xs i u j v h = let g = length-set xs i u in let l : j < length (set xs i u) = omega arith in get_or-set_same (set xs i u) j v 0 l

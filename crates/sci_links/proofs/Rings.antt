@@ -1,10 +1,10 @@
 -- Rings of indices, and how a change of two neighbours changes them.
-use Rattle.std.proofs.Common.{◌≡◌, ◌≢◌, ◌<◌, ◌≤◌, ◌+◌, ◌==◌, ◌||◌, ◌⊎◌, inl, inr, nat_lt, not, ℕ, zero, suc, Bool, true, false, List, [], ◌∷◌, ◌++◌, length, get_or, Option, Some, None, if◌then◌else◌, refl, sym, ◌∙◌, ap, subst, arith}
+use Rattle.std.proofs.Common.{◌≡◌, ◌≢◌, ◌<◌, ◌≤◌, ◌==◌, ◌⊎◌, inl, inr, nat_lt, ℕ, zero, suc, true, false, List, [], ◌∷◌, length, Option, Some, None, if◌then◌else◌, refl, sym, ◌∙◌, ap, arith}
 use Rattle.std.proofs.lemmas.Bool.Decides.{nat_tests}
-use Rattle.sci_links.specs.Table.{has, put_before, without, first, rest, behind}
+use Rattle.sci_links.specs.Table.{has, put_before, without, first, behind}
 use Rattle.sci_links.specs.Table.{Distinct}
-use Rattle.sci_links.specs.Linked.{walk, rings, Joined}
-use Rattle.sci_links.proofs.TestLemmas.{by_cases, when, unless, known, eq_true, eq_false, same, differ, has_here, has_there, has_cases, lacks_head, lacks_tail, apart}
+use Rattle.sci_links.specs.Linked.{walk, Joined}
+use Rattle.sci_links.proofs.TestLemmas.{by_cases, when, unless, eq_true, eq_false, has_here, has_there, has_cases, lacks_head, lacks_tail, apart}
 
 pub joined_frame : (n p m q : ℕ → ℕ) (a : ℕ) (xs : List ℕ) (b : ℕ) → Joined n p a xs b
     → ((z : ℕ) → has z (a ∷ xs) ≡ true → m z ≡ n z) → ((z : ℕ) → (has z xs ≡ true) ⊎ (z ≡ b) → q z ≡ p z) → Joined m q a xs b

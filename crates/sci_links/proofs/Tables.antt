@@ -1,17 +1,16 @@
 -- A change of the arrays is the change of one list.
-use Rattle.std.proofs.Common.{◌≡◌, ◌≢◌, ◌<◌, ◌≤◌, ◌+◌, ◌==◌, ◌||◌, ◌&&◌, ◌⊎◌, inl, inr, nat_lt, not, ℕ, zero, suc, Bool, true, false, List, [], ◌∷◌, ◌++◌, length, get_or, Option, Some, None, if◌then◌else◌, refl, sym, ◌∙◌, ap, subst, arith, get_or-set_other, get_or-set_same, set, length-set}
+use Rattle.std.proofs.Common.{◌≡◌, ◌≢◌, ◌<◌, ◌≤◌, ◌+◌, ◌==◌, ◌||◌, ◌&&◌, ◌⊎◌, inl, inr, not, ℕ, zero, suc, Bool, true, false, List, [], ◌∷◌, length, get_or, Option, Some, None, refl, sym, ◌∙◌, ap, subst, arith, get_or-set_other, get_or-set_same, set, length-set}
 use Rattle.std.proofs.lemmas.List.{ext_get_or, get_or_append_left}
 use Rattle.std.proofs.lemmas.List.{length_push, get_or_push}
-use Rattle.std.proofs.lemmas.Bool.Decides.{nat_tests}
 use Rattle.std.proofs.lemmas.Map.Steps.{length-le_from_distinct_below}
 use Rattle.std.proofs.lemmas.Map.Keys.{IsDistinct-cons}
 use Rattle.std.specs.List.{IsDistinct, AllByRecursion, list_any}
 use Rattle.std.proofs.Math.Dec.{eqb}
-use Rattle.sci_links.specs.Table.{has, put_before, without, first, rest, behind, holder_from}
+use Rattle.sci_links.specs.Table.{has, put_before, without}
 use Rattle.sci_links.specs.Table.{Distinct}
-use Rattle.sci_links.specs.Linked.{walk, rings, Joined, Linked, IsLinked, owns, at, owner, node_at}
-use Rattle.sci_links.proofs.TestLemmas.{by_cases, when, unless, known, eq_true, eq_false, same, differ, or_left, or_right, or_cases, has_here, has_there, has_cases, lacks_head, lacks_tail, apart, has-put_before, Distinct-put_before, has-without, Distinct-without}
-use Rattle.sci_links.proofs.Rings.{joined_frame, joined_prev, joined_next, joined_insert, joined_remove, walk_joined, behind_next, first_of_ring}
+use Rattle.sci_links.specs.Linked.{walk, rings, Joined, Linked, owns}
+use Rattle.sci_links.proofs.TestLemmas.{known, eq_true, eq_false, same, differ, or_left, has_here, has_there, has_cases, lacks_head, lacks_tail, has-put_before, Distinct-put_before, has-without, Distinct-without}
+use Rattle.sci_links.proofs.Rings.{joined_frame, joined_prev, joined_next, joined_insert, joined_remove, walk_joined}
 
 pub length_rings : (n : ℕ → ℕ) (nodes k : ℕ) → length (rings n nodes k) ≡ k
 length_rings n nodes zero = refl

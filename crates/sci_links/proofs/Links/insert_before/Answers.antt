@@ -1,9 +1,8 @@
-use Rattle.std.proofs.Common.{◌≡◌, ◌<◌, ◌+◌, ◌==◌, ◌||◌, true, ℕ, length, sym, ◌∙◌, subst, ap, arith, Option, Some, None}
+use Rattle.std.proofs.Common.{◌≡◌, ℕ, sym, ◌∙◌, subst, ap, arith, Option, Some, None}
 use Rattle.std.proofs.lemmas.List.{get_or_read}
-use Rattle.sci_links.specs.Table.{Table, IsTable, list_of, chain, has, changed, inserted_in, put_before}
-use Rattle.sci_links.specs.Linked.{owner}
+use Rattle.sci_links.specs.Table.{Table, IsTable, list_of, inserted_in}
 use Rattle.sci_links.proofs.TestLemmas.{or_right}
-use Rattle.sci_links.proofs.Arrays.{in_bounds, is_table, owner_of, holder_owner}
+use Rattle.sci_links.proofs.Arrays.{in_bounds, is_table, holder_owner}
 use Rattle.sci_links.proofs.Links.insert_before.Goals as goal
 use Rattle.sci_links.proofs.Links.insert_before.Goals.{In-Some, After-index}
 

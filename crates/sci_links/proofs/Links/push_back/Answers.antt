@@ -1,5 +1,5 @@
-use Rattle.std.proofs.Common.{◌≡◌, ◌<◌, ◌+◌, ◌==◌, ◌||◌, true, ℕ, length, List, sym, ◌∙◌, subst, ap, arith, Option, Some, None}
-use Rattle.sci_links.specs.Table.{Table, IsTable, list_of, chain, has, changed, pushed, put_before}
+use Rattle.std.proofs.Common.{◌≡◌, ◌+◌, ℕ, List, sym, ◌∙◌, subst, ap, arith}
+use Rattle.sci_links.specs.Table.{Table, IsTable, chain, changed}
 use Rattle.sci_links.proofs.TestLemmas.{put_before-absent}
 use Rattle.sci_links.proofs.Arrays.{is_table, past_absent}
 use Rattle.sci_links.proofs.Links.push_back.Goals as goal

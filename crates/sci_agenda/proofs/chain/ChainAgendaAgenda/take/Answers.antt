@@ -1,9 +1,7 @@
-use Rattle.std.proofs.Common.{◌≡◌, ◌<◌, ◌≤◌, ◌+◌, ◌-◌, ℕ, true, false, length, List, Option, Some, None, sym, ◌∙◌, ap, subst, arith, refl}
+use Rattle.std.proofs.Common.{◌≡◌, ◌+◌, sym, subst, arith}
 use Rattle.std.proofs.lemmas.List.{get_or_read}
-use Rattle.sci_links.specs.Table.{Table, chain, list_of, has}
-use Rattle.sci_agenda.specs.Firing.{Meaning, after_take, first, first_date, IsPort}
-use Rattle.sci_agenda.specs.Chained.{first_later, date_at}
-use Rattle.sci_agenda.proofs.ChainSteps.{pending_port, seen, free_of, held_of, pending_of, later_held, put_before_view, push_view, remove_view, first_bound, first_view, take_view}
+use Rattle.sci_agenda.specs.Firing.{Meaning, after_take, IsPort}
+use Rattle.sci_agenda.proofs.ChainSteps.{seen, first_bound, first_view, take_view}
 use Rattle.sci_agenda.proofs.chain.ChainAgendaAgenda.take.Goals as goal
 
 pub index-date-requires : goal.index-date-requires

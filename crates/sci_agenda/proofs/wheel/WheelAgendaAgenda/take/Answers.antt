@@ -1,10 +1,10 @@
-use Rattle.std.proofs.Common.{◌≡◌, ◌<◌, ◌≤◌, ◌+◌, ◌-◌, ℕ, true, false, length, List, Option, Some, None, sym, ◌∙◌, ap, subst, arith, refl}
+use Rattle.std.proofs.Common.{◌≡◌, ◌≤◌, ◌+◌, ℕ, true, List, sym, ◌∙◌, ap, subst, arith, refl}
 use Rattle.std.proofs.lemmas.List.{get_or_read}
-use Rattle.sci_links.specs.Table.{Table, chain, list_of, has, first as first_node}
-use Rattle.sci_agenda.specs.Firing.{Meaning, first, first_date, after_take, IsPort}
+use Rattle.sci_links.specs.Table.{chain, has}
+use Rattle.sci_agenda.specs.Firing.{Meaning, first, after_take, IsPort}
 use Rattle.sci_agenda.specs.Chained.{date_at}
 use Rattle.sci_agenda.specs.Wheel.{Wheel, IsLeast, Turned, in_order}
-use Rattle.sci_agenda.proofs.Takes.{nothing_waits, least_node, least_from, least_all, least_first, take_some, take_wheel, take_events, take_bound, taken_view}
+use Rattle.sci_agenda.proofs.Takes.{nothing_waits, least_node, least_from, least_all, take_some, take_wheel, take_events, take_bound, taken_view}
 use Rattle.sci_agenda.proofs.wheel.WheelAgendaAgenda.take.Goals as goal
 use Rattle.sci_agenda.proofs.wheel.WheelAgendaAgenda.take.Goals.{In_ok-node, After-index-date}
 
