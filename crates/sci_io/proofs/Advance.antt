@@ -90,6 +90,7 @@ cut_off {old = old} {mid = mid} {new = new} {text = text} piece rest r s e f is 
       ok = tt;
       quiet = tt;
       cut = cut;
+      dropped = subst (λ q. OnErr q (new.held ≡ [])) is h.dropped;
       cause = subst (λ (n : ℕ). Rose n new.faults) w.quiet rose;
       later = subst (λ (n : ℕ). n ≤ new.faults) w.quiet h.later;
     })
@@ -100,6 +101,7 @@ finished {old = old} {new = new} {text = text} x w = record {
   ok = subst (λ (l : List ℕ). Advances old.taken new.taken (old.held ++ text) l) (append-nil new.held) w.advances;
   quiet = w.quiet;
   cut = tt;
+  dropped = tt;
   cause = tt;
   later = subst (λ (n : ℕ). n ≤ new.faults) w.quiet (omega arith);
 }
@@ -129,10 +131,10 @@ joined-drop ps i d h = ap joined (drop-cons ps i d h) ∙ ap (λ (n : ℕ). (get
 
 -- a sink that holds nothing back took a piece, or refused it
 pub direct_took : {T E : Type 0} (old new : Option (List ℕ)) (faults : ℕ) (piece : List ℕ) (x : T) → new ≡ followed old piece → Writes {T = T} {E = E} (direct old faults) (direct new faults) piece (Ok x)
-direct_took old new faults piece x taken = record { ok = gave_all piece taken; quiet = refl; cut = tt; cause = tt; later = omega arith }
+direct_took old new faults piece x taken = record { ok = gave_all piece taken; quiet = refl; cut = tt; dropped = tt; cause = tt; later = omega arith }
 
 pub direct_refused : {T E : Type 0} (old : Option (List ℕ)) (before now : ℕ) (piece : List ℕ) (e : E) → Rose before now → before ≤ now → Writes {T = T} {E = E} (direct old before) (direct old now) piece (Err e)
-direct_refused old before now piece e rose later = record { ok = tt; quiet = tt; cut = took_nothing old piece; cause = rose; later = later }
+direct_refused old before now piece e rose later = record { ok = tt; quiet = tt; cut = took_nothing old piece; dropped = refl; cause = rose; later = later }
 
 abbrev holding : SinkState → List ℕ → SinkState
 holding s held = record { taken = s.taken; held = held; faults = s.faults }
@@ -152,6 +154,7 @@ held_back s bytes more piece x is = record {
   ok = due_is _ _ (ap (λ (l : List ℕ). s.held ++ l) is ∙ sym (append_assoc s.held bytes piece)) (stays s.taken (s.held ++ more));
   quiet = refl;
   cut = tt;
+  dropped = tt;
   cause = tt;
   later = omega arith;
 }

@@ -33,11 +33,12 @@ abbrev pub TakesFront : Option (List ℕ) → Option (List ℕ) → List ℕ →
 TakesFront old new due = (rest : List ℕ) × Advances old new due rest
 
 -- A call that writes this text to a sink. What was held and the text behind it are due: after Ok a front of them was given on, the rest
--- is held, and the faults are as before; after an Err a front of them was given on, and the faults rose.
+-- is held, and the faults are as before; after an Err a front of them was given on, nothing is held, and the faults rose.
 pub record Writes {T E : Type 0} (old new : SinkState) (text : List ℕ) (result : Result T E) : Type 0 where
   pub ok : OnOk result (Advances old.taken new.taken (old.held ++ text) new.held)
   pub quiet : OnOk result (new.faults ≡ old.faults)
   pub cut : OnErr result (TakesFront old.taken new.taken (old.held ++ text))
+  pub dropped : OnErr result (new.held ≡ [])
   pub cause : OnErr result (Rose old.faults new.faults)
   pub later : old.faults ≤ new.faults
 

@@ -22,7 +22,9 @@ impl<S: Sink + Drop> BufferedSink<S> {
 
     /// An empty buffer of `room` bytes before the sink.
     pub fn new(alloc: Global, sink: S, room: usize) -> Result<Self, NoMemory>
-        ensures { IfOk result (λ b. (b.sink ≡ sink) × (b.buffer.items ≡ [])) }
+        ensures sink { IfOk result (λ b. b.sink ≡ sink) }
+        ensures empty { IfOk result (λ b. b.buffer.items ≡ []) }
+        ensures room { IfOk result (λ b. b.room ≡ room) }
     {
         match Vec::with_capacity(alloc, room) {
             Ok(buffer) => Ok(BufferedSink { sink, buffer, room }),

@@ -38,7 +38,7 @@ impl MemFolder {
         }
     }
 
-    /// How many names `read` was given.
+    /// The names that `read` was given, in order.
     pub fn asked(&self) -> &[String]
         ensures { result.now ≡ self.now.asked.items }
     {

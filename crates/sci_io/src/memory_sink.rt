@@ -56,7 +56,7 @@ impl MemSink {
 }
 
 impl Sink for MemSink {
-    ghost use Rattle.std.specs.Prelude.{◌≡◌, [], length, true, false, OnErr, OnOk};
+    ghost use Rattle.std.specs.Prelude.{◌≡◌, [], length, true, false, IsOk, OnErr, OnOk};
     ghost use Rattle.sci_io.specs.Taken.{Writes};
     ghost use Rattle.sci_io.specs.Causes.{counted};
     ghost use Rattle.sci_io.specs.Memory.{state_of, sink_fails};
@@ -86,6 +86,7 @@ impl Sink for MemSink {
     fn flush(&mut self) -> Result<(), Failed>
         ensures written { Writes (state_of self.old) (state_of self.new) [] result }
         ensures all { OnOk result ((state_of self.new).held ≡ []) }
+        ensures sure { IsOk result }
         ensures kept { self.new ≡ self.old }
     {
         Ok(())

@@ -19,7 +19,11 @@ pub struct RealFolder<'r, R: Files> {
 }
 
 impl<'r, R: Files> RealFolder<'r, R> {
-    pub fn new(rt: &'r R, alloc: Global) -> Self {
+    /// Nothing asked, no faults.
+    pub fn new(rt: &'r R, alloc: Global) -> Self
+        ensures nothing_asked { result.asked.items ≡ [] }
+        ensures no_faults { result.faults ≡ 0 }
+    {
         RealFolder {
             rt,
             asked: Vec::new(alloc),
@@ -88,7 +92,10 @@ pub struct RealSink<W: Write + Drop> {
 }
 
 impl<W: Write + Drop> RealSink<W> {
-    pub fn new(writer: W) -> Self {
+    /// No faults.
+    pub fn new(writer: W) -> Self
+        ensures { result.faults ≡ 0 }
+    {
         RealSink { writer, faults: 0 }
     }
 }

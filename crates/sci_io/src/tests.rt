@@ -80,9 +80,17 @@ fn the_real_folder_reads_what_was_written(rt: HostRuntime) -> Result<(), Fail> {
 }
 
 #[test]
-fn the_real_sink_takes_a_piece(rt: HostRuntime) -> Result<(), Fail> {
-    let mut out = RealSink::new(rt.stdout());
+fn the_real_sink_writes_its_pieces(rt: HostRuntime) -> Result<(), Fail> {
+    let alloc = rt.alloc();
+    let mut out = RealSink::new(fs::create(&rt, "sci_io_test_sink")?);
     assert!(rt; out.put(b"a line\n").is_ok());
+    assert!(rt; out.put(b"and one more\n").is_ok());
     assert!(rt; out.flush().is_ok());
+    let mut folder = RealFolder::new(&rt, alloc);
+    let Ok(written) = folder.read(alloc, "sci_io_test_sink", 100) else {
+        return Err(Fail::from("not read"));
+    };
+    assert_eq!(rt; written.as_slice(), b"a line\nand one more\n".as_slice());
+    fs::remove_file(&rt, "sci_io_test_sink")?;
     Ok(())
 }

@@ -11,7 +11,7 @@ use Rattle.sci_net.specs.Run.{trace}
 use Rattle.sci_diagram.specs.Objects.{Objects}
 use Rattle.sci_diagram.specs.Reading.{Accepts}
 use Rattle.sci_timers.specs.Timers.{timers_of}
-use Rattle.scicos.specs.Words.{Asked, simulate, Spells, NoCommand, files_of}
+use Rattle.scicos.specs.Words.{Request, simulate, Spells, NoCommand, files_of}
 use Rattle.scicos.specs.Answer.{Answer, usage, read_fault, no_memory, refused, ran, run_status, simulated}
 use Rattle.scicos.specs.Due.{Due, DueOf, DueBehind, Passes}
 use Rattle.scicos.specs.Reached.{ReadsFiles, EarlierPass, AsksFront, ReachesDue, Reaches, ReachesOf}
@@ -19,7 +19,7 @@ use Rattle.scicos.specs.Written.{Took, Cut, Given, CutShort, Written}
 use Rattle.scicos.specs.Headline.{Quiet, GivesDue, NamesFiles, AsksInOrder, AsksAll, Meets}
 
 -- What is due, as the status tells it: a text on out for which all files were read, or a refusal that leaves out alone.
-pub data Kind (c : Asked) (names : List (List ℕ)) (a : Answer) : Type 0 where
+pub data Kind (c : Request) (names : List (List ℕ)) (a : Answer) : Type 0 where
   printed : (a.status ≡ 0) ⊎ (a.status ≡ 6) → names ≡ files_of c → Kind c names a
   turned_down : a.status ≡ 1 → a.out ≡ [] → Kind c names a
 
@@ -33,10 +33,10 @@ status-is h = ap (λ (c : Answer). c.status) h
 pub out-is : {a b : Answer} → a ≡ b → a.out ≡ b.out
 out-is h = ap (λ (c : Answer). c.out) h
 
-pub of_refusal : (c : Asked) (names : List (List ℕ)) (a : Answer) (v : Violation) → a ≡ refused v → Kind c names a
+pub of_refusal : (c : Request) (names : List (List ℕ)) (a : Answer) (v : Violation) → a ≡ refused v → Kind c names a
 of_refusal c names a v h = turned_down (status-is h) (out-is h)
 
-pub of_run : (c : Asked) (names : List (List ℕ)) (a : Answer) (os : List Obs) → a ≡ ran os → names ≡ files_of c → Kind c names a
+pub of_run : (c : Request) (names : List (List ℕ)) (a : Answer) (os : List Obs) → a ≡ ran os → names ≡ files_of c → Kind c names a
 of_run c names a os h all =
     let is : a.status ≡ run_status (stops os) = status-is h in
     printed (elim (status_of_run (stops os)) [ inl s ↦ inl (is ∙ s) | inr s ↦ inr (is ∙ s) ]) all
@@ -45,7 +45,7 @@ pub kind_behind : (files : Files) (o : Objects) (d i : List ℕ) (until limit : 
 kind_behind files o d i until limit names a (inl h) = of_refusal (simulate d i until limit) names a h.0 h.2
 kind_behind files o d i until limit names a (inr h) = of_run (simulate d i until limit) names a (trace (timers_of o) until limit) h.2.0 h.2.1
 
-pub kind_of : (files : Files) (c : Asked) (names : List (List ℕ)) (a : Answer) → DueOf files c names a → Kind c names a
+pub kind_of : (files : Files) (c : Request) (names : List (List ℕ)) (a : Answer) → DueOf files c names a → Kind c names a
 kind_of files (simulate d i until limit) names a (inl h) = of_refusal (simulate d i until limit) names a h.0 h.2
 kind_of files (simulate d i until limit) names a (inr h) = kind_behind files h.0 d i until limit names a h.2
 
@@ -54,18 +54,18 @@ pub front_behind : (old new : FolderState) (o : Objects) (d i : List ℕ) (until
 front_behind old new o d i until limit names a passes (inl h) is = (d ∷ i ∷ [], [], refl, is ∙ ap (λ (l : List (List ℕ)). old.asked ++ l) h.3, (o, passes))
 front_behind old new o d i until limit names a passes (inr h) is = (d ∷ i ∷ [], [], refl, is ∙ ap (λ (l : List (List ℕ)). old.asked ++ l) h.2.1, (o, passes))
 
-pub front_of : (old new : FolderState) (c : Asked) (names : List (List ℕ)) (a : Answer) → DueOf old.files c names a → new.asked ≡ old.asked ++ names → AsksFront old new c
+pub front_of : (old new : FolderState) (c : Request) (names : List (List ℕ)) (a : Answer) → DueOf old.files c names a → new.asked ≡ old.asked ++ names → AsksFront old new c
 front_of old new (simulate d i until limit) names a (inl h) is = (d ∷ [], i ∷ [], refl, is ∙ ap (λ (l : List (List ℕ)). old.asked ++ l) h.3, tt)
 front_of old new (simulate d i until limit) names a (inr h) is = front_behind old new h.0 d i until limit names a h.1 h.2 is
 
 -- what a call came to, with what its status tells
 pub data Came (words : List (List ℕ)) (old new : FolderState) (a : Answer) : Type 0 where
   used : NoCommand words → Due old.files words [] a → new.asked ≡ old.asked → a.status ≡ 2 → a.out ≡ [] → Came words old new a
-  gave : (c : Asked) (names : List (List ℕ)) → Spells words c → Due old.files words names a → new.asked ≡ old.asked ++ names → Kind c names a → Came words old new a
+  gave : (c : Request) (names : List (List ℕ)) → Spells words c → Due old.files words names a → new.asked ≡ old.asked ++ names → Kind c names a → Came words old new a
   faulted : NamesFiles words → Rose old.faults new.faults → a.status ≡ 3 → a.out ≡ [] → Came words old new a
   lacked : NamesFiles words → a.status ≡ 5 → a.out ≡ [] → Came words old new a
 
-pub came_of : (words : List (List ℕ)) (old new : FolderState) (a : Answer) (c : Asked) → Spells words c → ReachesOf old new c a → Came words old new a
+pub came_of : (words : List (List ℕ)) (old new : FolderState) (a : Answer) (c : Request) → Spells words c → ReachesOf old new c a → Came words old new a
 came_of words old new a c spells (inl d) = gave c d.0 spells (inr (c, spells, d.1)) d.2 (kind_of old.files c d.0 a d.1)
 came_of words old new a c spells (inr (inl f)) = faulted (c, spells, f.0) f.1 (status-is f.3) (out-is f.3)
 came_of words old new a c spells (inr (inr m)) = lacked (c, spells, m.0) (status-is m.3) (out-is m.3)
@@ -74,7 +74,7 @@ pub came : (words : List (List ℕ)) (old new : FolderState) (a : Answer) → Re
 came words old new a (inl h) = used h.0 (inl (h.0, h.1, refl)) h.2 (status-is h.1) (out-is h.1)
 came words old new a (inr h) = came_of words old new a h.0 h.1 h.2
 
-pub order_of : (words : List (List ℕ)) (old new : FolderState) (a : Answer) (c : Asked) → Spells words c → ReachesOf old new c a → AsksInOrder words old new
+pub order_of : (words : List (List ℕ)) (old new : FolderState) (a : Answer) (c : Request) → Spells words c → ReachesOf old new c a → AsksInOrder words old new
 order_of words old new a c spells (inl d) = inr (c, spells, front_of old new c d.0 a d.1 d.2)
 order_of words old new a c spells (inr (inl f)) = inr (c, spells, f.2)
 order_of words old new a c spells (inr (inr m)) = inr (c, spells, m.2)
@@ -89,8 +89,8 @@ Split a out out' err err' s = ((s ≡ a.status) × Given out out' a.out × Given
 
 pub split : (a : Answer) (out out' err err' : SinkState) (s : ℕ) → Written a out out' err err' s → Split a out out' err err' s
 split a out out' err err' s (inl h) = inl h
-split a out out' err err' s (inr (inl h)) = inr (h.0, inl h.1.1.1)
-split a out out' err err' s (inr (inr h)) = inr (h.0, inr h.2.1.1)
+split a out out' err err' s (inr (inl h)) = inr (h.0, inl h.1.1.2)
+split a out out' err err' s (inr (inr h)) = inr (h.0, inr h.2.1.2)
 
 pub untouched : (old new : SinkState) (t : List ℕ) → t ≡ [] → Given old new t → new ≡ old
 untouched old new t none (inl h) = h.1
@@ -101,7 +101,7 @@ same_faults old new t (inl h) = ap (λ (s : SinkState). s.faults) h.1
 same_faults old new t (inr h) = h.1.2
 
 -- a status that is not of a printed or refused answer
-pub no_kind : (c : Asked) (names : List (List ℕ)) (a : Answer) → Kind c names a → (a.status ≡ 0 → ⊥) → (a.status ≡ 1 → ⊥) → (a.status ≡ 6 → ⊥) → ⊥
+pub no_kind : (c : Request) (names : List (List ℕ)) (a : Answer) → Kind c names a → (a.status ≡ 0 → ⊥) → (a.status ≡ 1 → ⊥) → (a.status ≡ 6 → ⊥) → ⊥
 no_kind c names a (printed (inl h) all) not0 not1 not6 = not0 h
 no_kind c names a (printed (inr h) all) not0 not1 not6 = not6 h
 no_kind c names a (turned_down h o) not0 not1 not6 = not1 h
@@ -138,7 +138,7 @@ gives_refusal words old new a out out' err err' s (faulted f r t o) (inl w) is =
 gives_refusal words old new a out out' err err' s (lacked f t o) (inl w) is = absurd (omega (arith, w.0, t, is))
 gives_refusal words old new a out out' err err' s cm (inr w) is = absurd (omega (arith, w.0, is))
 
-pub all_of : (words : List (List ℕ)) (old new : FolderState) (a : Answer) (c : Asked) (names : List (List ℕ)) → Spells words c → new.asked ≡ old.asked ++ names → Kind c names a → (a.status ≡ 1 → ⊥) → AsksAll words old new
+pub all_of : (words : List (List ℕ)) (old new : FolderState) (a : Answer) (c : Request) (names : List (List ℕ)) → Spells words c → new.asked ≡ old.asked ++ names → Kind c names a → (a.status ≡ 1 → ⊥) → AsksAll words old new
 all_of words old new a c names spells is (printed h all) not1 = (c, spells, is ∙ ap (λ (l : List (List ℕ)). old.asked ++ l) all)
 all_of words old new a c names spells is (turned_down h o) not1 = absurd (not1 h)
 
@@ -166,7 +166,7 @@ pub no_command_of : (words : List (List ℕ)) (old new : FolderState) (a : Answe
 no_command_of words old new a (inl h) never = status-is h.1
 no_command_of words old new a (inr h) never = absurd (never h.0 h.1)
 
-pub failed_reads : (c : Asked) (old new : FolderState) (a : Answer) → ReachesOf old new c a → old.faults < new.faults → a.status ≡ 3
+pub failed_reads : (c : Request) (old new : FolderState) (a : Answer) → ReachesOf old new c a → old.faults < new.faults → a.status ≡ 3
 failed_reads c old new a (inl d) rose = absurd (omega (arith, d.3, rose))
 failed_reads c old new a (inr (inl f)) rose = status-is f.3
 failed_reads c old new a (inr (inr m)) rose = absurd (omega (arith, m.1, rose))

@@ -7,7 +7,7 @@ use Rattle.sci_io.specs.Files.{Files, FolderState}
 use Rattle.sci_diagram.specs.Objects.{Objects}
 use Rattle.sci_diagram.specs.Reading.{Accepts, Breaks}
 use Rattle.scicos.specs.Inputs.{AcceptsInputs, BreaksInputs}
-use Rattle.scicos.specs.Words.{Asked, simulate, files_of}
+use Rattle.scicos.specs.Words.{Request, simulate, files_of}
 use Rattle.scicos.specs.Answer.{Answer, refused, read_fault, no_memory, simulated}
 use Rattle.scicos.specs.Due.{Passes, Fails}
 use Rattle.scicos.specs.Reached.{AsksFront, ReachesOf}

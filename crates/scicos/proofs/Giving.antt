@@ -14,7 +14,8 @@ use Rattle.sci_trace.specs.Lines.{text, line, stops}
 use Rattle.sci_sim.specs.declared.ready.RunEnd.{RunEnd}
 use Rattle.sci_sim.specs.Ended.{is_stopped}
 use Rattle.scicos.specs.Answer.{Answer, says, ran, run_status, write_fault_line}
-use Rattle.scicos.specs.Written.{Took, Cut, Given, CutShort, Gives, Said, Ran, Finished, Written}
+use Rattle.scicos.specs.Written.{Took, Cut, Given, CutShort, Written}
+use Rattle.scicos.specs.Deliver.{Gives, Said, Ran, Finished}
 
 pub some_text : (t : List ℕ) → 0 < length t → t ≢ []
 some_text t h = λ e. omega (arith, h, ap length e)
@@ -34,14 +35,15 @@ flushed {old = old} {new = new} t r (Ok y) x is first second empty =
     (all_taken (subst (λ (l : List ℕ). Advances old.taken new.taken (old.held ++ t) l) empty w.ok), empty, w.quiet)
 flushed {old = old} {new = new} t r (Err f) x is first second empty =
     let w : Writes old new t (Err f) = same_text (append-nil t) (then_writes t [] r (Err f) x is first second) in
-    (w.cut, w.cause)
+    (w.cut, w.dropped, w.cause)
 
 -- a text was cut, and the sink was not flushed
 pub not_flushed : {T E U F : Type 0} {old new : SinkState} (t : List ℕ) (r : Result T E) (s : Result U F) (e : E) (f : F) → r ≡ Err e → s ≡ Err f → Writes old new t r → Gives old new t s
 not_flushed {old = old} {new = new} t r s e f is was w =
     let cut = subst (λ q. OnErr q (TakesFront old.taken new.taken (old.held ++ t))) is w.cut in
     let rose = subst (λ q. OnErr q (Rose old.faults new.faults)) is w.cause in
-    subst (λ q. Gives old new t q) (sym was) (cut, rose)
+    let none = subst (λ q. OnErr q (new.held ≡ [])) is w.dropped in
+    subst (λ q. Gives old new t q) (sym was) (cut, none, rose)
 
 pub none_given : (s : SinkState) → Given s s []
 none_given s = inl (refl, refl)

@@ -7,12 +7,12 @@ use Rattle.sci_io.specs.Files.{file_named}
 use Rattle.sci_diagram.specs.Objects.{Objects}
 use Rattle.sci_diagram.specs.Reading.{Accepts, Breaks}
 use Rattle.scicos.specs.Inputs.{AcceptsInputs, BreaksInputs}
-use Rattle.scicos.specs.Words.{Asked, simulate, spelled, InBounds, Spells, NoCommand}
+use Rattle.scicos.specs.Words.{Request, simulate, spelled, InBounds, Spells, NoCommand}
 use Rattle.scicos.specs.Answer.{Answer, refused, simulated}
 use Rattle.scicos.specs.Due.{Holds, Passes, Fails, Judged, Due, DueOf, DueBehind, longest, too_long}
 use Rattle.scicos.specs.Laws.{OneAnswer}
 
-pub same_command : (c d : Asked) → InBounds c → InBounds d → spelled c ≡ spelled d → c ≡ d
+pub same_command : (c d : Request) → InBounds c → InBounds d → spelled c ≡ spelled d → c ≡ d
 same_command (simulate d i t n) (simulate d' i' t' n') p q h =
     let dates : decimal t ≡ decimal t' = cc h in
     let counts : decimal n ≡ decimal n' = cc h in
@@ -64,7 +64,7 @@ one_judged breaks accepts which all name read names others a b next next' exact 
     let made : h.0 ≡ k.0 = exact.one_made k.1.0 h.0 k.0 (subst (λ (l : List ℕ). accepts l h.0) same h.1.3) k.1.3 in
     then k.0 (subst next made h.2) k.2
 
-pub one_due_of : (all : List (List ℕ × List ℕ)) (c : Asked) (names others : List (List ℕ)) (a b : Answer) → DueOf (Some all) c names a → DueOf (Some all) c others b → Same a b names others
+pub one_due_of : (all : List (List ℕ × List ℕ)) (c : Request) (names others : List (List ℕ)) (a b : Answer) → DueOf (Some all) c names a → DueOf (Some all) c others b → Same a b names others
 one_due_of all (simulate d i t n) names others a b h k = one_judged Breaks Accepts 1 all d (d ∷ []) names others a b (λ o. DueBehind (Some all) o d i t n names a) (λ o. DueBehind (Some all) o d i t n others b) exact_diagram
     (λ o x y. one_judged BreaksInputs AcceptsInputs 2 all i (d ∷ i ∷ []) names others a b (λ (_ : Unit {0}). (a ≡ simulated o t n) × (names ≡ d ∷ i ∷ [])) (λ (_ : Unit {0}). (b ≡ simulated o t n) × (others ≡ d ∷ i ∷ [])) exact_inputs (λ v p q. (p.0 ∙ sym q.0, p.1 ∙ sym q.1)) x y) h k
 
@@ -74,4 +74,4 @@ one_answer all words names others a b (inl h) (inr k) = absurd (h.0 k.0 k.1)
 one_answer all words names others a b (inr h) (inl k) = absurd (k.0 h.0 h.1)
 one_answer all words names others a b (inr h) (inr k) =
     let same : h.0 ≡ k.0 = same_command h.0 k.0 h.1.1 k.1.1 (sym h.1.0 ∙ k.1.0) in
-    one_due_of all k.0 names others a b (subst (λ (c : Asked). DueOf (Some all) c names a) same h.2) k.2
+    one_due_of all k.0 names others a b (subst (λ (c : Request). DueOf (Some all) c names a) same h.2) k.2

@@ -6,7 +6,7 @@ use Rattle.sci_io.specs.Files.{Files, file_named}
 use Rattle.sci_diagram.specs.Objects.{Objects}
 use Rattle.sci_diagram.specs.Reading.{Accepts, Breaks}
 use Rattle.scicos.specs.Inputs.{AcceptsInputs, BreaksInputs}
-use Rattle.scicos.specs.Words.{Asked, simulate, Spells, NoCommand}
+use Rattle.scicos.specs.Words.{Request, simulate, Spells, NoCommand}
 use Rattle.scicos.specs.Answer.{Answer, usage, refused, simulated}
 
 -- the file of this name holds these bytes, where the folder tells
@@ -40,10 +40,10 @@ DueBehind files diagram d i until limit names a =
     Judged (Fails BreaksInputs 2 files i) (Passes AcceptsInputs files i) (d ∷ i ∷ []) (λ (_ : Unit {0}). (a ≡ simulated diagram until limit) × (names ≡ d ∷ i ∷ [])) names a
 
 -- what is due of a command, after these names were read
-abbrev pub DueOf : Files → Asked → List (List ℕ) → Answer → Type 0
+abbrev pub DueOf : Files → Request → List (List ℕ) → Answer → Type 0
 DueOf files (simulate d i until limit) names a =
     Judged (Fails Breaks 1 files d) (Passes Accepts files d) (d ∷ []) (λ diagram. DueBehind files diagram d i until limit names a) names a
 
 -- The answer that is due of these words, and the names that are read for it.
 abbrev pub Due : Files → List (List ℕ) → List (List ℕ) → Answer → Type 0
-Due files words names a = (NoCommand words × (a ≡ usage) × (names ≡ [])) ⊎ ((c : Asked) × Spells words c × DueOf files c names a)
+Due files words names a = (NoCommand words × (a ≡ usage) × (names ≡ [])) ⊎ ((c : Request) × Spells words c × DueOf files c names a)

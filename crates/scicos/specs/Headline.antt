@@ -1,9 +1,9 @@
 -- What the top call promises of a call of it.
-use Rattle.std.specs.Prelude.{ℕ, ◌≡◌, ◌<◌, ◌⊎◌, ◌++◌, List, []}
+use Rattle.std.specs.Prelude.{ℕ, ◌≡◌, ◌<◌, ◌⊎◌, ◌++◌, List}
 use Rattle.sci_io.specs.Causes.{Rose}
 use Rattle.sci_io.specs.Files.{FolderState}
 use Rattle.sci_io.specs.Taken.{SinkState}
-use Rattle.scicos.specs.Words.{Asked, Spells, NoCommand, files_of}
+use Rattle.scicos.specs.Words.{Request, Spells, NoCommand, files_of}
 use Rattle.scicos.specs.Answer.{Answer}
 use Rattle.scicos.specs.Due.{Due}
 use Rattle.scicos.specs.Reached.{ReadsFiles, AsksFront, Reaches}
@@ -20,15 +20,15 @@ GivesDue words folder folder' out out' err err' status =
 
 -- the words are a command that reads files
 abbrev pub NamesFiles : List (List ℕ) → Type 0
-NamesFiles words = (c : Asked) × Spells words c × ReadsFiles c
+NamesFiles words = (c : Request) × Spells words c × ReadsFiles c
 
 -- nothing was asked for, or a front of the files of the command, a later one only where the earlier pass
 abbrev pub AsksInOrder : List (List ℕ) → FolderState → FolderState → Type 0
-AsksInOrder words folder folder' = (folder'.asked ≡ folder.asked) ⊎ ((c : Asked) × Spells words c × AsksFront folder folder' c)
+AsksInOrder words folder folder' = (folder'.asked ≡ folder.asked) ⊎ ((c : Request) × Spells words c × AsksFront folder folder' c)
 
 -- all the files of the command were asked for
 abbrev pub AsksAll : List (List ℕ) → FolderState → FolderState → Type 0
-AsksAll words folder folder' = (c : Asked) × Spells words c × (folder'.asked ≡ folder.asked ++ files_of c)
+AsksAll words folder folder' = (c : Request) × Spells words c × (folder'.asked ≡ folder.asked ++ files_of c)
 
 -- Of a call on these words, with the folder and the two sinks before and after, and its status.
 pub record Meets (words : List (List ℕ)) (folder folder' : FolderState) (out out' err err' : SinkState) (status : ℕ) : Type 0 where

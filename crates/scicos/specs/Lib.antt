@@ -4,6 +4,7 @@ pub mod Answer
 pub mod Due
 pub mod Reached
 pub mod Written
+pub mod Deliver
 pub mod Look
 pub mod Prepare
 pub mod Headline

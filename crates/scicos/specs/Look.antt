@@ -11,7 +11,7 @@ use Rattle.sci_diagram.specs.Reading.{Accepts, Breaks}
 use Rattle.scicos.specs.Inputs.{AcceptsInputs, BreaksInputs}
 use Rattle.scicos.specs.Due.{Holds, longest, Passes, Fails}
 use Rattle.scicos.specs.declared.look.FileStop.{FileStop}
-use Rattle.scicos.specs.declared.look.FileStop.TheVariants.{TooLong, Failed, NoRoom}
+use Rattle.scicos.specs.declared.look.FileStop.TheVariants.{TooLong, Failed, Memory as NoBytes}
 use Rattle.scicos.specs.declared.look.LookStop.{LookStop}
 use Rattle.scicos.specs.declared.look.LookStop.TheVariants.{Refused, Fault, Memory}
 
@@ -31,7 +31,7 @@ abbrev pub IsFile : FolderState → FolderState → List ℕ → Result (Vec ℕ
 IsFile old new name (Ok bytes) = Holds old.files name bytes.items × (length bytes.items ≤ longest) × Asks old new name
 IsFile old new name (Err TooLong) = ((bytes : List ℕ) × Holds old.files name bytes × (longest < length bytes)) × Asks old new name
 IsFile old new name (Err Failed) = AsksInVain old new name
-IsFile old new name (Err NoRoom) = MayAsk old new name
+IsFile old new name (Err NoBytes) = MayAsk old new name
 
 abbrev pub IsDiagram : FolderState → FolderState → List ℕ → Result Diagram LookStop → Type 0
 IsDiagram old new name (Ok d) = Passes Accepts old.files name (diagram_view d) × Asks old new name

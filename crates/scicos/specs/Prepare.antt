@@ -1,7 +1,7 @@
 -- The answer that a prepared command writes.
 use Rattle.std.specs.Prelude.{◌≡◌, ◌≤◌, ◌^◌, ◌⊎◌, List, ℕ}
-use Rattle.sci_base.specs.Plain.{violation_of}
-use Rattle.sci_io.specs.Files.{Files, FolderState}
+use Rattle.sci_base.specs.Plain.{Violation, violation_of}
+use Rattle.sci_io.specs.Files.{FolderState}
 use Rattle.sci_net.specs.Run.{trace}
 use Rattle.sci_sim.specs.Running.{IsAtStart}
 use Rattle.sci_diagram.specs.Objects.{Objects}
@@ -9,7 +9,6 @@ use Rattle.scicos.specs.Inputs.{AcceptsInputs, BreaksInputs}
 use Rattle.scicos.specs.Answer.{Answer, usage, refused, read_fault, no_memory, ran, simulated}
 use Rattle.scicos.specs.Due.{Passes, Fails}
 use Rattle.scicos.specs.Look.{Asks, AsksInVain, MayAsk}
-use Rattle.sci_base.specs.Plain.{Violation}
 use Rattle.scicos.specs.declared.prepare.Prepared.{Prepared}
 use Rattle.scicos.specs.declared.prepare.Prepared.TheVariants.{Usage, Refused, ReadFault, Memory, Simulate}
 

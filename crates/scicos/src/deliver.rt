@@ -4,7 +4,8 @@ ghost use Rattle.sci_report.specs.Line.{refused_line};
 ghost use Rattle.sci_net.specs.Run.{trace};
 ghost use Rattle.sci_sim.specs.Running.{IsAtStart};
 ghost use Rattle.scicos.specs.Answer.{write_fault_line, usage_line, read_fault_line, no_memory_line};
-ghost use Rattle.scicos.specs.Written.{Gives, Said, Ran, Finished, Written};
+ghost use Rattle.scicos.specs.Written.{Written};
+ghost use Rattle.scicos.specs.Deliver.{Gives, Said, Ran, Finished};
 ghost use Rattle.scicos.specs.Prepare.{answer_of, IsPrepared};
 
 use crate::prepare::Prepared;

@@ -1,8 +1,7 @@
-ghost use Rattle.std.specs.Prelude.{◌≡◌, IfOk};
+ghost use Rattle.std.specs.Prelude.{◌≡◌, ◌↔◌, true, IfOk};
 ghost use Rattle.sci_diagram.specs.Objects.{diagram_view};
 ghost use Rattle.sci_diagram.specs.TimerForm.{IsOfTimers};
 ghost use Rattle.scicos.specs.Inputs.{HasNoColumns};
-ghost use Rattle.std.specs.Prelude.{◌↔◌, true};
 ghost use Rattle.scicos.specs.Look.{IsFile, IsDiagram, AreInputs, IsTooLong};
 
 use sci_base::{Refusal, Rule};
@@ -16,16 +15,22 @@ const LONGEST: usize = 16_777_216;
 /// Why a file's bytes don't come.
 #[derive(Clone, Copy, Debug, PartialEq, Eq)]
 pub enum FileStop {
+    /// It has more bytes than the limit.
     TooLong,
+    /// It could not be read.
     Failed,
-    NoRoom,
+    /// There was no memory for it.
+    Memory,
 }
 
 /// Why a file gives nothing.
 #[derive(Drop)]
 pub enum LookStop {
+    /// It breaks a rule.
     Refused(Refusal),
+    /// It could not be read.
     Fault,
+    /// There was no memory for it.
     Memory,
 }
 
@@ -43,7 +48,7 @@ fn file<F: Folder>(alloc: Global, folder: &mut F, name: &str) -> Result<Vec<u8>,
             }
         }
         Err(ReadEnd::Failed) => Err(FileStop::Failed),
-        Err(ReadEnd::Memory) => Err(FileStop::NoRoom),
+        Err(ReadEnd::Memory) => Err(FileStop::Memory),
     }
 }
 
@@ -52,7 +57,7 @@ fn file_too_long(alloc: Global, which: i64) -> LookStop
     ensures { IsTooLong which result }
 {
     let mut refusal = Refusal::of_the_whole(alloc, Rule::FileTooLong);
-    if refusal.detail.push(which).is_err() || refusal.detail.push(16_777_216).is_err() {
+    if refusal.detail.push(which).is_err() || refusal.detail.push(LONGEST as i64).is_err() {
         return LookStop::Memory;
     }
     LookStop::Refused(refusal)
@@ -72,7 +77,7 @@ pub fn diagram<F: Folder>(alloc: Global, folder: &mut F, name: &str) -> Result<D
         },
         Err(FileStop::TooLong) => Err(file_too_long(alloc, 1)),
         Err(FileStop::Failed) => Err(LookStop::Fault),
-        Err(FileStop::NoRoom) => Err(LookStop::Memory),
+        Err(FileStop::Memory) => Err(LookStop::Memory),
     }
 }
 
@@ -97,6 +102,6 @@ pub fn inputs<F: Folder>(alloc: Global, folder: &mut F, name: &str) -> Result<()
         }
         Err(FileStop::TooLong) => Err(file_too_long(alloc, 2)),
         Err(FileStop::Failed) => Err(LookStop::Fault),
-        Err(FileStop::NoRoom) => Err(LookStop::Memory),
+        Err(FileStop::Memory) => Err(LookStop::Memory),
     }
 }

@@ -13,24 +13,27 @@ mod words;
 
 use sci_io::{BufferedSink, RealFolder, RealSink, Sink};
 use std::env;
+use std::io::ErrorKind;
 use std::process::ExitCode;
 
 /// The room of the buffer before standard output, in bytes.
 const ROOM: usize = 65_536;
 
+/// That of the buffer before standard error, which takes one line.
+const LINE_ROOM: usize = 256;
+
 fn main(rt: HostRuntime) -> ExitCode {
     let alloc = rt.alloc();
     let words = match env::args(&rt) {
-        Ok(args) => args.skip(1).collect::<Vec<String>>(alloc),
+        Ok(args) => args.skip(1).collect::<Vec<String>>(alloc).ok(),
         // A word that is no UTF-8 is no word of a command.
-        Err(_) => Ok(Vec::new(alloc)),
+        Err(error) if error.kind() != ErrorKind::OutOfMemory => Some(Vec::new(alloc)),
+        Err(_) => None,
     };
-    let mut err = RealSink::new(rt.stderr());
-    let (Ok(words), Ok(mut out)) = (
-        words,
-        BufferedSink::new(alloc, RealSink::new(rt.stdout()), ROOM),
-    ) else {
-        let _ = err.put("out of memory\n".as_bytes());
+    let out = BufferedSink::new(alloc, RealSink::new(rt.stdout()), ROOM);
+    let err = BufferedSink::new(alloc, RealSink::new(rt.stderr()), LINE_ROOM);
+    let (Some(words), Ok(mut out), Ok(mut err)) = (words, out, err) else {
+        let _ = RealSink::new(rt.stderr()).put("out of memory\n".as_bytes());
         return ExitCode::from(5);
     };
     let mut folder = RealFolder::new(&rt, alloc);
