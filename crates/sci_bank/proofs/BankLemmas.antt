@@ -1,20 +1,16 @@
 -- What the banks' code is proved by: the outputs, the state, the instances, the banks of a library, and reads of the inputs.
-use Rattle.std.proofs.Common.{◌≡◌, ◌≢◌, ℕ, zero, suc, ◌+◌, ◌-◌, ◌*◌, ◌/◌, ◌<◌, ◌≤◌, ℤ, pos, List, [], ◌∷◌, ◌++◌, length, Bool, true, false, refl, ap, sym, ◌∙◌, arith, rules, subst, inl, inr, ◌⊎◌, set, take, get_or, add-one, map, Some, min, negsuc, ◌≤ℤ◌, FitsSigned, w64, to_z, of_z, Option}
-use Rattle.std.specs.List.{sum_by}
-use Rattle.std.proofs.lemmas.List.Sums.{sum_by-append}
-use Rattle.std.proofs.Math.Seq.{map-set_same}
-use Rattle.std.proofs.lemmas.List.{take_more, take_all, map-set, get_or-map, length-map, get_or_default, get_or_append_left, get_or_push, length-append, length-set, get_or-set_same, get_or-set_other, take_more_set, get_or-take}
+use Rattle.std.proofs.Common.{◌≡◌, ◌≢◌, ℕ, zero, suc, ◌+◌, ◌<◌, ◌≤◌, ℤ, pos, List, [], ◌∷◌, ◌++◌, length, true, false, refl, ap, sym, ◌∙◌, arith, subst, inl, inr, set, take, get_or, add-one, negsuc, ◌≤ℤ◌, FitsSigned, w64, to_z, of_z, Option}
+use Rattle.std.proofs.lemmas.List.{get_or_default, get_or_append_left, get_or_push, length-append, length-set, get_or-set_same, get_or-set_other, take_more_set, get_or-take}
 use Rattle.std.proofs.lemmas.Bool.{cases_lt, cases_eq}
 use Rattle.std.proofs.lemmas.Grind.{get_or-set_at}
 use Rattle.std.specs.Prelude.{int_div}
 use Rattle.std.proofs.lemmas.Int.{ints, quot_is}
 use Rattle.std.proofs.Math.Nat.{div-le_self}
-use Rattle.std.proofs.lemmas.Nat.{mul-add-lt}
 use Rattle.sci_base.specs.declared.Ty.{Ty}
 use Rattle.sci_base.specs.declared.Mode.{Mode}
 use Rattle.sci_base.proofs.FitLemmas.{low_at_least, high_at_most}
 use Rattle.sci_base.specs.Fit.{InRange, fit, int_eq}
-use Rattle.sci_base.specs.Lists.{at, listed}
+use Rattle.sci_base.specs.Lists.{at}
 use Rattle.sci_forms.specs.declared.Kind.{Kind}
 use Rattle.sci_forms.specs.declared.spec.Spec.{Spec}
 use Rattle.sci_forms.specs.Ports.{total, type_at, Fills}
@@ -26,13 +22,13 @@ use Rattle.sci_kinds.proofs.TypedLemmas.{Tests, tests}
 use Rattle.sci_kinds.specs.declared.Cell.{Cell}
 use Rattle.sci_kinds.specs.declared.Cell.TheVariants.{Value, Overflow, Zero}
 use Rattle.sci_kinds.specs.Asks.{Asks, IsState, IsMask, entering_of, entering, IsAlikeSpec}
-use Rattle.sci_kinds.specs.Table.{gathered, then_cell, cell, cell_of, out, Answer, Values, NoFit, NoQuotient, next, next_of, state_len, first_state, fitted, quotient_cell, input}
-use Rattle.sci_kinds.proofs.Elements.{gathered_values, listed_is, total_alike, total_one, input_in_range}
+use Rattle.sci_kinds.specs.Table.{gathered, then_cell, cell, cell_of, out, Answer, Values, NoFit, NoQuotient, next, next_of, state_len, fitted, quotient_cell, input}
+use Rattle.sci_kinds.proofs.Elements.{gathered_values, listed_is, total_one, input_in_range}
 use Rattle.sci_kinds.proofs.Ranges.{cell_in_range, elem}
 use Rattle.sci_kinds.proofs.LawLemmas.{next_ahead, next_in_range, IsState-next, IsState-first_state}
 use Rattle.sci_kinds.proofs.LawProofs.{asks}
 use Rattle.sci_bank.specs.declared.rows.Row.{Row}
-use Rattle.sci_bank.specs.Bank.{row_in, no_row, AreRows, IsOfKind, first_row, row_after_update, Tells, Meaning, no_bank, after_add, row_at}
+use Rattle.sci_bank.specs.Bank.{row_in, no_row, AreRows, IsOfKind, first_row, row_after_update, Tells}
 use Rattle.sci_bank.specs.declared.Fate.TheVariants as Fate
 
 -- ---- the outputs, element by element
@@ -44,9 +40,9 @@ gathered_more f outs i v h e p = rw (take_more_set outs i v p, add-one, h, e) re
 gathered_stays : (f : ℕ → Cell) (a : Answer) (i n : ℕ) → ((c : Cell) → then_cell a c ≡ a) → gathered f i ≡ a → i ≤ n → gathered f n ≡ a
 gathered_stays f a i zero stop h p = let z : i ≡ 0 = omega (arith, p) in rw z at h
 gathered_stays f a i (suc n) stop h p = elim (cases_lt n i) [
-    inl l ↦ let z : i ≡ suc n = omega (arith, p, l) in rw z at h
+  | inl l ↦ let z : i ≡ suc n = omega (arith, p, l) in rw z at h
   | inr r ↦ rw (gathered_stays f a i n stop h r) (stop (f n))
-  ]
+]
 
 -- an element without a value stops the rest
 pub gathered_overflow : (f : ℕ → Cell) (ws : List ℤ) (i n : ℕ) → gathered f i ≡ Values ws → f i ≡ Overflow → i < n → gathered f n ≡ NoFit
@@ -75,10 +71,11 @@ filled_so_far k s x m u old new i t st mk f len few h rest before =
     record {
       enough = len;
       in_range = λ e p. elim (cases_lt e i) [
-          inl l ↦ cell_in_range s.kind s x m u refl (subst (λ q. Asks q s) (sym t.kind_is) t.asks) st mk (subst (λ q. Fills (entering_of q s) u) (sym t.kind_is) f) e (at new e) p
-              (g.1 e l ∙ ap Value (get_or-take i new e (pos 0) l))
+        | inl l ↦ cell_in_range s.kind s x m u refl (subst (λ q. Asks q s) (sym t.kind_is) t.asks) st mk (subst (λ q. Fills (entering_of q s) u) (sym t.kind_is) f) e (at new e) p
+            (g.1 e l ∙ ap Value (get_or-take i new e (pos 0) l))
         | inr r ↦ subst (InRange (type_at s.outs e)) (sym (rest e r)) (before.in_range e p)
-      ] }
+      ];
+    }
 
 -- ---- the state, number by number
 
@@ -90,12 +87,13 @@ pub record IsStepped (s : Spec) (x y : List ℤ) (m : ℕ) (u : List ℤ) (n : �
 
 pub IsState-stepped : (k : Kind) (s : Spec) (x y : List ℤ) (m : ℕ) (u : List ℤ) (n : ℕ) → IsOfKind k s → IsState s x → Fills (entering_of k s) u → IsStepped s x y m u n → IsState s y
 IsState-stepped k s x y m u n t st f p = record {
-    enough = p.len ∙ st.enough;
-    in_range = λ i h. elim (cases_lt i n) [
-        inl l ↦ subst (InRange (out_type s)) (sym (p.done i l))
-            (next_in_range s.kind s x m u refl (subst (λ q. Asks q s) (sym t.kind_is) t.asks) st (subst (λ q. Fills (entering_of q s) u) (sym t.kind_is) f) i h)
-      | inr r ↦ subst (InRange (out_type s)) (sym (p.ahead i r)) (st.in_range i h)
-    ] }
+  enough = p.len ∙ st.enough;
+  in_range = λ i h. elim (cases_lt i n) [
+    | inl l ↦ subst (InRange (out_type s)) (sym (p.done i l))
+        (next_in_range s.kind s x m u refl (subst (λ q. Asks q s) (sym t.kind_is) t.asks) st (subst (λ q. Fills (entering_of q s) u) (sym t.kind_is) f) i h)
+    | inr r ↦ subst (InRange (out_type s)) (sym (p.ahead i r)) (st.in_range i h)
+  ];
+}
 
 -- one more number is stepped, from the numbers at it and after alone
 pub step_more : (k : Kind) (s : Spec) (x y : List ℤ) (m : ℕ) (u : List ℤ) (n : ℕ) (v : ℤ) → s.kind ≡ k → IsState s x → n < length y → IsStepped s x y m u n → v ≡ next_of k s y m u n → IsStepped s x (set y n v) m u (n + 1)
@@ -105,10 +103,11 @@ step_more k s x y m u n v e st l p h =
     record {
       len = length-set y n v ∙ p.len;
       done = λ i q. elim (cases_lt i n) [
-          inl b ↦ get_or-set_other y n i v (pos 0) (λ d. absurd (omega (arith, b, d))) ∙ p.done i b
+        | inl b ↦ get_or-set_other y n i v (pos 0) (λ d. absurd (omega (arith, b, d))) ∙ p.done i b
         | inr b ↦ let same : i ≡ n = omega (arith, q, b) in rw same (get_or-set_same y n v (pos 0) l ∙ is_next)
       ];
-      ahead = λ i q. get_or-set_other y n i v (pos 0) (λ d. absurd (omega (arith, q, d))) ∙ p.ahead i (omega (arith, q)) }
+      ahead = λ i q. get_or-set_other y n i v (pos 0) (λ d. absurd (omega (arith, q, d))) ∙ p.ahead i (omega (arith, q));
+    }
 
 pub stepped_all : (s : Spec) (x y : List ℤ) (m : ℕ) (u : List ℤ) (n : ℕ) → IsState s x → length y ≤ n → IsStepped s x y m u n → y ≡ next s x m u
 stepped_all s x y m u n st l p =
@@ -120,30 +119,32 @@ each_push : {X : Type 0} (P : X → Type 0) (xs : List X) (x d : X) → ((k : �
 each_push P xs x d h p k q =
     let len : length (xs ++ x ∷ []) ≡ length xs + 1 = length-append xs (x ∷ []) in
     elim (cases_lt k (length xs)) [
-        inl l ↦ subst P (sym (get_or_append_left xs (x ∷ []) d k l)) (h k l)
+      | inl l ↦ subst P (sym (get_or_append_left xs (x ∷ []) d k l)) (h k l)
       | inr r ↦ subst P (sym (get_or_push xs x d k (omega (arith, q, len, r)))) p
     ]
 
 each_set : {X : Type 0} (P : X → Type 0) (xs : List X) (i : ℕ) (y d : X) → i < length xs → ((k : ℕ) → k < length xs → P (get_or xs k d)) → P y → (k : ℕ) → k < length (set xs i y) → P (get_or (set xs i y) k d)
 each_set P xs i y d b h p k q = elim (cases_eq k i) [
-    inl l ↦ subst P (sym (get_or-set_at xs i k y d l b)) p
+  | inl l ↦ subst P (sym (get_or-set_at xs i k y d l b)) p
   | inr r ↦ subst P (sym (get_or-set_other xs i k y d r)) (h k (subst (λ n. k < n) (length-set xs i y) q))
-  ]
+]
 
 pub AreRows-push : (k : Kind) (rows : List Row) (s : Spec) → AreRows k rows → typed s ≡ true → s.kind ≡ k → AreRows k (rows ++ first_row s ∷ [])
 AreRows-push k rows s a t e = record {
-    typed_specs = each_push (λ (r : Row). typed r.spec ≡ true) rows (first_row s) no_row a.typed_specs t;
-    of_kind = each_push (λ (r : Row). r.spec.kind ≡ k) rows (first_row s) no_row a.of_kind e;
-    states = each_push (λ (r : Row). IsState r.spec r.state) rows (first_row s) no_row a.states (IsState-first_state s (asks s t)) }
+  typed_specs = each_push (λ (r : Row). typed r.spec ≡ true) rows (first_row s) no_row a.typed_specs t;
+  of_kind = each_push (λ (r : Row). r.spec.kind ≡ k) rows (first_row s) no_row a.of_kind e;
+  states = each_push (λ (r : Row). IsState r.spec r.state) rows (first_row s) no_row a.states (IsState-first_state s (asks s t));
+}
 
 pub AreRows-set : (k : Kind) (rows : List Row) (slot m : ℕ) (u : List ℤ) → AreRows k rows → slot < length rows → Fills (entering (row_in rows slot).spec) u → AreRows k (set rows slot (row_after_update (row_in rows slot) m u))
 AreRows-set k rows slot m u a p f =
     let r = row_in rows slot in
     let y = row_after_update r m u in
     record {
-        typed_specs = each_set (λ (r : Row). typed r.spec ≡ true) rows slot y no_row p a.typed_specs (a.typed_specs slot p);
-        of_kind = each_set (λ (r : Row). r.spec.kind ≡ k) rows slot y no_row p a.of_kind (a.of_kind slot p);
-        states = each_set (λ (r : Row). IsState r.spec r.state) rows slot y no_row p a.states (IsState-next r.spec (asks r.spec (a.typed_specs slot p)) r.state m u (a.states slot p) f) }
+      typed_specs = each_set (λ (r : Row). typed r.spec ≡ true) rows slot y no_row p a.typed_specs (a.typed_specs slot p);
+      of_kind = each_set (λ (r : Row). r.spec.kind ≡ k) rows slot y no_row p a.of_kind (a.of_kind slot p);
+      states = each_set (λ (r : Row). IsState r.spec r.state) rows slot y no_row p a.states (IsState-next r.spec (asks r.spec (a.typed_specs slot p)) r.state m u (a.states slot p) f);
+    }
 
 -- a typed spec of a kind has what the kind asks
 pub IsOfKind-spec : (k : Kind) (s : Spec) → typed s ≡ true → s.kind ≡ k → IsOfKind k s

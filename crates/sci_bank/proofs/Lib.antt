@@ -1,2 +1,3 @@
 pub mod BankLemmas
 pub mod LibraryLemmas
+pub mod CallLemmas

@@ -1,15 +1,15 @@
 -- What a call through a library leaves: one bank is changed, the others stay, and a full library stays full.
-use Rattle.std.proofs.Common.{◌≡◌, ◌≢◌, ℕ, ◌+◌, ◌-◌, ◌<◌, ◌≤◌, List, [], ◌∷◌, ◌++◌, length, refl, ap, sym, ◌∙◌, arith, subst, inl, inr, set, take, get_or, map, Some, None, Option, min, Bool, true, false, cond, Result, Ok, Err}
+use Rattle.std.proofs.Common.{◌≡◌, ℕ, ◌+◌, ◌<◌, ◌≤◌, List, [], ◌∷◌, ◌++◌, length, refl, ap, sym, ◌∙◌, arith, subst, inl, inr, set, take, get_or, map, Some, None, min, Bool, true, false, cond, Result, Ok, Err}
 use Rattle.std.specs.Prelude.{IfOk, OnErr, nat_lt}
 use Rattle.std.specs.List.{sum_by}
 use Rattle.std.proofs.lemmas.List.Sums.{sum_by-append}
 use Rattle.std.proofs.Math.Seq.{map-set_same}
-use Rattle.std.proofs.lemmas.List.{take_more, take_all, map-set, get_or-map, length-map, get_or_append_left, get_or_push, length-append, length-set, get_or-set_same, get_or-set_other, map-append}
+use Rattle.std.proofs.lemmas.List.{take_more, take_all, map-set, get_or-map, length-map, get_or_append_left, get_or_push, length-append, length-set, get_or-set_other, map-append}
 use Rattle.std.proofs.lemmas.Bool.{cases_lt, cases_eq}
 use Rattle.std.proofs.lemmas.Grind.{get_or-set_at}
 use Rattle.sci_forms.specs.declared.Kind.{Kind}
 use Rattle.sci_forms.specs.declared.Kind.TheVariants.{Const, Summation, GainBlk, Product, AbsValue, Signum, MaxMin, Saturation, DeadBand, Convert, Mux, Demux, Extractor, LogicalOp, RelationalOp, Shift, BitSet, BitClear, ExtractBits, Switch2, Select, Logic, AndLog, Dollar, SampHold, Register, ModuloCount, GatedDelay, Sensor, EvtDly, EvtVarDly, IfThEl, ESelect, Halt}
-use Rattle.sci_forms.specs.Names.{kind_at, number_of}
+use Rattle.sci_forms.specs.Names.{kind_at}
 use Rattle.sci_bank.specs.Bank.{Meaning, no_bank}
 use Rattle.sci_bank.specs.Library.{built, place_of, bank_of, with_bank, Holds, AreInOrder, IsFull, next_of}
 
@@ -43,7 +43,7 @@ sum_by-cons f x xs = sum_by-append f (x ∷ []) xs ∙ ap (λ n. n + sum_by f xs
 pub total_more : {X : Type 0} (f : X → ℕ) (xs : List X) (i : ℕ) (x : X) (all b new most : ℕ) → i < length xs → x ≡ get_or xs i x → all ≡ min (sum_by f (take i xs)) most → b ≡ f x → new ≡ min (all + b) most → new ≡ min (sum_by f (take (i + 1) xs)) most
 total_more f xs i x all b new most p e a c n =
     let s : sum_by f (take (i + 1) xs) ≡ sum_by f (take i xs) + f x =
-        ap (sum_by f) (take_more xs i x p) ∙ sum_by-append f (take i xs) (get_or xs i x ∷ []) ∙ ap (λ m. sum_by f (take i xs) + m) (sum_by-one f (get_or xs i x) ∙ ap f (sym e)) in
+    ap (sum_by f) (take_more xs i x p) ∙ sum_by-append f (take i xs) (get_or xs i x ∷ []) ∙ ap (λ m. sum_by f (take i xs) + m) (sum_by-one f (get_or xs i x) ∙ ap f (sym e)) in
     rw s (omega (arith, a, c, n))
 
 sum_by-map : {X M : Type 0} (g : X → M) (f : M → ℕ) (xs : List X) → sum_by f (map g xs) ≡ sum_by (λ x. f (g x)) xs
@@ -58,20 +58,21 @@ total_all g f xs i all most p a = rw (sum_by-map g f xs) (rw (take_all i xs p) a
 -- a bank is replaced by one of the same kind
 pub IsFull-with_bank : (banks new : List Meaning) (k : Kind) (b : Meaning) → Holds banks k → b.kind ≡ (bank_of banks k).kind → new ≡ with_bank banks k b → IsFull banks → IsFull new
 IsFull-with_bank banks new k b h e n f = rw n (record {
-    all = length-set banks (place_of k) b ∙ f.all;
-    in_order = λ i l. elim (cases_eq i (place_of k)) [
-        inl q ↦ f.in_order i (subst (λ n. i < n) (length-set banks (place_of k) b) l)
-            ∙ ap Some (ap (λ j. (get_or banks j no_bank).kind) q ∙ sym e ∙ ap (λ (m : Meaning). m.kind) (sym (get_or-set_at banks (place_of k) i b no_bank q h)))
-      | inr q ↦ f.in_order i (subst (λ n. i < n) (length-set banks (place_of k) b) l)
-            ∙ ap (λ (m : Meaning). Some m.kind) (sym (get_or-set_other banks (place_of k) i b no_bank q))
-    ] })
+  all = length-set banks (place_of k) b ∙ f.all;
+  in_order = λ i l. elim (cases_eq i (place_of k)) [
+    | inl q ↦ f.in_order i (subst (λ n. i < n) (length-set banks (place_of k) b) l)
+        ∙ ap Some (ap (λ j. (get_or banks j no_bank).kind) q ∙ sym e ∙ ap (λ (m : Meaning). m.kind) (sym (get_or-set_at banks (place_of k) i b no_bank q h)))
+    | inr q ↦ f.in_order i (subst (λ n. i < n) (length-set banks (place_of k) b) l)
+        ∙ ap (λ (m : Meaning). Some m.kind) (sym (get_or-set_other banks (place_of k) i b no_bank q))
+  ];
+})
 
 -- one more bank, of the next kind
 pub AreInOrder-push : (banks new : List Meaning) (b : Meaning) → AreInOrder banks → kind_at (length banks + 1) ≡ Some b.kind → new ≡ banks ++ b ∷ [] → AreInOrder new
 AreInOrder-push banks new b o e n = rw n (λ i l.
     let len : length (banks ++ b ∷ []) ≡ length banks + 1 = length-append banks (b ∷ []) in
     elim (cases_lt i (length banks)) [
-        inl p ↦ o i p ∙ ap (λ (m : Meaning). Some m.kind) (sym (get_or_append_left banks (b ∷ []) no_bank i p))
+      | inl p ↦ o i p ∙ ap (λ (m : Meaning). Some m.kind) (sym (get_or_append_left banks (b ∷ []) no_bank i p))
       | inr p ↦ let q : i ≡ length banks = omega (arith, l, len, p) in rw q (e ∙ ap (λ (m : Meaning). Some m.kind) (sym (get_or_push banks b no_bank (length banks) refl)))
     ])
 

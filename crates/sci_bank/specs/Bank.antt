@@ -1,5 +1,8 @@
 -- What a bank means: the instances of one kind, each with its spec and its state, and the calls of `out`.
 use Rattle.std.specs.Prelude.{◌≡◌, ℕ, ◌+◌, ◌<◌, ◌≤◌, min, true, false, List, ℤ, length, slice_index_or, slice_set, [], ◌∷◌, ◌++◌}
+use Rattle.sci_base.specs.declared.Ty.{Ty}
+use Rattle.sci_base.specs.Fit.{InRange}
+use Rattle.sci_base.specs.Lists.{at}
 use Rattle.sci_forms.specs.declared.Kind.{Kind}
 use Rattle.sci_forms.specs.declared.Kind.TheVariants.{Const}
 use Rattle.sci_forms.specs.declared.spec.Spec.{Spec}
@@ -90,3 +93,8 @@ pub record IsOfKind (kind : Kind) (s : Spec) : Type 0 where
   pub is_typed : typed s ≡ true
   pub asks : Asks kind s
   pub small : size s ≤ 256
+
+-- n values from start on are there, and in range of the type
+pub record RunFits (t : Ty) (vs : List ℤ) (start n : ℕ) : Type 0 where
+  pub within : start + n ≤ length vs
+  pub in_range : (i : ℕ) → i < n → InRange t (at vs (start + i))

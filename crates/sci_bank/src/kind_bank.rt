@@ -5,9 +5,9 @@ ghost use Rattle.sci_kinds.specs.Asks.{IsState, IsMask, entering_of};
 ghost use Rattle.sci_kinds.specs.Table.{branch, delay, out, state_len, first_state, next};
 ghost use Rattle.sci_bank.specs.Bank.{Meaning, IsOfKind, Tells, Held, row_in, row_after_update};
 
-use crate::{Bank, Fate};
 use crate::rows::Row;
 use crate::rule::Rule;
+use crate::{Bank, Fate};
 use sci_base::Ints;
 use sci_kinds::{Cell, Kind, Spec};
 use std::alloc::{AllocError, Global};
@@ -56,7 +56,14 @@ impl<R: Rule> KindBank<R> {
 }
 
 /// Fills the outputs of one instance.
-fn fill<R: Rule>(rule: &R, spec: &Spec, state: &Ints, mask: u64, ins: &[i64], outs: &mut [i64]) -> Fate
+fn fill<R: Rule>(
+    rule: &R,
+    spec: &Spec,
+    state: &Ints,
+    mask: u64,
+    ins: &[i64],
+    outs: &mut [i64],
+) -> Fate
     requires typed { IsOfKind R.kind spec.now }
     requires state { IsState spec.now state.now }
     requires mask { IsMask spec.now mask }

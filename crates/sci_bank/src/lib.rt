@@ -14,6 +14,7 @@ use sci_kinds::{Kind, Spec};
 use std::alloc::AllocError;
 
 mod boxed;
+pub mod calls;
 pub mod kind_bank;
 pub mod library;
 pub mod plain;

@@ -58,7 +58,11 @@ pub fn input(spec: &Spec, ins: &[i64], k: usize, e: usize) -> i64
     ensures { result ≡ input (size spec.now) ins.now k e }
 {
     let place = k as u128 * spec.outs.port(0).elements() + e as u128;
-    if place < ins.len() as u128 { ins[place as usize] } else { 0 }
+    if place < ins.len() as u128 {
+        ins[place as usize]
+    } else {
+        0
+    }
 }
 
 /// The same, and its range, of a block whose ports all have the type and the size of the first output.

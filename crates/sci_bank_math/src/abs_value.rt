@@ -22,7 +22,11 @@ fn abs_cell(t: Ty, m: Mode, v: i64) -> Cell
     requires { InRange t v }
     ensures { result ≡ abs_cell t m v }
 {
-    if v < 0 { cell_of(fit(t, m, 0 - v)) } else { Cell::Value(v) }
+    if v < 0 {
+        cell_of(fit(t, m, 0 - v))
+    } else {
+        Cell::Value(v)
+    }
 }
 
 impl CellRule for AbsValueRule {

@@ -4,7 +4,7 @@ ghost use Rattle.sci_forms.specs.declared.Kind.TheVariants.{Demux as DemuxKind};
 
 use sci_bank::kind_bank::KindBank;
 use sci_bank::plain::{CellRule, Plain};
-use sci_bank::words::{element};
+use sci_bank::words::element;
 use sci_kinds::{Cell, Kind, Spec};
 
 /// One element of the output.

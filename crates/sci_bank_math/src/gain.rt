@@ -26,7 +26,12 @@ impl CellRule for GainBlkRule {
     }
 
     fn cell(&self, spec: &Spec, _mask: u64, ins: &[i64], at: usize) -> Cell {
-        mul_cell(out_type(spec), mode(spec), param(spec, 1), only_input(spec, ins, at))
+        mul_cell(
+            out_type(spec),
+            mode(spec),
+            param(spec, 1),
+            only_input(spec, ins, at),
+        )
     }
 
     ghost no_state = { λ s. refl };

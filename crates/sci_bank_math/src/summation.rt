@@ -31,7 +31,11 @@ fn signed_term(spec: &Spec, ins: &[i64], k: usize, at: usize) -> i64
     ensures high { result ≤ℤ pos 4294967296 }
 {
     let u = alike_input(spec, ins, k, at);
-    if is_equal(param(spec, k + 1), 1) { u } else { -u }
+    if is_equal(param(spec, k + 1), 1) {
+        u
+    } else {
+        -u
+    }
 }
 
 /// The exact sum at one element.

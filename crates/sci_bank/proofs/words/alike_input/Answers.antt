@@ -1,4 +1,4 @@
-use Rattle.std.proofs.Common.{◌≡◌, sym, subst, FitsSigned, w64, rules}
+use Rattle.std.proofs.Common.{sym, subst, FitsSigned, w64, rules}
 use Rattle.std.proofs.lemmas.Int.{to_z-of_z}
 use Rattle.sci_base.specs.Fit.{InRange}
 use Rattle.sci_forms.specs.Words.{out_type}

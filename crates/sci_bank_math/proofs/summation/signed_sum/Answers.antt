@@ -16,10 +16,11 @@ loop-k-preserved c =
     let b = c.loop-k.invariant.2 in
     let few = c.requires.typed.asks.2 in
     let fits : to_z w64 (of_z w64 (to_z w64 c.loop-k.sum-bits +ℤ to_z w64 (of_z w64 c.signed_term-sum.result))) ≡ to_z w64 c.loop-k.sum-bits +ℤ c.signed_term-sum.result = omega (arith, ints) in
-    rw fits
-        (sum_more _ c.loop-k.k (to_z w64 c.loop-k.sum-bits) c.signed_term-sum.result c.loop-k.invariant.0 c.signed_term-sum.ensures.value
-        , omega (arith, ints)
-        , omega (arith, ints))
+    rw fits (
+      sum_more _ c.loop-k.k (to_z w64 c.loop-k.sum-bits) c.signed_term-sum.result c.loop-k.invariant.0 c.signed_term-sum.ensures.value,
+      omega (arith, ints),
+      omega (arith, ints),
+    )
 
 pub returns : goal.returns
 returns c =

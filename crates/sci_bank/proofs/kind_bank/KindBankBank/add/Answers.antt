@@ -1,4 +1,4 @@
-use Rattle.std.proofs.Common.{◌≡◌, ◌≢◌, ◌∙◌, sym, refl, length}
+use Rattle.std.proofs.Common.{◌∙◌, sym, refl}
 use Rattle.sci_bank.proofs.BankLemmas.{AreRows-push, starts_of}
 use Rattle.sci_bank.proofs.kind_bank.KindBankBank.add.Goals as goal
 

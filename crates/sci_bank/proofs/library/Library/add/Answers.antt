@@ -6,10 +6,11 @@ use Rattle.sci_bank.proofs.library.Library.add.Goals as goal
 
 pub returns-clause-added : goal.returns-clause-added
 returns-clause-added g c =
-    IfOk-weaker c.add.result _ _ (λ slot h.
-        (h.0 ∙ ap (λ (b : Meaning). length b.rows) (view_of _ _ _ _ _ no_bank c.place.ensures c.requires.known c.index_mut.ensures.value)
-        , bank_changed _ (λ (b : Meaning). after_add b c.args.spec.now) _ _ _ _ _ c.place.ensures c.requires.known c.index_mut.ensures.value h.1))
-        c.add.ensures.added
+    IfOk-weaker c.add.result _ _ (λ slot h. (
+      h.0 ∙ ap (λ (b : Meaning). length b.rows) (view_of _ _ _ _ _ no_bank c.place.ensures c.requires.known c.index_mut.ensures.value),
+      bank_changed _ (λ (b : Meaning). after_add b c.args.spec.now) _ _ _ _ _ c.place.ensures c.requires.known c.index_mut.ensures.value h.1,
+    ))
+    c.add.ensures.added
 
 pub returns-clause-kept : goal.returns-clause-kept
 returns-clause-kept g c = on_err_weaker c.add.result (λ h. map-set_kept _ _ _ _ _ c.index_mut.ensures.value h) c.add.ensures.kept

@@ -1,4 +1,4 @@
-use Rattle.std.proofs.Common.{◌≡◌, ◌∙◌, arith, sym}
+use Rattle.std.proofs.Common.{arith}
 use Rattle.sci_bank.specs.Bank.{Meaning}
 use Rattle.sci_bank.proofs.LibraryLemmas.{total_more, total_all}
 use Rattle.sci_bank.proofs.library.Library.outs.Goals as goal

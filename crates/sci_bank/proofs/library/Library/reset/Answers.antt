@@ -1,5 +1,5 @@
 use Rattle.std.proofs.Common.{refl}
-use Rattle.sci_bank.specs.Bank.{Meaning, after_reset}
+use Rattle.sci_bank.specs.Bank.{after_reset}
 use Rattle.sci_bank.proofs.LibraryLemmas.{bank_changed, stays_full}
 use Rattle.sci_bank.proofs.library.Library.reset.Goals as goal
 
