@@ -4,3 +4,4 @@ mod Giving
 mod Coming
 mod Causes
 mod OneAnswer
+mod SomeAnswer

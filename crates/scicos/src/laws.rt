@@ -1,6 +1,11 @@
-ghost use Rattle.scicos.specs.Laws.{OneAnswer};
+ghost use Rattle.scicos.specs.Laws.{OneAnswer, SomeAnswer};
 
-/// Where the files are told, one answer is due of the words, with one list of names that are read for it.
+/// Where the files are told, at most one answer is due of the words, with one list of names that are read for it.
 pub fn one_answer_is_due()
     ensures { OneAnswer }
+{}
+
+/// Where both files of a simulation are there, an answer is due.
+pub fn an_answer_is_due()
+    ensures { SomeAnswer }
 {}
