@@ -1,9 +1,9 @@
 // The agenda by a wheel.
-ghost use Rattle.std.specs.Prelude.{◌≡◌, ◌≢◌, ℕ, ◌<◌, ◌≤◌, ◌+◌, ◌/◌, ◌*◌, true, Some, None, List, [], length, IfOk, IfSome};
+ghost use Rattle.std.specs.Prelude.{◌≡◌, ◌≢◌, ℕ, ◌<◌, ◌≤◌, ◌+◌, ◌/◌, ◌*◌, ◌⊎◌, true, Some, None, List, [], length, IfOk, IfSome};
 ghost use Rattle.sci_links.specs.Table.{Table, IsTable, chain, empty, has, list_of};
 ghost use Rattle.sci_agenda.specs.Firing.{Meaning};
 ghost use Rattle.sci_agenda.specs.Chained.{date_at};
-ghost use Rattle.sci_agenda.specs.Wheel.{place, Placed, Moving, Turned, IsLeast, IsPlaced};
+ghost use Rattle.sci_agenda.specs.Wheel.{place, list_at, Placed, Moving, Turned, IsFirstList, IsLeastIn, IsLeast, IsPlaced};
 
 use crate::agenda::Agenda;
 use crate::chain::zeros;
@@ -82,35 +82,80 @@ fn place(now: u64, date: u64) -> u32
     }
 }
 
-fn nearer(dates: &[u64], best: Option<u32>, node: u32) -> u32
-    requires best { IfSome best (λ b. b < length dates.now) }
-    requires node { node < length dates.now }
-    ensures least { date_at dates.now result ≤ date_at dates.now node }
-    ensures best { IfSome best (λ b. date_at dates.now result ≤ date_at dates.now b) }
-    ensures chosen { IfSome best (λ b. result ≢ node → result ≡ b) }
-    ensures only { best ≡ None → result ≡ node }
+// The lists in the order in which their events fire: those of a level by their digit, the last level from the digit of now on.
+fn list_at(now: u64, rank: u32) -> u32
+    requires { rank < 1024 }
+    ensures { result ≡ list_at now rank }
 {
-    match best {
-        Some(other) if dates[other as usize] <= dates[node as usize] => other,
-        _ => node,
+    if rank < 768 {
+        rank
+    } else {
+        768 + (rank - 768 + (now / 16777216 % 256) as u32) % 256
     }
 }
 
-// A node of the least date.
-fn least(links: &Links, dates: &[u64], ports: u32) -> Option<u32>
+// The first list with an event, in the order in which they fire. None before the digit of now has one.
+fn first_list(links: &Links, now: u64) -> Option<u32>
     requires table { IsTable links.now }
-    requires nodes { links.now.nodes ≡ ports }
-    requires dates { length dates.now ≡ ports }
+    requires lists { length links.now.lists ≡ 1024 }
+    ensures { IsFirstList links.now now result }
+{
+    for rank in (now % 256) as u32..1024 {
+        let list = list_at(now, rank);
+        if links.front(list).is_some() {
+            return Some(list);
+        }
+    }
+    None
+}
+
+fn nearer(dates: &[u64], best: u32, node: u32) -> u32
+    requires best { best < length dates.now }
+    requires node { node < length dates.now }
+    ensures node { date_at dates.now result ≤ date_at dates.now node }
+    ensures best { date_at dates.now result ≤ date_at dates.now best }
+    ensures chosen { (result ≡ best) ⊎ (result ≡ node) }
+{
+    if dates[best as usize] <= dates[node as usize] {
+        best
+    } else {
+        node
+    }
+}
+
+// A node of the least date in a list.
+fn least_in(links: &Links, dates: &[u64], list: u32) -> Option<u32>
+    requires table { IsTable links.now }
+    requires lists { list < length links.now.lists }
+    requires dates { links.now.nodes ≡ length dates.now }
+    ensures { IsLeastIn dates.now (chain links.now list) result }
+{
+    let mut best = links.front(list)?;
+    let mut at = Some(best);
+    while let Some(node) = at {
+        best = nearer(dates, best, node);
+        at = links.next(node);
+    }
+    Some(best)
+}
+
+// A node of the least date. On the first level all dates of a list are the same.
+fn least(links: &Links, dates: &[u64], now: u64) -> Option<u32>
+    requires table { IsTable links.now }
+    requires lists { length links.now.lists ≡ 1024 }
+    requires dates { links.now.nodes ≡ length dates.now }
+    requires placed { Placed links.now dates.now (place now) }
+    requires from { (l x : ℕ) → has x (chain links.now l) ≡ true → now ≤ date_at dates.now x }
+    requires until { (l x : ℕ) → has x (chain links.now l) ≡ true → date_at dates.now x < now + 2147483648 }
     ensures some { IfSome result (λ n. IsLeast links.now dates.now n) }
     ensures none { result ≡ None → (x l : ℕ) → list_of links.now x ≡ Some l → ⊥ }
 {
-    let mut best = None;
-    for node in 0..ports {
-        if links.list_of(node).is_some() {
-            best = Some(nearer(dates, best, node));
-        }
+    let list = first_list(links, now)?;
+    if list < 256 {
+        links.front(list)
+    } else {
+        least_in(links, dates, list)
     }
-    best
 }
 
 // Moves the nodes of a list to the lists of their dates.
@@ -158,7 +203,7 @@ impl Agenda for WheelAgenda {
     }
 
     fn take(&mut self) -> Option<(u64, u32)> {
-        let node = least(&self.links, &self.dates, self.ports)?;
+        let node = least(&self.links, &self.dates, self.now)?;
         let date = self.dates[node as usize];
         turn(&mut self.links, &self.dates, self.now, date);
         self.now = date;
@@ -167,7 +212,7 @@ impl Agenda for WheelAgenda {
     }
 
     fn next_date(&self) -> Option<u64> {
-        let node = least(&self.links, &self.dates, self.ports)?;
+        let node = least(&self.links, &self.dates, self.now)?;
         Some(self.dates[node as usize])
     }
 
