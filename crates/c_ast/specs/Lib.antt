@@ -1,0 +1,4 @@
+pub mod Syntax
+pub mod View
+pub mod Spelling
+pub mod Bounds

@@ -1,0 +1,42 @@
+-- What the run of a whole program answers.
+use Rattle.std.specs.Prelude.{◌≡◌, ℤ, List, map, Result, Ok, Err}
+use Rattle.std.specs.declared.vec.Vec.{Vec}
+use Rattle.std.specs.declared.alloc.Global.{Global}
+use Rattle.sci_io.specs.declared.sink.Failed.{Failed}
+use Rattle.sci_io.specs.Taken.{SinkState, Writes}
+use Rattle.sci_trace.specs.Lines.{text}
+use Rattle.c_mean.specs.declared.machine.Flow.{Flow}
+use Rattle.c_mean.specs.declared.machine.Flow.TheVariants as flows
+use Rattle.c_mean.specs.declared.start.CEnd.{CEnd}
+use Rattle.c_mean.specs.declared.start.CEnd.TheVariants as ends
+use Rattle.c_mean.specs.declared.start.RunStop.{RunStop}
+use Rattle.c_mean.specs.declared.start.RunStop.TheVariants as causes
+use Rattle.c_mean.specs.Meaning.{How, going, undefined, over, halted, Ran}
+
+-- reaching the end of sci_main ends a run like an end that is told
+abbrev pub end_of : How → CEnd
+end_of (going w) = ends.End
+end_of (undefined n) = ends.Undefined n
+end_of over = ends.End
+end_of halted = ends.Stop
+
+-- All observations were written, and the answer says how the run ended; where the sink failed, a front of their text was written;
+-- without memory nothing was.
+abbrev pub AnswersBy : SinkState → SinkState → Result CEnd RunStop → Ran → Type 0
+AnswersBy old new (Ok e) ran = Writes {T = Unit {0}} {E = Unit {0}} old new (text ran.seen) (Ok tt) × (e ≡ end_of ran.how)
+AnswersBy old new (Err causes.Failed) ran = Writes {T = Unit {0}} {E = Unit {0}} old new (text ran.seen) (Err tt)
+AnswersBy old new (Err causes.Memory) ran = new ≡ old
+
+pub record Answers (old new : SinkState) (result : Result CEnd RunStop) (ran : Ran) : Type 0 where
+  pub by : AnswersBy old new result ran
+
+abbrev pub answer_of : Result Flow Failed → Result CEnd RunStop
+answer_of (Ok flows.Going) = Ok ends.End
+answer_of (Ok (flows.Undefined n)) = Ok (ends.Undefined n)
+answer_of (Ok flows.Over) = Ok ends.End
+answer_of (Ok flows.Halted) = Ok ends.Stop
+answer_of (Err e) = Err causes.Failed
+
+-- the values of input columns
+abbrev pub values_of : List (Vec ℤ Global) → List (List ℤ)
+values_of columns = map (λ (c : Vec ℤ Global). c.items) columns

@@ -1,0 +1,45 @@
+-- What a run in memory stands for.
+use Rattle.std.specs.Prelude.{◌≡◌, ℤ, List, map, Result, Ok, Err}
+use Rattle.sci_io.specs.Taken.{SinkState, Writes}
+use Rattle.sci_trace.specs.Lines.{text}
+use Rattle.c_ast.specs.View.{statements_of}
+use Rattle.c_mean.specs.declared.machine.Variable.{Variable}
+use Rattle.c_mean.specs.declared.machine.Column.{Column}
+use Rattle.c_mean.specs.declared.machine.Routine.{Routine}
+use Rattle.c_mean.specs.declared.machine.Limits.{Limits}
+use Rattle.c_mean.specs.declared.machine.Flow.{Flow}
+use Rattle.c_mean.specs.declared.machine.Flow.TheVariants as flows
+use Rattle.c_mean.specs.Meaning.{Slot, World, How, going, undefined, over, halted, Ran, Numbered, Around, around, calls_of}
+
+abbrev pub slot_of : Variable → Slot
+slot_of v = record { name = v.name; cells = v.cells.items }
+
+abbrev pub slots : List Variable → List Slot
+slots vs = map slot_of vs
+
+abbrev pub left_of : Column → List ℤ
+left_of c = c.left.now
+
+abbrev pub world : List Variable → List Column → World
+world vs cs = record { slots = slots vs; left = map left_of cs }
+
+abbrev pub numbered_of : Routine → Numbered
+numbered_of g = record { name = g.name; first = g.first; body = statements_of g.body.now }
+
+-- the latest comes first
+abbrev pub surroundings : List Routine → Limits → Around
+surroundings gs limits = around (calls_of (map numbered_of gs) limits.until limits.limit) limits.until limits.limit
+
+abbrev pub how_of : Flow → World → How
+how_of flows.Going w = going w
+how_of (flows.Undefined n) w = undefined n
+how_of flows.Over w = over
+how_of flows.Halted w = halted
+
+-- The text of what was observed was written; where the sink failed, a front of it.
+abbrev pub RunsBy : {E : Type 0} → SinkState → SinkState → Result Flow E → World → Ran → Type 0
+RunsBy old new (Ok flow) w ran = Writes {T = Unit {0}} {E = Unit {0}} old new (text ran.seen) (Ok tt) × (ran.how ≡ how_of flow w)
+RunsBy old new (Err e) w ran = Writes {T = Unit {0}} {E = Unit {0}} old new (text ran.seen) (Err tt)
+
+pub record Runs {E : Type 0} (old new : SinkState) (result : Result Flow E) (w : World) (ran : Ran) : Type 0 where
+  pub by : RunsBy old new result w ran

@@ -1,0 +1,78 @@
+//! What programs of the C subset mean, and running them.
+#![tactic(auto)]
+
+mod asks;
+mod effects;
+mod machine;
+mod start;
+mod steps;
+mod values;
+
+pub use start::{CEnd, RunStop, run};
+
+#[cfg(test)]
+mod tests {
+    use super::*;
+    use c_ast::{Decl, Expr, Name, Op, Program, Stmt, Target, Tell};
+    use sci_io::MemSink;
+    use std::alloc::{AllocError, Global};
+    use std::test::Fail;
+
+    fn both(alloc: Global, op: Op, a: Expr, b: Expr) -> Result<Expr, AllocError> {
+        let left = Box::new(alloc, a).map_err(AllocError::from)?;
+        let right = Box::new(alloc, b).map_err(AllocError::from)?;
+        Ok(Expr::Bin(op, left, right))
+    }
+
+    // sci_start(); sci_val(1, 1, 1, 7 / 2); sci_end(2);
+    fn quotient(alloc: Global) -> Result<Program, AllocError> {
+        let value = both(alloc, Op::Div, Expr::Num(7), Expr::Num(2))?;
+        let told = Tell::Val(Expr::Num(1), Expr::Num(1), Expr::Num(1), value);
+        let main = vec![in alloc;
+            Stmt::Tell(Tell::Start),
+            Stmt::Tell(told),
+            Stmt::Tell(Tell::End(Expr::Num(2))),
+        ]?;
+        Ok(Program {
+            decls: Vec::new(alloc),
+            funcs: Vec::new(alloc),
+            main,
+        })
+    }
+
+    // v1 = 2^63 - 1; v1 = v1 + 1;
+    fn overflow(alloc: Global) -> Result<Program, AllocError> {
+        let name = Name {
+            letter: b'v',
+            number: 1,
+        };
+        let sum = both(alloc, Op::Add, Expr::Var(name), Expr::Num(1))?;
+        let first = Stmt::Set(Target::Var(name), Expr::Num(i64::MAX));
+        let main = vec![in alloc; first, Stmt::Set(Target::Var(name), sum)]?;
+        Ok(Program {
+            decls: vec![in alloc; Decl { name, size: None }]?,
+            funcs: Vec::new(alloc),
+            main,
+        })
+    }
+
+    #[test]
+    fn a_quotient_is_cut_toward_zero(rt: HostRuntime) -> Result<(), Fail> {
+        let alloc = rt.alloc();
+        let mut out = MemSink::new(alloc, Vec::new(alloc), 100)?;
+        let end = run(alloc, &quotient(alloc)?, &[], 10, 10, &mut out);
+        assert_eq!(rt; end, Ok(CEnd::End));
+        assert_eq!(rt; out.taken(), "start\nval 1 1 1 3\nend empty\n".as_bytes());
+        Ok(())
+    }
+
+    #[test]
+    fn a_sum_past_the_last_number_is_undefined(rt: HostRuntime) -> Result<(), Fail> {
+        let alloc = rt.alloc();
+        let mut out = MemSink::new(alloc, Vec::new(alloc), 100)?;
+        let end = run(alloc, &overflow(alloc)?, &[], 10, 10, &mut out);
+        assert_eq!(rt; end, Ok(CEnd::Undefined(2)));
+        assert_eq!(rt; out.taken(), "".as_bytes());
+        Ok(())
+    }
+}

@@ -1,0 +1,161 @@
+// Whole programs.
+
+ghost use Rattle.std.specs.Prelude.{◌≡◌, ◌<◌, ◌^◌, pos, [], map, IfOk};
+ghost use Rattle.c_ast.specs.View.{declared_of, function_of, whole_of};
+ghost use Rattle.c_mean.specs.Meaning.{first_slot, numbered, behind_functions, meaning};
+ghost use Rattle.c_mean.specs.Running.{slot_of, slots, left_of, numbered_of};
+ghost use Rattle.c_mean.specs.Answering.{Answers, answer_of, values_of};
+ghost use Rattle.c_mean.specs.declared.start.RunStop.TheVariants.{Memory};
+
+use crate::machine::{Column, Flow, Limits, Routine, Variable};
+use crate::steps::{block, count_all};
+use c_ast::{Decl, Func, Program};
+use sci_io::{Failed, Sink};
+use std::alloc::{AllocError, Global};
+
+/// How a run ended.
+#[derive(Clone, Copy, Debug, PartialEq, Eq)]
+pub enum CEnd {
+    /// By an end that it told, or at the end of `sci_main`.
+    End,
+    /// By a stop that it told.
+    Stop,
+    /// At this statement, counted from 1 through all functions and lists in the order of the text; a count past 2^64 - 1 stands still there.
+    Undefined(u64),
+}
+
+/// Why a run has no end.
+#[derive(Clone, Copy, Debug, PartialEq, Eq)]
+pub enum RunStop {
+    /// The sink failed.
+    Failed,
+    /// There is no memory. Nothing was observed.
+    Memory,
+}
+
+impl From<AllocError> for RunStop {
+    ghost from_gives = { λ _ e. e ≡ Memory };
+
+    fn from(_e: AllocError) -> RunStop {
+        RunStop::Memory
+    }
+}
+
+fn variable(alloc: Global, decl: &Decl) -> Result<Variable, AllocError>
+    ensures { IfOk result (λ v. slot_of v ≡ first_slot (declared_of decl.now)) }
+{
+    let size = match decl.size {
+        None => 1,
+        Some(size) => size as usize,
+    };
+    Ok(Variable {
+        name: decl.name,
+        cells: vec![in alloc; 0; size]?,
+    })
+}
+
+fn variables(alloc: Global, decls: &[Decl]) -> Result<Vec<Variable>, AllocError>
+    ensures { IfOk result (λ v. slots v.items ≡ map first_slot (map declared_of decls.now)) }
+{
+    let mut list = Vec::new(alloc);
+    for decl in decls {
+        list.push(variable(alloc, decl)?)?;
+    }
+    Ok(list)
+}
+
+fn columns_of<'a>(alloc: Global, columns: &'a [Vec<i64>]) -> Result<Vec<Column<'a>>, AllocError>
+    ensures { IfOk result (λ v. map left_of v.items ≡ values_of columns.now) }
+{
+    let mut list = Vec::new(alloc);
+    for column in columns {
+        list.push(Column {
+            left: column.as_slice(),
+        })?;
+    }
+    Ok(list)
+}
+
+/// The functions with the numbers of their first statements, the latest first.
+fn routines_of<'a>(alloc: Global, funcs: &'a [Func]) -> Result<Vec<Routine<'a>>, AllocError>
+    ensures { IfOk result (λ v. map numbered_of v.items ≡ numbered 1 (map function_of funcs.now) []) }
+{
+    let mut list = Vec::new(alloc);
+    let mut first = 1u64;
+    for func in funcs {
+        list.push(Routine {
+            name: func.name,
+            first,
+            body: func.body.as_slice(),
+        })?;
+        first = first.saturating_add(count_all(&func.body));
+    }
+    list.reverse();
+    Ok(list)
+}
+
+/// The number behind the statements of the functions.
+fn number_behind(funcs: &[Func]) -> u64
+    ensures { result ≡ behind_functions 1 (map function_of funcs.now) }
+{
+    let mut first = 1u64;
+    for func in funcs {
+        first = first.saturating_add(count_all(&func.body));
+    }
+    first
+}
+
+fn limits_of(until: u64, limit: u64) -> Limits
+    requires until_fits { until < 2 ^ 63 }
+    requires limit_fits { limit < 2 ^ 63 }
+    ensures last { result.until ≡ pos until }
+    ensures most { result.limit ≡ pos limit }
+{
+    Limits {
+        until: until as i64,
+        limit: limit as i64,
+    }
+}
+
+fn answer(left: Result<Flow, Failed>) -> Result<CEnd, RunStop>
+    ensures { result ≡ answer_of left }
+{
+    match left {
+        Ok(Flow::Going) => Ok(CEnd::End),
+        Ok(Flow::Undefined(number)) => Ok(CEnd::Undefined(number)),
+        Ok(Flow::Over) => Ok(CEnd::End),
+        Ok(Flow::Halted) => Ok(CEnd::Stop),
+        Err(_) => Err(RunStop::Failed),
+    }
+}
+
+/// Runs a program on input columns: what its meaning observes is written to the sink, a line for each observation, and the answer says how
+/// the run ended. All memory is taken before the first observation. `until` is what the program is told as its last date, `limit` as its
+/// bound on events; both are below 2^63. It returns after as many turns as the program's own loops count.
+pub fn run<S: Sink>(
+    alloc: Global,
+    p: &Program,
+    columns: &[Vec<i64>],
+    until: u64,
+    limit: u64,
+    out: &mut S,
+) -> Result<CEnd, RunStop>
+    requires until_fits { until < 2 ^ 63 }
+    requires limit_fits { limit < 2 ^ 63 }
+    ensures { Answers (S.state out.old) (S.state out.new) result (meaning (whole_of p.now) (values_of columns.now) (pos until) (pos limit)) }
+{
+    let mut memory = variables(alloc, &p.decls)?;
+    let mut left = columns_of(alloc, columns)?;
+    let routines = routines_of(alloc, &p.funcs)?;
+    let limits = limits_of(until, limit);
+    let number = number_behind(&p.funcs);
+    answer(block(
+        &mut memory,
+        &mut left,
+        limits,
+        &routines,
+        number,
+        &p.main,
+        out,
+    ))
+}

@@ -1,0 +1,90 @@
+// Values of expressions.
+
+ghost use Rattle.std.specs.Prelude.{◌≡◌, slice_get, if◌then◌else◌};
+ghost use Rattle.c_ast.specs.View.{exp_of};
+ghost use Rattle.c_mean.specs.Meaning.{lookup, store, evaluate, strict};
+ghost use Rattle.c_mean.specs.Running.{slots};
+
+use crate::machine::Variable;
+use c_ast::{Expr, Name, Op};
+
+fn cell(cells: &[i64], i: usize) -> Option<i64>
+    ensures { result ≡ slice_get cells.now i }
+{
+    cells.get(i).copied()
+}
+
+pub fn look(memory: &[Variable], x: Name, i: usize) -> Option<i64>
+    ensures { result ≡ lookup (slots memory.now) x i }
+{
+    for v in memory {
+        if v.name.letter == x.letter && v.name.number == x.number {
+            return cell(&v.cells, i);
+        }
+    }
+    None
+}
+
+fn strict_op(op: Op, a: i64, b: i64) -> Option<i64>
+    ensures { result ≡ strict op a b }
+{
+    match op {
+        Op::Add => a.checked_add(b),
+        Op::Sub => a.checked_sub(b),
+        Op::Mul => a.checked_mul(b),
+        Op::Div => a.checked_div(b),
+        Op::Rem => a.checked_rem(b),
+        Op::Lt => Some(i64::from(a < b)),
+        Op::Le => Some(i64::from(a <= b)),
+        Op::Gt => Some(i64::from(a > b)),
+        Op::Ge => Some(i64::from(a >= b)),
+        Op::Eq => Some(i64::from(a == b)),
+        Op::Ne => Some(i64::from(a != b)),
+        Op::And => Some(i64::from(a != 0 && b != 0)),
+        Op::Or => Some(i64::from(a != 0 || b != 0)),
+    }
+}
+
+pub fn eval(memory: &[Variable], e: &Expr) -> Option<i64>
+    ensures { result ≡ evaluate (exp_of e.now) (slots memory.now) }
+{
+    match e {
+        Expr::Num(n) => Some(*n),
+        Expr::Var(x) => look(memory, *x, 0),
+        Expr::At(x, place) => {
+            let v = eval(memory, place)?;
+            if v < 0 {
+                None
+            } else {
+                look(memory, *x, v as usize)
+            }
+        }
+        Expr::Neg(a) => eval(memory, a)?.checked_neg(),
+        Expr::Not(a) => Some(i64::from(eval(memory, a)? == 0)),
+        Expr::Bin(op, a, b) => {
+            let left = eval(memory, a)?;
+            match op {
+                Op::And if left == 0 => return Some(0),
+                Op::Or if left != 0 => return Some(1),
+                _ => {}
+            }
+            let right = eval(memory, b)?;
+            strict_op(*op, left, right)
+        }
+    }
+}
+
+pub fn put(memory: &mut [Variable], x: Name, i: usize, v: i64) -> bool
+    ensures { (if result then Some (slots memory.new) else None) ≡ store (slots memory.old) x i v }
+{
+    for k in 0..memory.len() {
+        if memory[k].name.letter == x.letter && memory[k].name.number == x.number {
+            if i < memory[k].cells.len() {
+                memory[k].cells[i] = v;
+                return true;
+            }
+            return false;
+        }
+    }
+    false
+}
