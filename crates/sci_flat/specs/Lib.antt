@@ -1,0 +1,5 @@
+pub mod Chain
+pub mod Ports
+pub mod Feeds
+pub mod Flat
+pub mod Rows

@@ -1,0 +1,6 @@
+pub mod Objects
+pub mod Tree
+pub mod Stops
+pub mod Weight
+pub mod Reading
+pub mod Count
