@@ -1,7 +1,7 @@
-ghost use Rattle.std.specs.Prelude.{◌≡◌, ◌∷◌, [], Ok, Err, IfOk, IfErr, string_bytes, IsTrue, ◌<◌, ◌^◌};
+ghost use Rattle.std.specs.Prelude.{◌≡◌, ◌∷◌, [], Ok, Err, IfOk, IfErr, string_bytes, ◌<◌, ◌^◌};
 ghost use Rattle.std.specs.List.{list_all};
-ghost use Rattle.serde_json.specs.View.{view, items_view};
-ghost use Rattle.serde_json.specs.Find.{as_str, as_array};
+ghost use Rattle.serde_json.specs.View.{view};
+ghost use Rattle.serde_json.specs.Find.{as_str};
 ghost use Rattle.sci_json.specs.Field.{field, as_ints};
 ghost use Rattle.sci_reader.specs.Tree.{missing, wrong, too_deep, required, optional, small_list, is_small};
 ghost use Rattle.sci_reader.specs.Stops.{IsViolation, Stops};

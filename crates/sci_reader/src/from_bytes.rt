@@ -1,7 +1,6 @@
 ghost use Rattle.std.specs.Prelude.{◌≡◌, ◌≤◌, Ok, Some, IfOk, IfErr, length, ◌<◌, ◌^◌};
 ghost use Rattle.sci_reader.specs.Objects.{diagram_view};
 ghost use Rattle.sci_reader.specs.Reading.{judge_value, IsRead};
-ghost use Rattle.sci_reader.specs.Tree.{tree};
 ghost use Rattle.sci_reader.specs.Count.{counted, objects_in};
 ghost use Rattle.sci_reader.specs.Weight.{weight};
 ghost use Rattle.serde_json.specs.View.{view};

@@ -1,7 +1,7 @@
-ghost use Rattle.std.specs.Prelude.{◌≡◌, Ok, IfOk, IfErr, pos};
+ghost use Rattle.std.specs.Prelude.{◌≡◌, Ok, IfOk, IfErr};
 ghost use Rattle.serde_json.specs.View.{view};
 ghost use Rattle.sci_reader.specs.Objects.{link};
-ghost use Rattle.sci_reader.specs.Tree.{link_end, read_link, end_from};
+ghost use Rattle.sci_reader.specs.Tree.{link_end, read_link};
 ghost use Rattle.sci_reader.specs.Stops.{Stops};
 
 use crate::diagram::{End, LinkObj};

@@ -1,8 +1,6 @@
-ghost use Rattle.std.specs.Prelude.{◌≡◌, ◌∷◌, Ok, IfOk, IfErr, Some, codes, IsTrue, ◌↔◌};
-ghost use Rattle.std.specs.Str.{bytes_eq};
-ghost use Rattle.serde_json.specs.View.{view, items_view};
+ghost use Rattle.std.specs.Prelude.{◌≡◌, Ok, IfOk, IfErr, Some};
+ghost use Rattle.serde_json.specs.View.{view};
 ghost use Rattle.serde_json.specs.Find.{get};
-ghost use Rattle.sci_json.specs.Field.{field};
 ghost use Rattle.sci_reader.specs.Stops.{Stops};
 ghost use Rattle.sci_reader.specs.Tree.{sort_of, as_sort, read_sort};
 

@@ -1,5 +1,6 @@
 use crate::{Diagram, Obj, ReadStop, is_pass_through, read};
 use sci_base::{Refusal, Rule};
+use std::alloc::{AllocError, Global};
 use std::process::Abort;
 use std::test::Fail;
 
@@ -8,6 +9,49 @@ fn refusal_of(rt: &impl Abort, answer: Result<Diagram, ReadStop>) -> Refusal {
         Err(ReadStop::Refused(refusal)) => refusal,
         _ => panic!(rt; "not refused"),
     }
+}
+
+fn refused(rt: &impl Abort, alloc: Global, text: &str, rule: Rule, path: &[u32], detail: &[i64]) {
+    let bytes = text.as_bytes();
+    assert!(rt; bytes.len() <= 16777216);
+    let r = refusal_of(rt, read(alloc, bytes));
+    assert_eq!(rt; r.rule, rule, "{text}");
+    assert_eq!(rt; r.place.path.as_slice(), path, "{text}");
+    assert_eq!(rt; r.detail.as_slice(), detail, "{text}");
+}
+
+fn accepted(rt: &impl Abort, alloc: Global, text: &str) {
+    let bytes = text.as_bytes();
+    assert!(rt; bytes.len() <= 16777216);
+    assert!(rt; read(alloc, bytes).is_ok(), "{text}");
+}
+
+/// A text, then another one so many times, then a last one.
+fn repeated(
+    alloc: Global,
+    first: &str,
+    again: &str,
+    times: u32,
+    last: &str,
+) -> Result<String, AllocError> {
+    let mut text = String::from_str(alloc, first)?;
+    for _ in 0..times {
+        text.push_str(again)?;
+    }
+    text.push_str(last)?;
+    Ok(text)
+}
+
+/// The text of a diagram inside so many superblocks, each in the one around it.
+fn nested(alloc: Global, times: u32, inner: &str) -> Result<String, AllocError> {
+    let head = repeated(
+        alloc,
+        "",
+        r#"{"objs":[{"obj":"Block","gui":"","model":{"sim":"super","rpar":"#,
+        times,
+        inner,
+    )?;
+    repeated(alloc, head.as_str(), "}}]}", times, "")
 }
 
 #[test]
@@ -35,20 +79,179 @@ fn reads_a_superblock_among_blocks_and_links(rt: HostRuntime) -> Result<(), Fail
 }
 
 #[test]
-fn refuses_with_rule_place_and_detail(rt: HostRuntime) {
-    let r = refusal_of(&rt, read(rt.alloc(), b"{}"));
-    assert!(rt; r.rule == Rule::MissingField && r.place.path.is_empty());
-    assert_eq!(rt; r.detail.as_slice(), [1].as_slice());
-    let r = refusal_of(&rt, read(rt.alloc(), b"{\"objs\":["));
-    assert!(rt; r.rule == Rule::NotJson);
-    let r = refusal_of(
-        &rt,
-        read(
-            rt.alloc(),
-            b"{\"objs\":[{\"obj\":\"Deleted\"},{\"obj\":\"Block\",\"gui\":\"x\",\"model\":{\"sim\":\"csuper\",\"rpar\":{\"objs\":[3]}}}]}",
+fn refuses_no_json_and_absent_fields(rt: HostRuntime) {
+    let alloc = rt.alloc();
+    for (text, rule, path, detail) in [
+        (r#"{"objs":["#, Rule::NotJson, [].as_slice(), [].as_slice()),
+        (r#"{"objs":[]} ,"#, Rule::NotJson, &[], &[]),
+        ("{}", Rule::MissingField, &[], &[1]),
+        (r#"{"objs":[{}]}"#, Rule::MissingField, &[1], &[2]),
+        (
+            r#"{"objs":[{"obj":"Text"},{"obj":"Block"}]}"#,
+            Rule::MissingField,
+            &[2],
+            &[3],
         ),
-    );
-    assert!(rt; r.rule == Rule::WrongField);
-    assert_eq!(rt; r.place.path.as_slice(), [2, 1].as_slice());
-    assert_eq!(rt; r.detail.as_slice(), [2].as_slice());
+        (
+            r#"{"objs":[{"obj":"Block","gui":"x"}]}"#,
+            Rule::MissingField,
+            &[1],
+            &[4],
+        ),
+        (
+            r#"{"objs":[{"obj":"Block","gui":"x","model":{"sim":"csuper"}}]}"#,
+            Rule::MissingField,
+            &[1],
+            &[15],
+        ),
+        (
+            r#"{"objs":[{"obj":"Block","gui":"x","model":{"sim":"super","rpar":{}}}]}"#,
+            Rule::MissingField,
+            &[1],
+            &[1],
+        ),
+        (
+            r#"{"objs":[{"obj":"Link"}]}"#,
+            Rule::MissingField,
+            &[1],
+            &[19],
+        ),
+        (
+            r#"{"objs":[{"obj":"Link","from":[1,1]}]}"#,
+            Rule::MissingField,
+            &[1],
+            &[20],
+        ),
+        (
+            r#"{"objs":[{"obj":"Link","from":[1,1],"to":[1,1,1]}]}"#,
+            Rule::MissingField,
+            &[1],
+            &[21],
+        ),
+    ] {
+        refused(&rt, alloc, text, rule, path, detail);
+    }
+}
+
+#[test]
+fn refuses_fields_of_another_form(rt: HostRuntime) {
+    let alloc = rt.alloc();
+    for (text, path, code) in [
+        ("[]", [].as_slice(), 1),
+        (r#"{"objs":{}}"#, &[], 1),
+        (r#"{"objs":[{"obj":"Text"},3]}"#, &[2], 2),
+        (r#"{"objs":[{"obj":"block"}]}"#, &[1], 2),
+        (r#"{"objs":[{"obj":"Block","gui":5}]}"#, &[1], 3),
+        (
+            r#"{"objs":[{"obj":"Block","gui":"x","model":[]}]}"#,
+            &[1],
+            4,
+        ),
+        (
+            r#"{"objs":[{"obj":"Block","gui":"x","model":{"sim":[4]}}]}"#,
+            &[1],
+            5,
+        ),
+        (
+            r#"{"objs":[{"obj":"Block","gui":"x","model":{"in":[1,2147483648]}}]}"#,
+            &[1],
+            6,
+        ),
+        (
+            r#"{"objs":[{"obj":"Block","gui":"x","model":{"evtin":"a"}}]}"#,
+            &[1],
+            12,
+        ),
+        (
+            r#"{"objs":[{"obj":"Block","gui":"x","model":{"dstate":1.5}}]}"#,
+            &[1],
+            14,
+        ),
+        (
+            r#"{"objs":[{"obj":"Block","gui":"IN_f","model":{"ipar":9223372036854775808}}]}"#,
+            &[1],
+            16,
+        ),
+        (
+            r#"{"objs":[{"obj":"Block","gui":"SPLIT_f","model":{"dep_ut":[true]}}]}"#,
+            &[1],
+            18,
+        ),
+        (r#"{"objs":[{"obj":"Link","from":[1]}]}"#, &[1], 19),
+        (
+            r#"{"objs":[{"obj":"Link","from":[1,1],"to":[1,1,1,1]}]}"#,
+            &[1],
+            20,
+        ),
+        (
+            r#"{"objs":[{"obj":"Link","from":[1,1],"to":[1,1],"ct":1}]}"#,
+            &[1],
+            21,
+        ),
+        (
+            r#"{"objs":[{"obj":"Block","gui":"x","model":{"sim":"super","rpar":3}}]}"#,
+            &[1],
+            1,
+        ),
+        (
+            r#"{"objs":[{"obj":"Block","gui":"x","model":{"sim":"super","rpar":3,"dep_ut":0}}]}"#,
+            &[1],
+            18,
+        ),
+        (
+            r#"{"objs":[{"obj":"Text"},{"obj":"Block","gui":"x","model":{"sim":["super"],"rpar":{"objs":[3]}}},4]}"#,
+            &[2, 1],
+            2,
+        ),
+    ] {
+        refused(&rt, alloc, text, Rule::WrongField, path, &[code]);
+    }
+}
+
+#[test]
+fn accepts_what_is_not_looked_at(rt: HostRuntime) {
+    let alloc = rt.alloc();
+    for text in [
+        r#"{"objs":[{"obj":"Text","gui":5},{"obj":"Deleted","model":5}],"props":[]}"#,
+        r#"{"objs":[{"obj":"Block","gui":"x","model":{"sim":"other","rpar":3,"in":-2147483648}}]}"#,
+        r#"{"objs":[{"obj":"Block","gui":"SPLIT_f","model":{"dstate":"","ipar":"","firing":""}}]}"#,
+        r#"{"objs":[{"obj":"Block","gui":"IN_f","model":{"dstate":"","ipar":1,"firing":""}}]}"#,
+        r#"{"objs":[{"obj":"Block","gui":"IN_f","model":{"sim":"super","rpar":{"objs":[]},"ipar":""}}]}"#,
+    ] {
+        accepted(&rt, alloc, text);
+    }
+}
+
+#[test]
+fn refuses_level_17(rt: HostRuntime) -> Result<(), Fail> {
+    let alloc = rt.alloc();
+    let path = [1, 1, 1, 1, 1, 1, 1, 1, 1, 1, 1, 1, 1, 1, 1, 1];
+    let text = nested(alloc, 15, r#"{"objs":[]}"#)?;
+    accepted(&rt, alloc, text.as_str());
+    let text = nested(alloc, 16, "3")?;
+    refused(&rt, alloc, text.as_str(), Rule::TooDeep, &path, &[16]);
+    let last = r#"{"objs":[{"obj":"Block","gui":"","model":{"sim":"super"}}]}"#;
+    let text = nested(alloc, 15, last)?;
+    refused(&rt, alloc, text.as_str(), Rule::MissingField, &path, &[15]);
+    Ok(())
+}
+
+#[test]
+fn refuses_too_many_blocks_and_links(rt: HostRuntime) -> Result<(), Fail> {
+    let alloc = rt.alloc();
+    let first = r#"{"objs":[{"obj":"Block","gui":"IN_f","model":{}}"#;
+    let block = r#",{"obj":"Block","gui":"x","model":{}}"#;
+    let link = r#",{"obj":"Link","from":[1,1],"to":[1,1],"ct":[1,1]}"#;
+    for (again, rule, most, over) in [
+        (block, Rule::TooManyBlocks, 2048, 2049),
+        (link, Rule::TooManyLinks, 16384, 16385),
+    ] {
+        let inner = repeated(alloc, first, again, most, "]}")?;
+        let text = nested(alloc, 1, inner.as_str())?;
+        accepted(&rt, alloc, text.as_str());
+        let inner = repeated(alloc, first, again, over, "]}")?;
+        let text = nested(alloc, 1, inner.as_str())?;
+        refused(&rt, alloc, text.as_str(), rule, &[], &[i64::from(over)]);
+    }
+    Ok(())
 }

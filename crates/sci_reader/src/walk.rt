@@ -1,10 +1,9 @@
-ghost use Rattle.std.specs.Prelude.{◌≡◌, ◌^◌, ◌<◌, ◌≤◌, ◌++◌, ◌∷◌, [], Ok, IfOk, IfErr, pos, codes, map, length, Some, None, if◌then◌else◌};
+ghost use Rattle.std.specs.Prelude.{◌≡◌, ◌^◌, ◌<◌, ◌≤◌, ◌++◌, ◌∷◌, [], Ok, IfOk, IfErr, pos, codes, map, Some, None, if◌then◌else◌};
 ghost use Rattle.serde_json.specs.View.{view, items_view};
-ghost use Rattle.sci_base.specs.Plain.{Violation};
 ghost use Rattle.sci_json.specs.Field.{field};
 ghost use Rattle.sci_reader.specs.Objects.{objects_of, object_view, block_view, diagram_view};
-ghost use Rattle.sci_reader.specs.Tree.{required, whole_object, inside, read_block, read_object, walk, list_of, diagram_at};
-ghost use Rattle.sci_reader.specs.Stops.{Stops, IsViolation};
+ghost use Rattle.sci_reader.specs.Tree.{required, whole_object, read_block, read_object, walk, list_of, diagram_at};
+ghost use Rattle.sci_reader.specs.Stops.{Stops};
 ghost use Rattle.sci_reader.specs.Weight.{weight, items_weight};
 
 use crate::diagram::{BlockObj, Diagram, Obj};
