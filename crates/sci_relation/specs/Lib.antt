@@ -1,0 +1,4 @@
+pub mod Loops
+pub mod Depth
+pub mod Grounded
+pub mod Laws
