@@ -7,14 +7,8 @@ use Rattle.std.proofs.lemmas.List.Sorted.{IsPermutation-append_comm}
 use Rattle.std.proofs.lemmas.Map.Keys.{IsDistinct-cons, IsDistinct-IsPermutation}
 use Rattle.std.proofs.Common.{append_assoc}
 use Rattle.sci_relation.specs.Loops.{Chained, IsLoop}
+use Rattle.sci_relation.specs.Rounds.{IsRound}
 use Rattle.sci_relation.proofs.Grounded.{IsDistinct-nil}
-
--- each number needs the one after it, and the last the first
-pub record IsRound (needs : ℕ → ℕ → Type 0) (xs : List ℕ) : Type 0 where
-  pub some : 0 < length xs
-  pub apart : (i j : ℕ) → i < length xs → j < length xs → get_or xs i 0 ≡ get_or xs j 0 → i ≡ j
-  pub step : (k : ℕ) → k + 1 < length xs → needs (get_or xs k 0) (get_or xs (k + 1) 0)
-  pub close : needs (get_or xs (length xs - 1) 0) (get_or xs 0 0)
 
 other_than : (x : ℕ) (xs : List ℕ) → ((k : ℕ) → k < length xs → x ≡ get_or xs k 0 → ⊥) → AllByRecursion (λ y. eqb x y ≡ false) xs
 other_than x [] h = tt
