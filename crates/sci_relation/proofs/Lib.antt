@@ -1,0 +1,4 @@
+pub mod Grounded
+pub mod Decided
+pub mod Depth
+pub mod Rounds
