@@ -1,0 +1,130 @@
+-- Members by their places, and what settling one keeps.
+use Rattle.std.proofs.Common.{ℕ, ◌≡◌, ◌<◌, ◌≤◌, Bool, true, false, List, length, get_or, set, slice_get, slice_index, Contains, Some, Vec, All, ⊎_elim, subst, sym, ap, ◌∙◌, arith, Option, None, IfSome, IfNone, subst₂, Result, Err, nat_cmp}
+use Rattle.std.proofs.lemmas.List.{get_or_default, get_or-set_same, get_or-set_other}
+use Rattle.std.proofs.lemmas.Bool.{cases_eq, cases_order, cases_lt}
+use Rattle.std.proofs.lemmas.Option.{same_Some, get_or_from_slice_get, slice_get_within, slice_get_read, slice_get-get_or}
+use Rattle.std.proofs.lemmas.Map.Keys.{below_from_sorted, sorted_from_strictly_increasing}
+use Rattle.std.proofs.lemmas.List.Sorted.{searched}
+use Rattle.std.specs.List.Sorted.{IsStrictlyIncreasing, IsBinarySearchResult}
+use Rattle.std.specs.declared.alloc.Global.{Global}
+use Rattle.sci_relation.specs.Grounded.{Grounded, grounded}
+use Rattle.sci_relation.specs.Loops.{HasNoLoop}
+use Rattle.sci_relation.proofs.Grounded.{grounded_no_loop}
+use Rattle.sci_loop.specs.declared.table.DepTable.{DepTable}
+use Rattle.sci_loop.specs.declared.search.OpenNeed.{OpenNeed}
+use Rattle.sci_loop.specs.Table.{Needs, NeedsAt, IsTable, IsRow}
+use Rattle.sci_loop.specs.Progress.{IsSettled, SeenBelow, SeenTo, IsOpenNeed, IsMet, AllGrounded}
+
+-- a number stands at one place of a list that rises
+pub same_place : (xs : List ℕ) (i j : ℕ) → IsStrictlyIncreasing xs → i < length xs → j < length xs → get_or xs i 0 ≡ get_or xs j 0 → i ≡ j
+same_place xs i j rising wi wj same =
+    let sorted = sorted_from_strictly_increasing xs rising in
+    ⊎_elim (λ here. here)
+    (λ apart. absurd (⊎_elim (λ lt. let d = below_from_sorted xs i j 0 sorted lt wj in omega (arith, d, same))
+    (λ gt. let d = below_from_sorted xs j i 0 sorted gt wi in omega (arith, d, same)) apart))
+    (cases_order i j)
+
+-- a binary search finds each member
+pub not_missing : (xs : List ℕ) (x k : ℕ) (r : Result ℕ ℕ) → IsStrictlyIncreasing xs → Contains xs x → r ≡ Err k → IsBinarySearchResult (λ y. nat_cmp y x) xs r → ⊥
+not_missing xs x k r rising has missing position =
+    let sorted = sorted_from_strictly_increasing xs rising in
+    let up : (i j : ℕ) → i ≤ j → j < length xs → get_or xs i 0 ≤ get_or xs j 0 = λ i j le h.
+    ⊎_elim (λ here. subst (λ m. get_or xs i 0 ≤ get_or xs m 0) here (let z : get_or xs i 0 ≤ get_or xs i 0 = omega arith in z))
+    (λ apart. ⊎_elim (λ lt. let d = below_from_sorted xs i j 0 sorted lt h in omega (arith, d)) (λ gt. absurd (omega (arith, gt, le))) apart) (cases_order i j) in
+    let at : get_or xs has.0 0 ≡ x = get_or_default xs has.0 0 x has.1 ∙ has.2 in
+    let found = searched xs x (Err k) (subst (λ q. IsBinarySearchResult (λ y. nat_cmp y x) xs q) missing position) up in
+    ⊎_elim (λ lt. let l = found.1 has.0 lt in omega (arith, l, at)) (λ ge. let l = found.2 has.0 (omega (arith, ge)) has.1 in omega (arith, l, at)) (cases_lt has.0 k)
+
+pub one_place : (xs : List ℕ) (i j c : ℕ) → IsStrictlyIncreasing xs → slice_get xs i ≡ Some c → slice_get xs j ≡ Some c → i ≡ j
+one_place xs i j c rising at_i at_j =
+    same_place xs i j rising (slice_get_within xs i c at_i) (slice_get_within xs j c at_j)
+    (get_or_from_slice_get xs i c 0 at_i ∙ sym (get_or_from_slice_get xs j c 0 at_j))
+
+pub row_at : (t : DepTable) (i : ℕ) (row : Vec ℕ Global) → IsTable t → i < length t.members.items → row ≡ get_or t.needs.items i row → slice_get t.needs.items i ≡ Some row
+row_at t i row ok h is = slice_get_read t.needs.items (length t.members.items) i row (sym ok.rows) h is
+
+pub closed_at : (t : DepTable) (i : ℕ) (row : Vec ℕ Global) (ms ns : List ℕ) → IsTable t → i < length t.members.items → row ≡ get_or t.needs.items i row →
+    ms ≡ t.members.items → ns ≡ row.items → All (Contains ms) ns
+closed_at t i row ms ns ok h is same_ms same_ns =
+    let inside : i < length t.needs.items = rw ok.rows h in
+    let fits : IsRow t.members.items row = subst (IsRow t.members.items) (sym is) (ok.each i row inside) in
+    subst₂ (λ xs ys. All (Contains xs) ys) (sym same_ms) (sym same_ns) fits.closed
+
+pub seen_at : (t : DepTable) (settled : List Bool) (i k : ℕ) (row : Vec ℕ Global) (ms ns : List ℕ) → IsTable t → i < length t.members.items → row ≡ get_or t.needs.items i row →
+    ms ≡ t.members.items → ns ≡ row.items → SeenTo t settled i k → SeenBelow ms settled ns k
+seen_at t settled i k row ms ns ok h is same_ms same_ns seen =
+    subst₂ (λ xs ys. SeenBelow xs settled ys k) (sym same_ms) (sym same_ns) (seen.seen row (row_at t i row ok h is))
+
+pub to_seen : (t : DepTable) (settled : List Bool) (i k : ℕ) (row : Vec ℕ Global) (ms ns : List ℕ) → IsTable t → i < length t.members.items → row ≡ get_or t.needs.items i row →
+    ms ≡ t.members.items → ns ≡ row.items → SeenBelow ms settled ns k → SeenTo t settled i k
+to_seen t settled i k row ms ns ok h is same_ms same_ns below =
+    record {
+      seen = λ other at.
+          let same : row ≡ other = same_Some _ _ (sym (row_at t i row ok h is) ∙ at) in
+          subst (λ (v : Vec ℕ Global). SeenBelow t.members.items settled v.items k) same (subst₂ (λ xs ys. SeenBelow xs settled ys k) same_ms same_ns below);
+    }
+
+-- what is settled stays so
+pub stays : (settled : List Bool) (at i : ℕ) → at < length settled → get_or settled i false ≡ true → get_or (set settled at true) i false ≡ true
+stays settled at i h on =
+    ⊎_elim (λ same. subst (λ k. get_or (set settled at true) k false ≡ true) (sym same) (get_or-set_same settled at true false h))
+    (λ other. get_or-set_other settled at i true false other ∙ on)
+    (cases_eq i at)
+
+pub seen_stays : (t : DepTable) (settled : List Bool) (at i k : ℕ) → at < length settled → SeenTo t settled i k → SeenTo t (set settled at true) i k
+seen_stays t settled at i k h s =
+    record {
+      seen = λ row is m low inside.
+          let old = s.seen row is m low inside in
+          record { place = old.place; within = old.within; holds = old.holds; marked = stays settled at old.place h old.marked };
+    }
+
+-- a member whose needs are settled may be settled
+pub grounded_too : (t : DepTable) (settled : List Bool) (i : ℕ) → IsTable t → IsMet t settled i → AllGrounded t settled → AllGrounded t (set settled i true)
+grounded_too t settled i ok met all k within on =
+    ⊎_elim
+    (λ same. grounded _ (λ b n.
+    let one = one_place t.members.items n.0 k _ ok.rising n.2 (slice_get-get_or t.members.items k 0 within) in
+    let row_same : n.1 ≡ met.row = same_Some _ _ (sym n.3 ∙ (ap (slice_get t.needs.items) (one ∙ same) ∙ met.row_is)) in
+    let m = met.all b (subst (λ (v : Vec ℕ Global). Contains v.items b) row_same n.4) in
+    subst (Grounded (Needs t)) m.holds (all m.place m.within m.marked)))
+    (λ other. all k within (sym (get_or-set_other settled i k true false other) ∙ on))
+    (cases_eq k i)
+
+pub open_is_need : (t : DepTable) (settled : List Bool) (i j : ℕ) → i < length t.members.items → IsOpenNeed t settled i j → NeedsAt t i j
+open_is_need t settled i j h o = (i, o.row, slice_get-get_or t.members.items i 0 h, o.row_is, o.needed)
+
+-- where every place is settled, there is no loop
+pub all_settled : (t : DepTable) (settled : List Bool) → AllGrounded t settled → ((i : ℕ) → i < length t.members.items → get_or settled i false ≡ true) → HasNoLoop (Needs t)
+all_settled t settled sound all =
+    grounded_no_loop (Needs t) (λ c b n.
+    let h = slice_get_within t.members.items n.0 c n.2 in
+    subst (Grounded (Needs t)) (get_or_from_slice_get t.members.items n.0 c 0 n.2) (sound n.0 h (all n.0 h)))
+
+pub some_open : (t : DepTable) (settled : List Bool) (i : ℕ) (row : Vec ℕ Global) (ms ns : List ℕ) (r : Option OpenNeed) → IsTable t → i < length t.members.items → row ≡ get_or t.needs.items i row →
+    ms ≡ t.members.items → ns ≡ row.items → IfSome r (λ o. o.place < length ms) → IfSome r (λ o. get_or settled o.place false ≡ false) → IfSome r (λ o. Contains ns (slice_index ms o.place)) →
+    IfSome r (λ o. IsOpenNeed t settled i o.place)
+some_open t settled i row ms ns None ok h is same_ms same_ns within off needed = tt
+some_open t settled i row ms ns (Some o) ok h is same_ms same_ns within off needed =
+    record {
+      row = row;
+      row_is = row_at t i row ok h is;
+      within = subst (λ xs. o.place < length xs) same_ms within;
+      off = off;
+      needed = subst₂ (λ xs ys. Contains ys (slice_index xs o.place)) same_ms same_ns needed;
+    }
+
+pub some_seen : (t : DepTable) (settled : List Bool) (i : ℕ) (row : Vec ℕ Global) (ms ns : List ℕ) (r : Option OpenNeed) → IsTable t → i < length t.members.items → row ≡ get_or t.needs.items i row →
+    ms ≡ t.members.items → ns ≡ row.items → IfSome r (λ o. SeenBelow ms settled ns o.index) → IfSome r (λ o. SeenTo t settled i o.index)
+some_seen t settled i row ms ns None ok h is same_ms same_ns seen = tt
+some_seen t settled i row ms ns (Some o) ok h is same_ms same_ns seen = to_seen t settled i o.index row ms ns ok h is same_ms same_ns seen
+
+pub none_met : (t : DepTable) (settled : List Bool) (i : ℕ) (row : Vec ℕ Global) (ms ns : List ℕ) (r : Option OpenNeed) → IsTable t → i < length t.members.items → row ≡ get_or t.needs.items i row →
+    ms ≡ t.members.items → ns ≡ row.items → IfNone r ((b : ℕ) → Contains ns b → IsSettled ms settled b) → IfNone r (IsMet t settled i)
+none_met t settled i row ms ns (Some o) ok h is same_ms same_ns all = tt
+none_met t settled i row ms ns None ok h is same_ms same_ns all =
+    record {
+      row = row;
+      row_is = row_at t i row ok h is;
+      all = subst₂ (λ xs ys. (b : ℕ) → Contains ys b → IsSettled xs settled b) same_ms same_ns all;
+    }

@@ -1,0 +1,64 @@
+// The listing of a loop.
+ghost use Rattle.std.specs.Prelude.{◌≡◌, ℕ, ◌<◌, ◌≤◌, length, All, IfSome, IfNone, IfOk, slice_index, map};
+ghost use Rattle.sci_loop.specs.Table.{Needs, NeedsAt, IsTable};
+ghost use Rattle.sci_relation.specs.Rounds.{IsRound};
+ghost use Rattle.sci_relation.specs.Loops.{IsLoop, HasNoLoop, IsFromLeast};
+
+use crate::search::Search;
+use crate::table::DepTable;
+use std::alloc::{AllocError, Global};
+
+// The members at some places.
+fn names(alloc: Global, members: &[u32], places: &[usize]) -> Result<Vec<u32>, AllocError>
+    requires { All (λ i. i < length members.now) places.now }
+    ensures { IfOk result (λ v. v.items ≡ map (λ i. slice_index members.now i) places.now) }
+{
+    places.iter().map(|i| members[*i]).collect(alloc)
+}
+
+// Where the least number stands.
+fn least_at(numbers: &[u32]) -> usize
+    requires { 0 < length numbers.now }
+    ensures within { result < length numbers.now }
+    ensures least { (k : ℕ) → k < length numbers.now → slice_index numbers.now result ≤ slice_index numbers.now k }
+{
+    let mut least = 0;
+    for i in 0..numbers.len() {
+        if numbers[i] < numbers[least] {
+            least = i;
+        }
+    }
+    least
+}
+
+// The loop that a round of places is, from its least member.
+fn listed(alloc: Global, table: &DepTable, places: &[usize]) -> Result<Vec<u32>, AllocError>
+    requires table { IsTable table.now }
+    requires within { All (λ i. i < length table.now.members.items) places.now }
+    requires round { IsRound (NeedsAt table.now) places.now }
+    ensures found { IfOk result (λ v. IsLoop (Needs table.now) v.items) }
+    ensures least { IfOk result (λ v. IsFromLeast v.items) }
+{
+    let mut found = names(alloc, &table.members, places)?;
+    found.reverse();
+    let first = least_at(&found);
+    found.rotate_left(first);
+    Ok(found)
+}
+
+/// A loop of the table from its least member, or none where there is none.
+pub fn found(alloc: Global, table: &DepTable) -> Result<Option<Vec<u32>>, AllocError>
+    requires { IsTable table.now }
+    ensures some { IfOk result (λ o. IfSome o (λ v. IsLoop (Needs table.now) v.items)) }
+    ensures least { IfOk result (λ o. IfSome o (λ v. IsFromLeast v.items)) }
+    ensures none { IfOk result (λ o. IfNone o (HasNoLoop (Needs table.now))) }
+{
+    let mut search = Search::new(alloc, table.members.len())?;
+    match search.all(table)? {
+        None => Ok(None),
+        Some(depth) => {
+            let found = listed(alloc, table, &search.trail[depth..])?;
+            Ok(Some(found))
+        }
+    }
+}
