@@ -1,5 +1,5 @@
 -- Members by their places, and what settling one keeps.
-use Rattle.std.proofs.Common.{ℕ, ◌≡◌, ◌<◌, ◌≤◌, Bool, true, false, List, length, get_or, set, slice_get, slice_index, Contains, Some, Vec, All, ⊎_elim, subst, sym, ap, ◌∙◌, arith, Option, None, IfSome, IfNone, subst₂, Result, Err, nat_cmp}
+use Rattle.std.proofs.Common.{ℕ, ◌≡◌, ◌<◌, ◌≤◌, Bool, true, false, List, length, get_or, set, slice_get, slice_index, Contains, Some, Vec, All, ⊎_elim, subst, sym, ap, ◌∙◌, arith, Option, None, IfSome, IfNone, subst₂, Result, Err, Ok, is_ok, refl, true≢false, nat_cmp}
 use Rattle.std.proofs.lemmas.List.{get_or_default, get_or-set_same, get_or-set_other}
 use Rattle.std.proofs.lemmas.Bool.{cases_eq, cases_order, cases_lt}
 use Rattle.std.proofs.lemmas.Option.{same_Some, get_or_from_slice_get, slice_get_within, slice_get_read, slice_get-get_or}
@@ -24,16 +24,36 @@ same_place xs i j rising wi wj same =
     (λ gt. let d = below_from_sorted xs j i 0 sorted gt wi in omega (arith, d, same)) apart))
     (cases_order i j)
 
+never_falls : (xs : List ℕ) → IsStrictlyIncreasing xs → (i j : ℕ) → i ≤ j → j < length xs → get_or xs i 0 ≤ get_or xs j 0
+never_falls xs rising i j le h =
+    let sorted = sorted_from_strictly_increasing xs rising in
+    ⊎_elim (λ here. subst (λ m. get_or xs i 0 ≤ get_or xs m 0) here (let z : get_or xs i 0 ≤ get_or xs i 0 = omega arith in z))
+    (λ apart. ⊎_elim (λ lt. let d = below_from_sorted xs i j 0 sorted lt h in omega (arith, d)) (λ gt. absurd (omega (arith, gt, le))) apart) (cases_order i j)
+
 -- a binary search finds each member
 pub not_missing : (xs : List ℕ) (x k : ℕ) (r : Result ℕ ℕ) → IsStrictlyIncreasing xs → Contains xs x → r ≡ Err k → IsBinarySearchResult (λ y. nat_cmp y x) xs r → ⊥
 not_missing xs x k r rising has missing position =
-    let sorted = sorted_from_strictly_increasing xs rising in
-    let up : (i j : ℕ) → i ≤ j → j < length xs → get_or xs i 0 ≤ get_or xs j 0 = λ i j le h.
-    ⊎_elim (λ here. subst (λ m. get_or xs i 0 ≤ get_or xs m 0) here (let z : get_or xs i 0 ≤ get_or xs i 0 = omega arith in z))
-    (λ apart. ⊎_elim (λ lt. let d = below_from_sorted xs i j 0 sorted lt h in omega (arith, d)) (λ gt. absurd (omega (arith, gt, le))) apart) (cases_order i j) in
     let at : get_or xs has.0 0 ≡ x = get_or_default xs has.0 0 x has.1 ∙ has.2 in
-    let found = searched xs x (Err k) (subst (λ q. IsBinarySearchResult (λ y. nat_cmp y x) xs q) missing position) up in
+    let found = searched xs x (Err k) (subst (λ q. IsBinarySearchResult (λ y. nat_cmp y x) xs q) missing position) (never_falls xs rising) in
     ⊎_elim (λ lt. let l = found.1 has.0 lt in omega (arith, l, at)) (λ ge. let l = found.2 has.0 (omega (arith, ge)) has.1 in omega (arith, l, at)) (cases_lt has.0 k)
+
+-- and no other number
+pub found_or_not : (xs : List ℕ) (x : ℕ) (r : Result ℕ ℕ) → IsStrictlyIncreasing xs → IsBinarySearchResult (λ y. nat_cmp y x) xs r → (is_ok r ≡ true → Contains xs x) × (Contains xs x → is_ok r ≡ true)
+found_or_not xs x (Ok p) rising position = (λ on. let found = searched xs x (Ok p) position (never_falls xs rising) in (p, found.0, get_or_default xs p x 0 found.0 ∙ found.1), λ has. refl)
+found_or_not xs x (Err k) rising position = (λ on. absurd (true≢false (sym on)), λ has. absurd (not_missing xs x k (Err k) rising has refl position))
+
+pub table_fits : (t : DepTable) (b : Bool) (ms : List ℕ) (rows : List (Vec ℕ Global)) → ms ≡ t.members.items → rows ≡ t.needs.items → IsStrictlyIncreasing t.members.items →
+    length t.needs.items ≡ length t.members.items → (b ≡ true → All (IsRow ms) rows) × (All (IsRow ms) rows → b ≡ true) → (b ≡ true → IsTable t) × (IsTable t → b ≡ true)
+table_fits t b ms rows same_ms same_rows rising long test = (
+  λ on. record { rising = rising; rows = long; each = subst₂ (λ xs vs. All (IsRow xs) vs) same_ms same_rows (test.0 on) },
+  λ ok. test.1 (subst₂ (λ xs vs. All (IsRow xs) vs) (sym same_ms) (sym same_rows) ok.each),
+)
+
+pub row_of : (ms ns : List ℕ) (v : Vec ℕ Global) → ns ≡ v.items → IsStrictlyIncreasing ns × All (Contains ms) ns → IsRow ms v
+row_of ms ns v same h = record { rising = subst IsStrictlyIncreasing same h.0; closed = subst (All (Contains ms)) same h.1 }
+
+pub of_row : (ms ns : List ℕ) (v : Vec ℕ Global) → ns ≡ v.items → IsRow ms v → IsStrictlyIncreasing ns × All (Contains ms) ns
+of_row ms ns v same r = (subst IsStrictlyIncreasing (sym same) r.rising, subst (All (Contains ms)) (sym same) r.closed)
 
 pub one_place : (xs : List ℕ) (i j c : ℕ) → IsStrictlyIncreasing xs → slice_get xs i ≡ Some c → slice_get xs j ≡ Some c → i ≡ j
 one_place xs i j c rising at_i at_j =

@@ -27,3 +27,32 @@ pub fn find(alloc: Global, table: &DepTable) -> Result<Option<Vec<u32>>, NoMemor
         Err(_) => Err(NoMemory),
     }
 }
+
+#[cfg(test)]
+mod tests {
+    use super::{DepTable, find};
+    use std::alloc::{AllocError, Global};
+    use std::test::Fail;
+
+    // 2 has no needs, 5 needs 2 and 9, 7 needs 5, and 9 needs 7.
+    fn table(alloc: Global) -> Result<DepTable, AllocError> {
+        let members = vec![in alloc; 2, 5, 7, 9]?;
+        let needs = vec![in alloc;
+            Vec::new(alloc),
+            vec![in alloc; 2, 9]?,
+            vec![in alloc; 5]?,
+            vec![in alloc; 7]?,
+        ]?;
+        Ok(DepTable { members, needs })
+    }
+
+    #[test]
+    fn a_loop_is_listed_from_its_least_block(rt: HostRuntime) -> Result<(), Fail> {
+        let alloc = rt.alloc();
+        let table = table(alloc)?;
+        assert!(&rt; table.is_well_formed());
+        let found = find(alloc, &table);
+        assert_eq!(rt; found, Ok(Some(vec![in alloc; 5, 7, 9]?)));
+        Ok(())
+    }
+}

@@ -1,6 +1,7 @@
 // Tables of dependencies.
-ghost use Rattle.std.specs.Prelude.{◌≡◌, ◌<◌, length, Contains, slice_index};
+ghost use Rattle.std.specs.Prelude.{◌≡◌, ◌<◌, ◌↔◌, length, All, Contains, IsTrue, slice_index};
 ghost use Rattle.std.specs.List.Sorted.{IsStrictlyIncreasing};
+ghost use Rattle.sci_loop.specs.Table.{IsTable, IsRow};
 
 /// Which blocks depend on which. A table is well formed where `members` rises strictly, `needs` has one list for each member,
 /// and each of these lists rises strictly and holds members alone.
@@ -10,6 +11,75 @@ pub struct DepTable {
     pub members: Vec<u32>,
     /// For each member the members that it depends on, by number.
     pub needs: Vec<Vec<u32>>,
+}
+
+impl DepTable {
+    /// Whether the table is well formed.
+    pub fn is_well_formed(&self) -> bool
+        ensures { IsTrue result ↔ IsTable self.now }
+    {
+        if !rises(&self.members) {
+            return false;
+        }
+        if self.needs.len() != self.members.len() {
+            return false;
+        }
+        rows_fit(&self.members, &self.needs)
+    }
+}
+
+// Whether each number is less than the next.
+fn rises(numbers: &[u32]) -> bool
+    ensures { IsTrue result ↔ IsStrictlyIncreasing numbers.now }
+{
+    for i in 1..numbers.len() {
+        if numbers[i] <= numbers[i - 1] {
+            return false;
+        }
+    }
+    true
+}
+
+// Whether the number is a member.
+fn is_member(members: &[u32], number: u32) -> bool
+    requires { IsStrictlyIncreasing members.now }
+    ensures { IsTrue result ↔ Contains members.now number }
+{
+    members.binary_search(&number).is_ok()
+}
+
+// Whether each number is a member.
+fn all_members(members: &[u32], numbers: &[u32]) -> bool
+    requires { IsStrictlyIncreasing members.now }
+    ensures { IsTrue result ↔ All (Contains members.now) numbers.now }
+{
+    for i in 0..numbers.len() {
+        if !is_member(members, numbers[i]) {
+            return false;
+        }
+    }
+    true
+}
+
+// Whether the numbers rise and are members.
+fn row_fits(members: &[u32], row: &[u32]) -> bool
+    requires { IsStrictlyIncreasing members.now }
+    ensures { IsTrue result ↔ (IsStrictlyIncreasing row.now × All (Contains members.now) row.now) }
+{
+    rises(row) && all_members(members, row)
+}
+
+// Whether each list rises and holds members alone.
+fn rows_fit(members: &[u32], rows: &[Vec<u32>]) -> bool
+    requires { IsStrictlyIncreasing members.now }
+    ensures { IsTrue result ↔ All (IsRow members.now) rows.now }
+{
+    for i in 0..rows.len() {
+        if !row_fits(members, &rows[i]) {
+            return false;
+        }
+    }
+    true
 }
 
 /// The place of a member.
