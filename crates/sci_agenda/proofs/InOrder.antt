@@ -2,7 +2,7 @@
 use Rattle.std.proofs.Common.{◌≡◌, ◌<◌, ◌≤◌, ◌==◌, ◌||◌, nat_lt, not, ℕ, Bool, true, false, List, [], ◌∷◌, map, Option, Some, None, if◌then◌else◌, refl, sym, ◌∙◌, ap, subst, arith}
 use Rattle.std.proofs.lemmas.Bool.Decides.{nat_tests}
 use Rattle.sci_links.proofs.TestLemmas.{by_cases}
-use Rattle.sci_net.specs.Pending.{Event, Pending, is_earlier, earlier, next, without, is_pending, programmed}
+use Rattle.sci_pending.specs.Pending.{Event, Pending, is_earlier, earlier, next, without, is_pending, programmed}
 use Rattle.sci_agenda.specs.Firing.{put_behind, is_pending as waits}
 use Rattle.sci_agenda.specs.FiringOrder.{put_sorted, sorted, due, in_order, Falls, FiringOrderLaw}
 

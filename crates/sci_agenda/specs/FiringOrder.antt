@@ -1,7 +1,7 @@
 -- The pending events, which have their numbers and stand in no order, as the list of (date, source) in the order in which
 -- they fire.
 use Rattle.std.specs.Prelude.{◌≡◌, ℕ, ◌<◌, List, [], ◌∷◌, Some, None, if◌then◌else◌, map}
-use Rattle.sci_net.specs.Pending.{Event, Pending, is_earlier, next, without, is_pending, programmed}
+use Rattle.sci_pending.specs.Pending.{Event, Pending, is_earlier, next, without, is_pending, programmed}
 use Rattle.sci_agenda.specs.Firing.{put_behind, is_pending as waits}
 
 -- before all that are later

@@ -4,9 +4,9 @@ use Rattle.sci_base.specs.declared.observation.Obs.{Obs}
 use Rattle.sci_base.specs.declared.observation.Obs.TheVariants.{Start, End, Stop}
 use Rattle.sci_base.specs.declared.observation.EndWord.TheVariants.{Empty, Until}
 use Rattle.sci_base.specs.declared.observation.StopWord.TheVariants.{Conflict}
-use Rattle.sci_net.specs.Timer.{EventDelay, is_fed}
-use Rattle.sci_net.specs.Pending.{Event, Pending, next, without, is_pending, programmed}
-use Rattle.sci_net.specs.Run.{first_event, first_events, at_start, program, then_programs, programs, Turn, ends, fires, reacts, turn_at, turn, then_goes, run, trace}
+use Rattle.sci_pending.specs.Timer.{EventDelay, is_fed}
+use Rattle.sci_pending.specs.Pending.{Event, Pending, next, without, is_pending, programmed}
+use Rattle.sci_pending.specs.Run.{first_event, first_events, at_start, program, then_programs, programs, Turn, ends, fires, reacts, turn_at, turn, then_goes, run, trace}
 use Rattle.sci_agenda.specs.Firing.{put_behind}
 use Rattle.sci_agenda.specs.FiringOrder.{in_order, IsNumbered}
 use Rattle.sci_agenda.proofs.InOrder.{firing_order}

@@ -11,8 +11,8 @@ use Rattle.sci_base.specs.declared.observation.EndWord.TheVariants.{Halt, Events
 use Rattle.sci_base.specs.declared.observation.StopWord.TheVariants.{Conflict}
 use Rattle.sci_io.specs.Taken.{SinkState, Writes, UnderWay}
 use Rattle.sci_io.proofs.Advance.{next_front, cut_off, finished}
-use Rattle.sci_net.specs.Timer.{EventDelay}
-use Rattle.sci_net.specs.Run.{Turn, ends, fires, reacts, then_goes}
+use Rattle.sci_pending.specs.Timer.{EventDelay}
+use Rattle.sci_pending.specs.Run.{Turn, ends, fires, reacts, then_goes}
 use Rattle.sci_trace.specs.Lines.{line, text, last_after, is_stop, stops}
 use Rattle.sci_sim.specs.declared.ready.RunEnd.{RunEnd}
 use Rattle.sci_sim.specs.declared.ready.RunEnd.TheVariants.{End as Ended, Stop as Stopped}

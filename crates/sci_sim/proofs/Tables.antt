@@ -3,7 +3,7 @@ use Rattle.std.proofs.Common.{◌≡◌, ◌<◌, ◌≤◌, ◌+◌, ◌^◌, �
 use Rattle.std.specs.List.{AllByRecursion}
 use Rattle.std.proofs.lemmas.Int.{ints}
 use Rattle.std.proofs.lemmas.List.Elements.{All-from_recursion, recursion_from_All}
-use Rattle.sci_net.specs.Timer.{EventDelay, is_fed, IsTimer, IsNet}
+use Rattle.sci_pending.specs.Timer.{EventDelay, is_fed, IsTimer, IsNet}
 use Rattle.sci_agenda.specs.Firing.{Meaning, IsPort}
 use Rattle.sci_sim.specs.declared.targets.Target.{Target}
 use Rattle.sci_sim.specs.Targets.{row, target_of, targets_from, IsTurnedRound}

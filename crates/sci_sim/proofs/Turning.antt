@@ -8,8 +8,8 @@ use Rattle.std.proofs.Math.Seq.{drop-cons}
 use Rattle.std.proofs.Math.ListN.{drop_of_length-le}
 use Rattle.std.proofs.lemmas.List.{append-nil, length-drop, get_or-drop, get_or-set_other, get_or-set_same, get_or-map, map-set, length-map, length-replicate, replicate-append-replicate}
 use Rattle.std.proofs.lemmas.List.Elements.{All-get_or}
-use Rattle.sci_net.specs.declared.net.Timer.{Timer}
-use Rattle.sci_net.specs.Timer.{EventDelay, event_delay, is_fed, IsTimer, IsNet}
+use Rattle.sci_pending.specs.declared.net.Timer.{Timer}
+use Rattle.sci_pending.specs.Timer.{EventDelay, event_delay, is_fed, IsTimer, IsNet}
 use Rattle.sci_sim.specs.declared.targets.Target.{Target}
 use Rattle.sci_sim.specs.Targets.{items_of, row, target_of, targets_from, Adds, AddsTimer, IsTurnedRound}
 use Rattle.sci_sim.proofs.Cases.{known, eq_true, eq_false, differ}

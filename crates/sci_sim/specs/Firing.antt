@@ -3,8 +3,8 @@ use Rattle.std.specs.Prelude.{ℕ, zero, suc, ◌+◌, nat_lt, ℤ, pos, negsuc,
 use Rattle.sci_base.specs.declared.observation.Obs.{Obs}
 use Rattle.sci_base.specs.declared.observation.Obs.TheVariants.{End}
 use Rattle.sci_base.specs.declared.observation.EndWord.TheVariants.{Events, Empty, Until}
-use Rattle.sci_net.specs.Timer.{EventDelay}
-use Rattle.sci_net.specs.Run.{Turn, ends, reacts, then_goes}
+use Rattle.sci_pending.specs.Timer.{EventDelay}
+use Rattle.sci_pending.specs.Run.{Turn, ends, reacts, then_goes}
 use Rattle.sci_agenda.specs.Firing.{put_behind, is_pending}
 use Rattle.sci_sim.specs.declared.targets.Target.{Target}
 use Rattle.sci_sim.specs.Targets.{targets_from}

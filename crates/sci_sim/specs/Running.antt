@@ -1,7 +1,7 @@
 -- A net that is ready to run, or whose run is under way.
 use Rattle.std.specs.Prelude.{◌≡◌, List, length}
-use Rattle.sci_net.specs.Timer.{EventDelay, IsNet}
-use Rattle.sci_net.specs.Run.{at_start}
+use Rattle.sci_pending.specs.Timer.{EventDelay, IsNet}
+use Rattle.sci_pending.specs.Run.{at_start}
 use Rattle.sci_agenda.specs.Firing.{Meaning}
 use Rattle.sci_agenda.specs.FiringOrder.{in_order}
 use Rattle.sci_sim.specs.declared.targets.Target.{Target}

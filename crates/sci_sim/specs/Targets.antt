@@ -2,7 +2,7 @@
 use Rattle.std.specs.Prelude.{◌≡◌, ℕ, ◌+◌, ◌<◌, ◌==◌, ℤ, pos, negsuc, List, [], ◌∷◌, ◌++◌, length, slice_index_or, Vec, if◌then◌else◌}
 use Rattle.std.specs.List.{list_any}
 use Rattle.std.specs.declared.alloc.Global.{Global}
-use Rattle.sci_net.specs.Timer.{EventDelay, is_fed}
+use Rattle.sci_pending.specs.Timer.{EventDelay, is_fed}
 use Rattle.sci_sim.specs.declared.targets.Target.{Target}
 
 abbrev pub items_of : Vec Target Global → List Target

@@ -3,7 +3,7 @@ use Rattle.std.specs.Prelude.{◌≡◌, ℕ, ◌≤◌, ◌<◌, List, [], ◌�
 use Rattle.sci_base.specs.declared.observation.EndWord.{EndWord}
 use Rattle.sci_base.specs.declared.observation.EndWord.TheVariants.{Halt, Events, Empty, Until}
 use Rattle.sci_base.specs.declared.observation.StopWord.TheVariants.{Conflict}
-use Rattle.sci_net.specs.Run.{Turn}
+use Rattle.sci_pending.specs.Run.{Turn}
 use Rattle.sci_agenda.specs.Firing.{Meaning, IsPort}
 use Rattle.sci_sim.specs.declared.ready.RunEnd.{RunEnd}
 use Rattle.sci_sim.specs.declared.ready.RunEnd.TheVariants.{Stop as Stopped}

@@ -13,7 +13,7 @@ mod tests {
     use super::*;
     use sci_base::StopWord;
     use sci_io::MemSink;
-    use sci_net::{Net, Timer};
+    use sci_pending::{Timer, TimerNet};
     use std::test::Fail;
 
     #[test]
@@ -31,7 +31,7 @@ mod tests {
             firing: -1,
             fed_by: by_first_too,
         };
-        let net = Net::timers(alloc, vec![in alloc; clock, late]?)?;
+        let net = TimerNet::new(alloc, vec![in alloc; clock, late]?)?;
         let mut out = MemSink::new(alloc, Vec::new(alloc), 100)?;
         let mut ready = Ready::new(alloc, net)?;
         let end = ready.run(100, 10, &mut out)?;

@@ -1,13 +1,13 @@
 // Programming events.
 ghost use Rattle.std.specs.Prelude.{◌≡◌, ℕ, ◌+◌, [], ◌≤◌, ◌<◌, ◌^◌, ◌<ℤ◌, pos, false, map, length, All, OnOk, IfErr, Ok, Err};
-ghost use Rattle.sci_net.specs.Timer.{event_delay, IsNet};
+ghost use Rattle.sci_pending.specs.Timer.{event_delay, IsNet};
 ghost use Rattle.sci_agenda.specs.Firing.{Meaning, IsPort, is_pending};
 ghost use Rattle.sci_sim.specs.Firing.{program_due, due_first, first_due};
 
 use crate::targets::Target;
 use sci_agenda::agenda::Agenda;
 use sci_agenda::wheel::WheelAgenda;
-use sci_net::Timer;
+use sci_pending::Timer;
 
 /// The targets program their outputs at a date. An `Err` is the block of a conflict.
 pub fn program(targets: &[Target], date: u64, agenda: &mut WheelAgenda) -> Result<(), u32>

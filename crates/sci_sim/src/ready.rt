@@ -2,7 +2,7 @@
 ghost use Rattle.std.specs.Prelude.{◌≡◌, ◌≤◌, ◌^◌, IfOk, Some};
 ghost use Rattle.sci_io.specs.Taken.{Writes};
 ghost use Rattle.sci_trace.specs.Lines.{text, stops};
-ghost use Rattle.sci_net.specs.Run.{trace};
+ghost use Rattle.sci_pending.specs.Run.{trace};
 
 use crate::programming::{program, program_first};
 use crate::targets::Targets;
@@ -10,7 +10,7 @@ use crate::turn::{Next, next_event, write_end, write_reaction};
 use sci_agenda::wheel::WheelAgenda;
 use sci_base::{EndWord, NoMemory, Obs, StopWord};
 use sci_io::{Failed, Sink};
-use sci_net::Net;
+use sci_pending::TimerNet;
 use sci_trace::write_obs;
 use std::alloc::Global;
 use std::marker::Model;
@@ -27,7 +27,7 @@ pub enum RunEnd {
 /// A net that is ready to run, with all memory that its run needs.
 #[derive(Drop)]
 pub struct Ready {
-    net: Net,
+    net: TimerNet,
     targets: Targets,
     agenda: WheelAgenda,
 }
@@ -49,7 +49,7 @@ impl Ready {
     ghost use Rattle.sci_sim.specs.Ended.{how_ended, is_stopped};
 
     /// The net before its run. It takes all memory of the run; a net of 2^32 timers or more counts as want of memory.
-    pub fn new(alloc: Global, n: Net) -> Result<Ready, NoMemory>
+    pub fn new(alloc: Global, n: TimerNet) -> Result<Ready, NoMemory>
         ensures net { IfOk result (λ r. r.net ≡ n) }
         ensures start { IfOk result (λ r. IsAtStart r) }
     {

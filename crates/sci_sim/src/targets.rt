@@ -1,10 +1,10 @@
 // What each source programs.
 ghost use Rattle.std.specs.Prelude.{◌≡◌, ℕ, ◌+◌, ◌∷◌, ◌++◌, [], ◌<◌, ◌≤◌, ◌^◌, map, length, replicate, slice_set, All, OnOk, IfOk};
 ghost use Rattle.std.specs.List.Sorted.{IsStrictlyIncreasing};
-ghost use Rattle.sci_net.specs.Timer.{event_delay, IsNet};
+ghost use Rattle.sci_pending.specs.Timer.{event_delay, IsNet};
 ghost use Rattle.sci_sim.specs.Targets.{row, Adds, AddsTimer, IsTurnedRound};
 
-use sci_net::Timer;
+use sci_pending::Timer;
 use std::alloc::{AllocError, Global};
 use std::marker::Model;
 

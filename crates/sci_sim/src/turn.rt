@@ -4,7 +4,7 @@ ghost use Rattle.sci_io.specs.Taken.{Writes};
 ghost use Rattle.sci_base.specs.declared.observation.Obs.TheVariants.{End, Stop};
 ghost use Rattle.sci_base.specs.declared.observation.StopWord.TheVariants.{Conflict};
 ghost use Rattle.sci_trace.specs.Lines.{text, line};
-ghost use Rattle.sci_net.specs.Run.{reacts, fires};
+ghost use Rattle.sci_pending.specs.Run.{reacts, fires};
 ghost use Rattle.sci_sim.specs.Turns.{IsNext, IsEndOf};
 
 use crate::ready::RunEnd;

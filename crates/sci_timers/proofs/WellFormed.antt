@@ -11,7 +11,7 @@ use Rattle.sci_base.specs.Plain.{Fields}
 use Rattle.sci_diagram.specs.declared.diagram.Diagram.{Diagram, out-Diagram, the_lemmas}
 use Rattle.sci_diagram.specs.Objects.{Object, block, superblock, link, text, deleted, Objects, objects_of, listed, object_view, diagram_view}
 use Rattle.sci_diagram.specs.TimerForm.{is_block, number_of, IsPart, IsOfTimers, IsTimer as HasTimerFields}
-use Rattle.sci_net.specs.Timer.{IsTimer, IsNet}
+use Rattle.sci_pending.specs.Timer.{IsTimer, IsNet}
 use Rattle.sci_timers.specs.Timers.{feeds, timer, timers_from, timers_of}
 
 listed-objects_of : (os : List Object) → listed (objects_of os) ≡ os

@@ -3,7 +3,7 @@ ghost use Rattle.std.specs.Prelude.{◌≡◌, ℕ, ◌+◌, ◌<◌, ◌≤◌,
 ghost use Rattle.sci_base.specs.Plain.{fields_of};
 ghost use Rattle.sci_diagram.specs.Objects.{object_view};
 ghost use Rattle.sci_diagram.specs.TimerForm.{is_block, number_of};
-ghost use Rattle.sci_net.specs.Timer.{event_delay};
+ghost use Rattle.sci_pending.specs.Timer.{event_delay};
 ghost use Rattle.sci_timers.specs.Timers.{timer_with, timers_from, fed_by};
 ghost use Rattle.sci_timers.specs.Feeding.{list_at, plain};
 
@@ -11,7 +11,7 @@ use crate::numbering::numbering_of;
 use crate::sources::{sources_of, targets_of};
 use sci_base::BlockFields;
 use sci_diagram::Obj;
-use sci_net::Timer;
+use sci_pending::Timer;
 use std::alloc::{AllocError, Global};
 
 pub(crate) fn timers_of(alloc: Global, objs: &[Obj]) -> Result<Vec<Timer>, AllocError>

@@ -4,7 +4,7 @@
 ghost use Rattle.std.specs.Prelude.{◌≡◌, map, IfOk};
 ghost use Rattle.sci_diagram.specs.Objects.{diagram_view};
 ghost use Rattle.sci_diagram.specs.TimerForm.{IsOfTimers};
-ghost use Rattle.sci_net.specs.Timer.{event_delay, IsNet};
+ghost use Rattle.sci_pending.specs.Timer.{event_delay, IsNet};
 ghost use Rattle.sci_timers.specs.Timers.{timers_of};
 
 mod build;
@@ -16,7 +16,7 @@ mod tests;
 
 use sci_base::NoMemory;
 use sci_diagram::Diagram;
-use sci_net::{Net, Timer};
+use sci_pending::{Timer, TimerNet};
 use std::alloc::Global;
 
 /// The timers of a diagram of timers, one for each block in the order of the blocks. The timers whose events feed one are
@@ -33,9 +33,9 @@ pub fn timers(alloc: Global, d: &Diagram) -> Result<Vec<Timer>, NoMemory>
 }
 
 /// The net of a diagram of timers.
-pub fn net(alloc: Global, d: &Diagram) -> Result<Net, NoMemory>
+pub fn net(alloc: Global, d: &Diagram) -> Result<TimerNet, NoMemory>
     requires { IsOfTimers (diagram_view d.now) }
     ensures { IfOk result (λ n. n ≡ timers_of (diagram_view d.now)) }
 {
-    Net::timers(alloc, timers(alloc, d)?)
+    TimerNet::new(alloc, timers(alloc, d)?)
 }

@@ -7,7 +7,7 @@ use Rattle.sci_io.specs.Causes.{Rose}
 use Rattle.sci_io.specs.Files.{Files, FolderState}
 use Rattle.sci_io.specs.Taken.{SinkState}
 use Rattle.sci_trace.specs.Lines.{stops}
-use Rattle.sci_net.specs.Run.{trace}
+use Rattle.sci_pending.specs.Run.{trace}
 use Rattle.sci_diagram.specs.Objects.{Objects}
 use Rattle.sci_diagram.specs.Reading.{Accepts}
 use Rattle.sci_timers.specs.Timers.{timers_of}

@@ -2,7 +2,7 @@
 use Rattle.std.specs.Prelude.{◌≡◌, ◌≤◌, ◌^◌, ◌⊎◌, List, ℕ}
 use Rattle.sci_base.specs.Plain.{Violation, violation_of}
 use Rattle.sci_io.specs.Files.{FolderState}
-use Rattle.sci_net.specs.Run.{trace}
+use Rattle.sci_pending.specs.Run.{trace}
 use Rattle.sci_sim.specs.Running.{IsAtStart}
 use Rattle.sci_diagram.specs.Objects.{Objects}
 use Rattle.scicos.specs.Inputs.{AcceptsInputs, BreaksInputs}

@@ -1,7 +1,7 @@
 ghost use Rattle.std.specs.Prelude.{◌≡◌, ◌≤◌, ◌<◌, ◌^◌, length};
 ghost use Rattle.sci_base.specs.Plain.{violation_of};
 ghost use Rattle.sci_report.specs.Line.{refused_line};
-ghost use Rattle.sci_net.specs.Run.{trace};
+ghost use Rattle.sci_pending.specs.Run.{trace};
 ghost use Rattle.sci_sim.specs.Running.{IsAtStart};
 ghost use Rattle.scicos.specs.Answer.{write_fault_line, usage_line, read_fault_line, no_memory_line};
 ghost use Rattle.scicos.specs.Written.{Written};

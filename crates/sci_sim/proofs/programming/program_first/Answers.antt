@@ -1,5 +1,5 @@
 use Rattle.std.proofs.Common.{◌+◌, List, map, drop, sym, subst, ap, arith, ◌∙◌}
-use Rattle.sci_net.specs.Timer.{EventDelay, event_delay}
+use Rattle.sci_pending.specs.Timer.{EventDelay, event_delay}
 use Rattle.sci_sim.specs.Firing.{first_due}
 use Rattle.sci_sim.proofs.Turning.{delays-drop, timer_of}
 use Rattle.sci_sim.proofs.Programmed.{IsFresh, fresh_more}

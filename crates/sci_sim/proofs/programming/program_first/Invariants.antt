@@ -1,5 +1,5 @@
 use Rattle.std.proofs.Common.{◌≡◌, ◌+◌, [], drop, map, length}
-use Rattle.sci_net.specs.Timer.{event_delay}
+use Rattle.sci_pending.specs.Timer.{event_delay}
 use Rattle.sci_sim.specs.Firing.{first_due}
 use Rattle.sci_sim.proofs.Programmed.{IsFresh}
 use Rattle.sci_sim.proofs.programming.program_first.Given as goal

@@ -4,7 +4,7 @@ use Rattle.sci_base.specs.declared.observation.Obs.TheVariants.{Stop}
 use Rattle.sci_base.specs.declared.observation.StopWord.TheVariants.{Conflict}
 use Rattle.sci_io.proofs.Advance.{then_writes, stopped, same_text}
 use Rattle.sci_trace.specs.Lines.{line, text}
-use Rattle.sci_net.specs.Run.{reacts, fires}
+use Rattle.sci_pending.specs.Run.{reacts, fires}
 use Rattle.sci_sim.proofs.turn.write_observed.Goals as goal
 
 pub returns-in-Ok : goal.returns-in-Ok

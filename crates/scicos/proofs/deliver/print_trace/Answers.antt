@@ -1,6 +1,6 @@
 use Rattle.std.proofs.Common.{rules}
 use Rattle.sci_trace.specs.Lines.{text}
-use Rattle.sci_net.specs.Run.{trace}
+use Rattle.sci_pending.specs.Run.{trace}
 use Rattle.scicos.proofs.Giving.{flushed, not_flushed, ran_cut, ran_whole}
 use Rattle.scicos.proofs.deliver.print_trace.Goals as goal
 

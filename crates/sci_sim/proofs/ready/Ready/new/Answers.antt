@@ -1,8 +1,8 @@
 use Rattle.std.proofs.Common.{◌≡◌, [], List, ℕ, map, length, sym, ◌∙◌, ap}
 use Rattle.std.proofs.lemmas.List.{length-map}
-use Rattle.sci_net.specs.declared.net.Timer.{Timer}
-use Rattle.sci_net.specs.Timer.{EventDelay, event_delay}
-use Rattle.sci_net.specs.Run.{at_start}
+use Rattle.sci_pending.specs.declared.net.Timer.{Timer}
+use Rattle.sci_pending.specs.Timer.{EventDelay, event_delay}
+use Rattle.sci_pending.specs.Run.{at_start}
 use Rattle.sci_agenda.specs.Firing.{Meaning}
 use Rattle.sci_agenda.specs.FiringOrder.{in_order}
 use Rattle.sci_sim.specs.Firing.{first_due}

@@ -9,7 +9,7 @@ use Rattle.sci_sim.specs.declared.ready.RunEnd.{RunEnd}
 use Rattle.sci_sim.specs.Firing.{run_due}
 use Rattle.sci_sim.specs.Running.{Running, IsAtStart}
 use Rattle.sci_sim.specs.Ended.{how_ended, is_stopped}
-use Rattle.sci_net.specs.Run.{trace}
+use Rattle.sci_pending.specs.Run.{trace}
 use Rattle.sci_sim.proofs.InOrder.{trace_in_order}
 use Rattle.sci_sim.proofs.Runs.{how_ended-run, stops_by, if_ok}
 use Rattle.sci_sim.proofs.ready.Ready.run.Goals as goal

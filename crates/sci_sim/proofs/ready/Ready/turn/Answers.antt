@@ -2,7 +2,7 @@ use Rattle.std.proofs.Common.{◌≡◌, ◌<◌, List, ℕ, All, length, sym, �
 use Rattle.sci_io.specs.Taken.{Writes}
 use Rattle.sci_io.proofs.Advance.{same_text}
 use Rattle.sci_trace.specs.Lines.{text}
-use Rattle.sci_net.specs.Run.{Turn, reacts}
+use Rattle.sci_pending.specs.Run.{Turn, reacts}
 use Rattle.sci_agenda.specs.Firing.{IsPort}
 use Rattle.sci_sim.specs.declared.targets.Target.{Target}
 use Rattle.sci_sim.specs.Targets.{targets_from}

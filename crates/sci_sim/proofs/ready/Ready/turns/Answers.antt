@@ -1,6 +1,6 @@
 use Rattle.std.proofs.Common.{List, Option, ◌∙◌, subst, rules}
 use Rattle.sci_io.specs.Taken.{Writes}
-use Rattle.sci_net.specs.Timer.{EventDelay}
+use Rattle.sci_pending.specs.Timer.{EventDelay}
 use Rattle.sci_trace.specs.Lines.{text}
 use Rattle.sci_sim.specs.declared.ready.RunEnd.{RunEnd}
 use Rattle.sci_sim.specs.Firing.{turn_due}

@@ -1,6 +1,6 @@
 use Rattle.std.proofs.Common.{◌≡◌, map, length, arith}
 use Rattle.std.proofs.lemmas.List.{length-map}
-use Rattle.sci_net.specs.Timer.{event_delay}
+use Rattle.sci_pending.specs.Timer.{event_delay}
 use Rattle.sci_sim.proofs.Turning.{timer_of, sources_within}
 use Rattle.sci_sim.proofs.targets.Targets.of_net.Goals as goal
 

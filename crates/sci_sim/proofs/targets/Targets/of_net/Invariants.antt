@@ -1,5 +1,5 @@
 use Rattle.std.proofs.Common.{◌≡◌, ◌+◌, drop, map}
-use Rattle.sci_net.specs.Timer.{event_delay}
+use Rattle.sci_pending.specs.Timer.{event_delay}
 use Rattle.sci_sim.proofs.Turning.{Turning}
 use Rattle.sci_sim.proofs.targets.Targets.of_net.Given as goal
 

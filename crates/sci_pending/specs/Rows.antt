@@ -3,8 +3,8 @@ use Rattle.std.specs.Prelude.{◌≡◌, ◌^◌, ℕ, ℤ, pos, negsuc, List, [
 use Rattle.sci_base.specs.declared.observation.Obs.TheVariants.{Start, End, Stop}
 use Rattle.sci_base.specs.declared.observation.EndWord.TheVariants.{Events, Empty, Until}
 use Rattle.sci_base.specs.declared.observation.StopWord.TheVariants.{Conflict}
-use Rattle.sci_net.specs.Timer.{EventDelay}
-use Rattle.sci_net.specs.Run.{fires, trace}
+use Rattle.sci_pending.specs.Timer.{EventDelay}
+use Rattle.sci_pending.specs.Run.{fires, trace}
 
 abbrev pub timer : ℤ → ℤ → List ℕ → EventDelay
 timer delay firing fed_by = record { delay = delay; firing = firing; fed_by = fed_by }

@@ -2,7 +2,7 @@
 use Rattle.std.specs.Prelude.{ℕ, ◌≤◌, ◌^◌, ◌==◌, ℤ, pos, negsuc, ◌≤ℤ◌, ◌<ℤ◌, List, All, length, Bool}
 use Rattle.std.specs.List.{list_any}
 use Rattle.std.specs.List.Sorted.{IsStrictlyIncreasing}
-use Rattle.sci_net.specs.declared.net.Timer.{Timer}
+use Rattle.sci_pending.specs.declared.net.Timer.{Timer}
 
 pub record EventDelay : Type 0 where
   pub delay : ℤ  -- the ticks from an activation to the event; -1 for none

@@ -4,8 +4,8 @@ use Rattle.sci_base.specs.declared.observation.Obs.{Obs}
 use Rattle.sci_base.specs.declared.observation.Obs.TheVariants.{Start, Event, End, Stop}
 use Rattle.sci_base.specs.declared.observation.EndWord.TheVariants.{Events, Empty, Until}
 use Rattle.sci_base.specs.declared.observation.StopWord.TheVariants.{Conflict}
-use Rattle.sci_net.specs.Timer.{EventDelay, is_fed}
-use Rattle.sci_net.specs.Pending.{Event as PendingEvent, Pending, next, without, is_pending, programmed}
+use Rattle.sci_pending.specs.Timer.{EventDelay, is_fed}
+use Rattle.sci_pending.specs.Pending.{Event as PendingEvent, Pending, next, without, is_pending, programmed}
 
 -- Before the run each firing of 0 or more is programmed, by block.
 abbrev pub first_event : ℕ → ℤ → Pending → Pending

@@ -1,11 +1,11 @@
-//! Flat nets and what they mean: what is pending, the run, what is observed of it. So far a net has timers alone.
+//! Nets of timers and what they mean: what is pending, the run, what is observed of it.
 #![tactic(auto)]
 
-ghost use Rattle.sci_net.specs.Rows.{WorkedRuns};
+ghost use Rattle.sci_pending.specs.Rows.{WorkedRuns};
 
 mod net;
 
-pub use net::{Net, Timer};
+pub use net::{Timer, TimerNet};
 
 /// The run does what was worked out by hand for small nets.
 pub fn worked_runs()
@@ -28,7 +28,7 @@ mod tests {
                 fed_by
             },
         ]?;
-        let net = Net::timers(alloc, parts)?;
+        let net = TimerNet::new(alloc, parts)?;
         let [timer] = net.parts() else {
             return Err(Fail::from("one timer"));
         };

@@ -1,5 +1,5 @@
 ghost use Rattle.std.specs.Prelude.{◌≡◌, ◌<◌, ◌^◌, map, length, IfOk};
-ghost use Rattle.sci_net.specs.Timer.{EventDelay, event_delay, IsNet};
+ghost use Rattle.sci_pending.specs.Timer.{EventDelay, event_delay, IsNet};
 
 use sci_base::NoMemory;
 use std::alloc::Global;
@@ -18,13 +18,13 @@ pub struct Timer {
 
 /// A net of timers, numbered from 1.
 #[derive(Drop)]
-pub struct Net {
+pub struct TimerNet {
     timers: Vec<Timer>,
 }
 
-impl Model for Net {
+impl Model for TimerNet {
     ghost use Rattle.std.specs.Prelude.{◌<◌, ◌^◌, List, map, length};
-    ghost use Rattle.sci_net.specs.Timer.{EventDelay, event_delay, IsNet};
+    ghost use Rattle.sci_pending.specs.Timer.{EventDelay, event_delay, IsNet};
 
     ghost Value = { List EventDelay };
 
@@ -33,13 +33,13 @@ impl Model for Net {
     ghost invariant = { λ n. IsNet (map event_delay n.timers.items) };
 }
 
-impl Net {
+impl TimerNet {
     /// The net of exactly these timers.
-    pub fn timers(_alloc: Global, parts: Vec<Timer>) -> Result<Net, NoMemory>
+    pub fn new(_alloc: Global, parts: Vec<Timer>) -> Result<TimerNet, NoMemory>
         requires { IsNet (map event_delay parts.items) }
         ensures { IfOk result (λ n. n ≡ map event_delay parts.items) }
     {
-        Ok(Net { timers: parts })
+        Ok(TimerNet { timers: parts })
     }
 
     /// The timers by number: the first is block 1.

@@ -1,5 +1,5 @@
 use Rattle.std.proofs.Common.{refl}
-use Rattle.sci_net.proofs.worked_runs.Goals as goal
+use Rattle.sci_pending.proofs.worked_runs.Goals as goal
 
 pub returns : goal.returns
 returns c = record {
