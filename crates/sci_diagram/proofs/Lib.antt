@@ -1,3 +1,6 @@
-pub mod Lists
+pub mod Stopping
+pub mod Light
+pub mod Walking
+pub mod Bytes
 pub mod Values
-pub mod Ranges
+pub mod Few

@@ -1,4 +1,6 @@
 pub mod Objects
-pub mod TimerForm
-pub mod Parts
+pub mod Tree
+pub mod Stops
+pub mod Weight
 pub mod Reading
+pub mod Count

@@ -1,29 +1,25 @@
--- What the bytes of a diagram are read as: a diagram, or the rule that they break.
-use Rattle.std.specs.Prelude.{◌≡◌, ℕ, List, Option, Some, None, option_map, Result, Ok, Err, if◌then◌else◌}
+-- What the bytes of a diagram are read as: a diagram, or the first rule that they break.
+use Rattle.std.specs.Prelude.{◌≡◌, ℕ, List, if◌then◌else◌, Option, Some, None, Result, Ok, Err}
 use Rattle.std.specs.Str.{is_utf8}
 use Rattle.serde_json.specs.Data.{Data}
 use Rattle.serde_json.specs.Read.{read}
-use Rattle.sci_base.specs.declared.refusal.Rule.TheVariants.{NotJson, Unbuilt}
+use Rattle.sci_base.specs.declared.refusal.Rule.TheVariants.{NotJson}
 use Rattle.sci_base.specs.Plain.{Violation, violation_of, of_the_whole}
-use Rattle.sci_base.specs.Outcome.{Outcome}
+use Rattle.sci_base.specs.Outcome.{Outcome, ◌>>=◌}
 use Rattle.sci_diagram.specs.declared.diagram.Diagram.{Diagram}
 use Rattle.sci_diagram.specs.declared.stop.ReadStop.{ReadStop}
 use Rattle.sci_diagram.specs.declared.stop.ReadStop.TheVariants.{Refused, Memory}
-use Rattle.sci_diagram.specs.Objects.{Objects, objects_of, diagram_view}
-use Rattle.sci_diagram.specs.TimerForm.{timers_and_links}
+use Rattle.sci_diagram.specs.Count.{counted}
+use Rattle.sci_diagram.specs.Objects.{Objects, diagram_view}
+use Rattle.sci_diagram.specs.Tree.{tree}
 
 -- the JSON value that the bytes are, which are text first
 abbrev pub value_of : List ℕ → Option Data
 value_of bytes = if is_utf8 bytes then read bytes else None
 
--- a diagram in a form that is built
-abbrev pub built : Option Objects → Outcome Objects
-built None = Err (of_the_whole Unbuilt)
-built (Some os) = Ok os
-
 abbrev pub judge_value : Option Data → Outcome Objects
 judge_value None = Err (of_the_whole NotJson)
-judge_value (Some d) = built (option_map objects_of (timers_and_links d))
+judge_value (Some d) = tree d >>= counted
 
 -- the diagram that the bytes are, or the first rule that they break
 unfoldable pub judge : List ℕ → Outcome Objects

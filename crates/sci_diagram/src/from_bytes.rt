@@ -1,41 +1,60 @@
-// A diagram, from the bytes of its file.
-ghost use Rattle.serde_json.specs.View.{view};
-ghost use Rattle.std.specs.Prelude.{◌≡◌, Some, Ok, Err, IfOk};
+ghost use Rattle.std.specs.Prelude.{◌≡◌, ◌≤◌, Ok, Some, IfOk, IfErr, length, ◌<◌, ◌^◌};
 ghost use Rattle.sci_diagram.specs.Objects.{diagram_view};
-ghost use Rattle.sci_diagram.specs.TimerForm.{IsOfTimers};
-ghost use Rattle.sci_diagram.specs.Reading.{IsRead, IsAnswer, judge_value};
+ghost use Rattle.sci_diagram.specs.Reading.{judge_value, IsRead};
+ghost use Rattle.sci_diagram.specs.Count.{counted, objects_in};
+ghost use Rattle.sci_diagram.specs.Weight.{weight};
+ghost use Rattle.serde_json.specs.View.{view};
+ghost use Rattle.sci_diagram.specs.Stops.{Stops};
 
-use crate::build::diagram_of;
+use crate::counts::{count_blocks, count_links};
 use crate::diagram::Diagram;
-use crate::parts::parts_of;
+use crate::fields::too_many;
 use crate::stop::ReadStop;
+use crate::walk::read_diagram;
 use sci_base::{Refusal, Rule};
 use serde_json::Value;
 use std::alloc::Global;
 
-/// Reads a diagram from the bytes of its file, a JSON text (RFC 8259). Refused are bytes that are no JSON, and so far a
-/// diagram of another form than timers and the activation links between them.
+/// Reads a diagram from the bytes of its file. Refused are, in this order: bytes that are no JSON (rule 1); in the order of
+/// the objects and of their fields, an absent field, a field of another form, and a superblock at level 17 (rules 2 to 4);
+/// too many blocks, and too many links (rules 5 and 6).
 pub fn read(alloc: Global, bytes: &[u8]) -> Result<Diagram, ReadStop>
-    ensures read { IsRead bytes.now result }
-    ensures timers { IfOk result (λ d. IsOfTimers (diagram_view d)) }
+    requires short { length bytes.now ≤ 16777216 }
+    ensures { IsRead bytes.now result }
 {
     match Value::from_slice(alloc, bytes) {
-        Ok(value) => read_value(alloc, &value),
-        Err(error) => {
-            if error.is_memory() {
-                Err(ReadStop::Memory)
-            } else {
-                Err(ReadStop::Refused(Refusal::of_the_whole(alloc, Rule::NotJson)))
-            }
-        }
+        Ok(v) => read_value(alloc, &v),
+        Err(e) => if e.is_memory() {
+            Err(ReadStop::Memory)
+        } else {
+            Err(ReadStop::Refused(Refusal::of_the_whole(alloc, Rule::NotJson)))
+        },
     }
 }
 
-fn read_value(alloc: Global, value: &Value) -> Result<Diagram, ReadStop>
-    ensures { IsAnswer (judge_value (Some (view value.now))) result }
+#[tactic(auto, using(crate::proofs::Stopping::stops_then))]
+fn read_value(alloc: Global, v: &Value) -> Result<Diagram, ReadStop>
+    requires light { weight (view v.now) < 2 ^ 32 }
+    ensures ok { IfOk result (λ d. judge_value (Some (view v.now)) ≡ Ok (diagram_view d)) }
+    ensures stop { IfErr result (λ e. Stops (judge_value (Some (view v.now))) e) }
 {
-    match parts_of(alloc, value)? {
-        Some(parts) => Ok(diagram_of(alloc, &parts)?),
-        None => Err(ReadStop::Refused(Refusal::of_the_whole(alloc, Rule::Unbuilt))),
+    let d = read_diagram(alloc, v, &[], 16)?;
+    within_counts(alloc, d)
+}
+
+#[tactic(auto, unfolding(crate::specs::Count::counted), using(crate::proofs::Stopping::stops_violation))]
+fn within_counts(alloc: Global, d: Diagram) -> Result<Diagram, ReadStop>
+    requires few { objects_in (diagram_view d) < 2 ^ 32 }
+    ensures ok { IfOk result (λ r. counted (diagram_view d) ≡ Ok (diagram_view r)) }
+    ensures stop { IfErr result (λ e. Stops (counted (diagram_view d)) e) }
+{
+    let blocks = count_blocks(&d);
+    if blocks > 2048 {
+        return Err(too_many(alloc, Rule::TooManyBlocks, blocks));
     }
+    let links = count_links(&d);
+    if links > 16384 {
+        return Err(too_many(alloc, Rule::TooManyLinks, links));
+    }
+    Ok(d)
 }

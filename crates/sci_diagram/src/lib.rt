@@ -1,17 +1,24 @@
-//! Reads a diagram from JSON. So far a diagram of timers alone: delayed event blocks, and activation links between them.
+//! Reads a diagram from JSON (RFC 8259): the fields of `scs_m`, with the diagrams inside superblocks.
 #![tactic(auto)]
 
-mod build;
+mod counts;
 mod diagram;
+mod fields;
 mod from_bytes;
 mod laws;
-mod part;
-mod parts;
+mod links;
+mod model;
+mod pass_through;
+mod sorts;
 mod stop;
 #[cfg(test)]
 mod tests;
+mod walk;
 
+pub use counts::{count_blocks, count_links};
 pub use diagram::{BlockObj, Diagram, End, LinkObj, Obj};
 pub use from_bytes::read;
 pub use laws::{one_diagram, one_verdict, one_violation};
+pub use pass_through::is_pass_through;
+pub use sorts::{Role, Sort};
 pub use stop::ReadStop;

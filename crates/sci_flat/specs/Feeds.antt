@@ -1,5 +1,5 @@
 -- Which port feeds which.
-use Rattle.sci_reader.specs.Objects.{Objects}
+use Rattle.sci_diagram.specs.Objects.{Objects}
 use Rattle.sci_flat.specs.Chain.{Chain}
 use Rattle.sci_flat.specs.Ports.{Port, tree_steps}
 

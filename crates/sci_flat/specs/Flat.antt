@@ -1,8 +1,8 @@
 -- The flat net of a tree: its blocks in tree order, numbered from 1, and which outputs feed their inputs.
 use Rattle.std.specs.Prelude.{◌≡◌, ℕ, zero, suc, ◌+◌, ◌<◌, ◌⊎◌, ◌↔◌, pos, List, [], ◌∷◌, ◌++◌, Option, Some, None, slice_get, AllPairs, Contains, if◌then◌else◌}
 use Rattle.sci_base.specs.Plain.{Fields}
-use Rattle.sci_reader.specs.Objects.{Object, block, superblock, link, text, deleted, Objects, no_objects, object}
-use Rattle.sci_reader.specs.Tree.{is_pass_through}
+use Rattle.sci_diagram.specs.Objects.{Object, block, superblock, link, text, deleted, Objects, no_objects, object}
+use Rattle.sci_diagram.specs.Tree.{is_pass_through}
 use Rattle.sci_flat.specs.declared.ports.Class.{Class}
 use Rattle.sci_flat.specs.declared.ports.Class.TheVariants.{Regular, Activation}
 use Rattle.sci_flat.specs.declared.ports.Side.TheVariants.{Input, Output}

@@ -4,8 +4,8 @@ use Rattle.std.specs.List.{range_with_len, zip}
 use Rattle.std.specs.Str.{bytes_eq}
 use Rattle.sci_base.specs.Fit.{int_eq}
 use Rattle.sci_base.specs.Plain.{Fields}
-use Rattle.sci_reader.specs.declared.diagram.End.{End}
-use Rattle.sci_reader.specs.Objects.{Object, block, superblock, link, text, deleted, Objects, no_objects, object}
+use Rattle.sci_diagram.specs.declared.diagram.End.{End}
+use Rattle.sci_diagram.specs.Objects.{Object, block, superblock, link, text, deleted, Objects, no_objects, object}
 use Rattle.sci_flat.specs.declared.ports.Class.{Class}
 use Rattle.sci_flat.specs.declared.ports.Class.TheVariants.{Regular, Activation}
 use Rattle.sci_flat.specs.declared.ports.Side.{Side}

@@ -1,7 +1,7 @@
 -- Feeding, worked out by hand.
 use Rattle.std.specs.Prelude.{ℕ, ℤ, pos, negsuc, [], ◌∷◌, codes, None}
 use Rattle.sci_base.specs.Plain.{Fields}
-use Rattle.sci_reader.specs.Objects.{Object, block, link, Objects, no_objects, object}
+use Rattle.sci_diagram.specs.Objects.{Object, block, link, Objects, no_objects, object}
 use Rattle.sci_flat.specs.declared.ports.Class.TheVariants.{Activation}
 use Rattle.sci_flat.specs.declared.ports.Side.TheVariants.{Input, Output}
 use Rattle.sci_flat.specs.Ports.{port}

@@ -4,9 +4,9 @@ use Rattle.std.specs.Prelude.{◌==◌, filter, All}
 use Rattle.std.specs.List.{list_any, range_with_len}
 use Rattle.std.proofs.lemmas.List.Folds.{list_any-append}
 use Rattle.std.proofs.lemmas.List.FromFn.{length-range_with_len, get_or-range_with_len}
-use Rattle.sci_diagram.specs.declared.diagram.Obj.{Obj}
-use Rattle.sci_diagram.specs.Objects.{Object, block, superblock, link, text, deleted, object_view}
-use Rattle.sci_diagram.specs.TimerForm.{is_block, number_of}
+use Rattle.sci_plain.specs.declared.diagram.Obj.{Obj}
+use Rattle.sci_plain.specs.Objects.{Object, block, superblock, link, text, deleted, object_view}
+use Rattle.sci_plain.specs.TimerForm.{is_block, number_of}
 use Rattle.sci_timers.specs.Timers.{numbers, number_at, is_link_between, feeds, fed_by}
 use Rattle.sci_timers.specs.Feeding.{list_at, one_if, target, targets, is_among, sources}
 use Rattle.sci_timers.proofs.Filling.{one_more}

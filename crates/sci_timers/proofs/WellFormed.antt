@@ -8,9 +8,9 @@ use Rattle.std.proofs.lemmas.Int.{ints}
 use Rattle.std.proofs.lemmas.List.Kept.{IsStrictlyIncreasing-filter}
 use Rattle.std.proofs.lemmas.List.FromFn.{length-range_with_len, get_or-range_with_len}
 use Rattle.sci_base.specs.Plain.{Fields}
-use Rattle.sci_diagram.specs.declared.diagram.Diagram.{Diagram, out-Diagram, the_lemmas}
-use Rattle.sci_diagram.specs.Objects.{Object, block, superblock, link, text, deleted, Objects, objects_of, listed, object_view, diagram_view}
-use Rattle.sci_diagram.specs.TimerForm.{is_block, number_of, IsPart, IsOfTimers, IsTimer as HasTimerFields}
+use Rattle.sci_plain.specs.declared.diagram.Diagram.{Diagram, out-Diagram, the_lemmas}
+use Rattle.sci_plain.specs.Objects.{Object, block, superblock, link, text, deleted, Objects, objects_of, listed, object_view, diagram_view}
+use Rattle.sci_plain.specs.TimerForm.{is_block, number_of, IsPart, IsOfTimers, IsTimer as HasTimerFields}
 use Rattle.sci_pending.specs.Timer.{IsTimer, IsNet}
 use Rattle.sci_timers.specs.Timers.{feeds, timer, timers_from, timers_of}
 

@@ -2,7 +2,7 @@
 use Rattle.std.specs.Prelude.{ℕ, ◌-◌, ◌==◌, Bool, false, Option, Some, None, slice_get, List, filter, [], ◌∷◌, ◌++◌, map, length, slice_index_or, Vec, if◌then◌else◌}
 use Rattle.std.specs.List.{list_any, range_with_len}
 use Rattle.std.specs.declared.alloc.Global.{Global}
-use Rattle.sci_diagram.specs.Objects.{Object, block, superblock, link, text, deleted}
+use Rattle.sci_plain.specs.Objects.{Object, block, superblock, link, text, deleted}
 use Rattle.sci_timers.specs.Timers.{number_at}
 
 abbrev pub Lists : Type 0

@@ -2,8 +2,8 @@
 use Rattle.std.specs.Prelude.{ℕ, ◌+◌, ◌-◌, ◌==◌, ◌&&◌, Bool, false, ℤ, pos, negsuc, List, [], ◌∷◌, slice_index, filter, if◌then◌else◌}
 use Rattle.std.specs.List.{list_any, range_with_len}
 use Rattle.sci_base.specs.Plain.{Fields}
-use Rattle.sci_diagram.specs.Objects.{Object, block, superblock, link, text, deleted, Objects, listed}
-use Rattle.sci_diagram.specs.TimerForm.{is_block, number_of, delay_of, firing_of}
+use Rattle.sci_plain.specs.Objects.{Object, block, superblock, link, text, deleted, Objects, listed}
+use Rattle.sci_plain.specs.TimerForm.{is_block, number_of, delay_of, firing_of}
 use Rattle.sci_pending.specs.Timer.{EventDelay}
 
 -- the timers' numbers by the positions of their blocks: the blocks are numbered from n, and other objects have 0

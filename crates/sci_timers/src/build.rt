@@ -1,8 +1,8 @@
 // The timers of a diagram's objects.
 ghost use Rattle.std.specs.Prelude.{◌≡◌, ℕ, ◌+◌, ◌<◌, ◌≤◌, map, IfOk, length, slice_index_or, negsuc};
 ghost use Rattle.sci_base.specs.Plain.{fields_of};
-ghost use Rattle.sci_diagram.specs.Objects.{object_view};
-ghost use Rattle.sci_diagram.specs.TimerForm.{is_block, number_of};
+ghost use Rattle.sci_plain.specs.Objects.{object_view};
+ghost use Rattle.sci_plain.specs.TimerForm.{is_block, number_of};
 ghost use Rattle.sci_pending.specs.Timer.{event_delay};
 ghost use Rattle.sci_timers.specs.Timers.{timer_with, timers_from, fed_by};
 ghost use Rattle.sci_timers.specs.Feeding.{list_at, plain};
@@ -10,7 +10,7 @@ ghost use Rattle.sci_timers.specs.Feeding.{list_at, plain};
 use crate::numbering::numbering_of;
 use crate::sources::{sources_of, targets_of};
 use sci_base::BlockFields;
-use sci_diagram::Obj;
+use sci_plain::Obj;
 use sci_pending::Timer;
 use std::alloc::{AllocError, Global};
 

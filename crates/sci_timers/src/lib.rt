@@ -2,8 +2,8 @@
 #![tactic(auto)]
 
 ghost use Rattle.std.specs.Prelude.{◌≡◌, map, IfOk};
-ghost use Rattle.sci_diagram.specs.Objects.{diagram_view};
-ghost use Rattle.sci_diagram.specs.TimerForm.{IsOfTimers};
+ghost use Rattle.sci_plain.specs.Objects.{diagram_view};
+ghost use Rattle.sci_plain.specs.TimerForm.{IsOfTimers};
 ghost use Rattle.sci_pending.specs.Timer.{event_delay, IsNet};
 ghost use Rattle.sci_timers.specs.Timers.{timers_of};
 
@@ -15,7 +15,7 @@ mod sources;
 mod tests;
 
 use sci_base::NoMemory;
-use sci_diagram::Diagram;
+use sci_plain::Diagram;
 use sci_pending::{Timer, TimerNet};
 use std::alloc::Global;
 

@@ -1,10 +1,10 @@
 // The numbers of timers by the positions of their blocks.
 ghost use Rattle.std.specs.Prelude.{◌≡◌, ◌+◌, ◌≤◌, map, IfOk};
-ghost use Rattle.sci_diagram.specs.Objects.{object_view};
-ghost use Rattle.sci_diagram.specs.TimerForm.{is_block, number_of};
+ghost use Rattle.sci_plain.specs.Objects.{object_view};
+ghost use Rattle.sci_plain.specs.TimerForm.{is_block, number_of};
 ghost use Rattle.sci_timers.specs.Timers.{numbers, number_at};
 
-use sci_diagram::Obj;
+use sci_plain::Obj;
 use std::alloc::{AllocError, Global};
 
 /// How many timers there are, and each object's number.

@@ -1,11 +1,11 @@
 // From the links of a diagram, which timers feed each timer.
 ghost use Rattle.std.specs.Prelude.{◌≡◌, ℕ, ◌+◌, ◌<◌, ◌≤◌, ◌++◌, map, false, length, IfOk, OnOk, vec_len};
-ghost use Rattle.sci_diagram.specs.Objects.{object_view};
+ghost use Rattle.sci_plain.specs.Objects.{object_view};
 ghost use Rattle.sci_timers.specs.Feeding.{lists_of, list_at, plain, target, targets, sources, is_among, ends_with, one_if};
 
 use crate::lists::{append, append_once, empty_lists};
 use crate::numbering::number_at;
-use sci_diagram::Obj;
+use sci_plain::Obj;
 use std::alloc::{AllocError, Global};
 
 /// By source, the timers at which its links end.

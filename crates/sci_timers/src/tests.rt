@@ -1,5 +1,5 @@
 use crate::{net, timers};
-use sci_diagram::read;
+use sci_plain::read;
 
 #[test]
 fn two_timers_that_feed_the_first(rt: HostRuntime) {

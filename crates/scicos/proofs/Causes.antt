@@ -8,8 +8,8 @@ use Rattle.sci_io.specs.Files.{Files, FolderState}
 use Rattle.sci_io.specs.Taken.{SinkState}
 use Rattle.sci_trace.specs.Lines.{stops}
 use Rattle.sci_pending.specs.Run.{trace}
-use Rattle.sci_diagram.specs.Objects.{Objects}
-use Rattle.sci_diagram.specs.Reading.{Accepts}
+use Rattle.sci_plain.specs.Objects.{Objects}
+use Rattle.sci_plain.specs.Reading.{Accepts}
 use Rattle.sci_timers.specs.Timers.{timers_of}
 use Rattle.scicos.specs.Words.{Request, simulate, Spells, NoCommand, files_of}
 use Rattle.scicos.specs.Answer.{Answer, usage, read_fault, no_memory, refused, ran, run_status, simulated}

@@ -4,8 +4,8 @@ use Rattle.std.proofs.lemmas.List.{append-nil}
 use Rattle.sci_base.specs.Plain.{Violation}
 use Rattle.sci_io.specs.Causes.{Rose}
 use Rattle.sci_io.specs.Files.{Files, FolderState}
-use Rattle.sci_diagram.specs.Objects.{Objects}
-use Rattle.sci_diagram.specs.Reading.{Accepts, Breaks}
+use Rattle.sci_plain.specs.Objects.{Objects}
+use Rattle.sci_plain.specs.Reading.{Accepts, Breaks}
 use Rattle.scicos.specs.Inputs.{AcceptsInputs, BreaksInputs}
 use Rattle.scicos.specs.Words.{Request, simulate, files_of}
 use Rattle.scicos.specs.Answer.{Answer, refused, read_fault, no_memory, simulated}

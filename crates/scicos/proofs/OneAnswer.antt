@@ -4,8 +4,8 @@ use Rattle.std.specs.Prelude.{Result, Ok, Err}
 use Rattle.std.proofs.lemmas.Fmt.{decimal_injective}
 use Rattle.sci_base.specs.Plain.{Violation}
 use Rattle.sci_io.specs.Files.{file_named}
-use Rattle.sci_diagram.specs.Objects.{Objects}
-use Rattle.sci_diagram.specs.Reading.{Accepts, Breaks}
+use Rattle.sci_plain.specs.Objects.{Objects}
+use Rattle.sci_plain.specs.Reading.{Accepts, Breaks}
 use Rattle.scicos.specs.Inputs.{AcceptsInputs, BreaksInputs}
 use Rattle.scicos.specs.Words.{Request, simulate, spelled, InBounds, Spells, NoCommand}
 use Rattle.scicos.specs.Answer.{Answer, refused, simulated}

@@ -8,8 +8,8 @@ use Rattle.sci_base.specs.Plain.{Violation, of_the_whole}
 use Rattle.sci_base.specs.Outcome.{Outcome}
 use Rattle.sci_base.specs.declared.refusal.Rule.TheVariants.{Unbuilt}
 use Rattle.sci_io.specs.Files.{file_named}
-use Rattle.sci_diagram.specs.Objects.{Objects}
-use Rattle.sci_diagram.specs.Reading.{judge, Accepts, Breaks}
+use Rattle.sci_plain.specs.Objects.{Objects}
+use Rattle.sci_plain.specs.Reading.{judge, Accepts, Breaks}
 use Rattle.scicos.specs.Inputs.{HasNoColumns, AcceptsInputs, BreaksInputs}
 use Rattle.scicos.specs.Words.{simulate}
 use Rattle.scicos.specs.Answer.{Answer, refused, simulated}

@@ -5,7 +5,7 @@ use Rattle.sci_base.specs.declared.observation.Obs.{Obs}
 use Rattle.sci_report.specs.Line.{refused_line}
 use Rattle.sci_trace.specs.Lines.{text, stops}
 use Rattle.sci_pending.specs.Run.{trace}
-use Rattle.sci_diagram.specs.Objects.{Objects}
+use Rattle.sci_plain.specs.Objects.{Objects}
 use Rattle.sci_timers.specs.Timers.{timers_of}
 
 pub record Answer : Type 0 where

@@ -3,8 +3,8 @@ use Rattle.std.specs.Prelude.{ℕ, ◌≡◌, ◌≤◌, ◌<◌, ◌⊎◌, pos
 use Rattle.sci_base.specs.Plain.{Violation}
 use Rattle.sci_base.specs.declared.refusal.Rule.TheVariants.{FileTooLong}
 use Rattle.sci_io.specs.Files.{Files, file_named}
-use Rattle.sci_diagram.specs.Objects.{Objects}
-use Rattle.sci_diagram.specs.Reading.{Accepts, Breaks}
+use Rattle.sci_plain.specs.Objects.{Objects}
+use Rattle.sci_plain.specs.Reading.{Accepts, Breaks}
 use Rattle.scicos.specs.Inputs.{AcceptsInputs, BreaksInputs}
 use Rattle.scicos.specs.Words.{Request, simulate, Spells, NoCommand}
 use Rattle.scicos.specs.Answer.{Answer, usage, refused, simulated}

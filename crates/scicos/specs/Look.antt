@@ -5,9 +5,9 @@ use Rattle.sci_base.specs.Plain.{violation_of}
 use Rattle.sci_base.specs.declared.refusal.Rule.TheVariants.{FileTooLong}
 use Rattle.sci_io.specs.Causes.{Rose}
 use Rattle.sci_io.specs.Files.{FolderState}
-use Rattle.sci_diagram.specs.declared.diagram.Diagram.{Diagram}
-use Rattle.sci_diagram.specs.Objects.{diagram_view}
-use Rattle.sci_diagram.specs.Reading.{Accepts, Breaks}
+use Rattle.sci_plain.specs.declared.diagram.Diagram.{Diagram}
+use Rattle.sci_plain.specs.Objects.{diagram_view}
+use Rattle.sci_plain.specs.Reading.{Accepts, Breaks}
 use Rattle.scicos.specs.Inputs.{AcceptsInputs, BreaksInputs}
 use Rattle.scicos.specs.Due.{Holds, longest, Passes, Fails}
 use Rattle.scicos.specs.declared.look.FileStop.{FileStop}

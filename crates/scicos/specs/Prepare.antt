@@ -4,7 +4,7 @@ use Rattle.sci_base.specs.Plain.{Violation, violation_of}
 use Rattle.sci_io.specs.Files.{FolderState}
 use Rattle.sci_pending.specs.Run.{trace}
 use Rattle.sci_sim.specs.Running.{IsAtStart}
-use Rattle.sci_diagram.specs.Objects.{Objects}
+use Rattle.sci_plain.specs.Objects.{Objects}
 use Rattle.scicos.specs.Inputs.{AcceptsInputs, BreaksInputs}
 use Rattle.scicos.specs.Answer.{Answer, usage, refused, read_fault, no_memory, ran, simulated}
 use Rattle.scicos.specs.Due.{Passes, Fails}

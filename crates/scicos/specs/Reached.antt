@@ -2,8 +2,8 @@
 use Rattle.std.specs.Prelude.{ℕ, ◌≡◌, ◌⊎◌, ◌++◌, List, [], ◌∷◌}
 use Rattle.sci_io.specs.Causes.{Rose}
 use Rattle.sci_io.specs.Files.{Files, FolderState}
-use Rattle.sci_diagram.specs.Objects.{Objects}
-use Rattle.sci_diagram.specs.Reading.{Accepts}
+use Rattle.sci_plain.specs.Objects.{Objects}
+use Rattle.sci_plain.specs.Reading.{Accepts}
 use Rattle.scicos.specs.Words.{Request, simulate, Spells, NoCommand, files_of}
 use Rattle.scicos.specs.Answer.{Answer, usage, read_fault, no_memory}
 use Rattle.scicos.specs.Due.{DueOf, Passes}

@@ -1,11 +1,11 @@
 ghost use Rattle.std.specs.Prelude.{◌≡◌, ◌↔◌, true, IfOk};
-ghost use Rattle.sci_diagram.specs.Objects.{diagram_view};
-ghost use Rattle.sci_diagram.specs.TimerForm.{IsOfTimers};
+ghost use Rattle.sci_plain.specs.Objects.{diagram_view};
+ghost use Rattle.sci_plain.specs.TimerForm.{IsOfTimers};
 ghost use Rattle.scicos.specs.Inputs.{HasNoColumns};
 ghost use Rattle.scicos.specs.Look.{IsFile, IsDiagram, AreInputs, IsTooLong};
 
 use sci_base::{Refusal, Rule};
-use sci_diagram::{Diagram, ReadStop, read};
+use sci_plain::{Diagram, ReadStop, read};
 use sci_io::{Folder, ReadEnd};
 use std::alloc::Global;
 

@@ -1,6 +1,6 @@
 ghost use Rattle.std.specs.Prelude.{◌≡◌, ◌≤◌, ◌^◌, ◌⊎◌, map, string_bytes};
-ghost use Rattle.sci_diagram.specs.Objects.{diagram_view};
-ghost use Rattle.sci_diagram.specs.TimerForm.{IsOfTimers};
+ghost use Rattle.sci_plain.specs.Objects.{diagram_view};
+ghost use Rattle.sci_plain.specs.TimerForm.{IsOfTimers};
 ghost use Rattle.scicos.specs.Words.{simulate};
 ghost use Rattle.scicos.specs.Reached.{Reaches, ReachesOf};
 ghost use Rattle.scicos.specs.Answer.{simulated, no_memory};
@@ -10,7 +10,7 @@ use crate::command::Command;
 use crate::look::{LookStop, diagram, inputs};
 use crate::words::parse;
 use sci_base::Refusal;
-use sci_diagram::Diagram;
+use sci_plain::Diagram;
 use sci_io::Folder;
 use sci_sim::Ready;
 use sci_timers::net;

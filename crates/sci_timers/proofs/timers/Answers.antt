@@ -1,6 +1,6 @@
 use Rattle.std.proofs.Common.{◌≡◌, ◌∙◌, ◌≤◌, List, ap, sym, subst, map}
-use Rattle.sci_diagram.specs.Objects.{Object, object_view, listed, diagram_view}
-use Rattle.sci_diagram.specs.TimerForm.{number_of, is_block}
+use Rattle.sci_plain.specs.Objects.{Object, object_view, listed, diagram_view}
+use Rattle.sci_plain.specs.TimerForm.{number_of, is_block}
 use Rattle.sci_pending.specs.Timer.{EventDelay, event_delay, IsNet}
 use Rattle.sci_timers.specs.Timers.{timers_of, timers_from}
 use Rattle.sci_timers.proofs.WellFormed.{listed-diagram_view, timers_of_well_formed}

@@ -1,19 +1,24 @@
-use Rattle.std.proofs.Common.{◌∙◌, ap, sym, Err}
+use Rattle.std.proofs.Common.{◌∙◌, ap, arith, sym, Err, Some}
 use Rattle.std.proofs.lemmas.Bool.{false≢true}
 use Rattle.serde_json.specs.View.{view}
-use Rattle.sci_diagram.specs.Reading.{IsAnswer, judge, judge_value}
-use Rattle.sci_diagram.proofs.Values.{value_of-read, value_of-none}
-use Rattle.sci_diagram.proofs.Ranges.{answer_is_of_timers}
+use Rattle.sci_diagram.specs.Reading.{judge, judge_value}
+use Rattle.sci_diagram.proofs.Bytes.{read_weighs}
+use Rattle.sci_diagram.proofs.Stopping.{answer_from}
+use Rattle.sci_diagram.proofs.Values.{value_read, value_refused}
 use Rattle.sci_diagram.proofs.from_bytes.read.Goals as goal
 
-pub returns-in-Ok : goal.returns-in-Ok
-returns-in-Ok c =
-    let is = value_of-read c.args.bytes.now (view c.in-Ok.value) c.in-Ok.ensures.ok.0 c.in-Ok.ensures.ok.1 in
-    let read : IsAnswer (judge c.args.bytes.now) c.read_value.result = unfold judge in rw is c.read_value.ensures in
-    record { read = read; timers = answer_is_of_timers c.args.bytes.now c.read_value.result read }
+pub read_value-requires : goal.read_value-requires
+read_value-requires c =
+    record { light = omega (arith, read_weighs c.args.bytes.now (view c.in-Ok.v) c.in-Ok.ensures.ok.1) }
 
-pub returns-else-is_memory-clause-read : goal.returns-else-is_memory-clause-read
+pub returns-in-Ok : goal.returns-in-Ok
 unfolding judge
-returns-else-is_memory-clause-read c =
-    let none = value_of-none c.args.bytes.now (c.in-Err.ensures.err (λ m. false≢true (c.if-is_memory.ensures.1 m))) in
+returns-in-Ok c =
+    let is = value_read c.args.bytes.now (view c.in-Ok.v) c.in-Ok.ensures.ok.0 c.in-Ok.ensures.ok.1 in
+    rw is (answer_from (judge_value (Some (view c.in-Ok.v))) c.read_value.result c.read_value.ensures.ok c.read_value.ensures.stop)
+
+pub returns-else-is_memory : goal.returns-else-is_memory
+unfolding judge
+returns-else-is_memory c =
+    let none = value_refused c.args.bytes.now (c.in-Err.ensures.err (λ m. false≢true (c.if-is_memory.ensures.1 m))) in
     ap judge_value none ∙ ap Err (sym c.of_the_whole.ensures)

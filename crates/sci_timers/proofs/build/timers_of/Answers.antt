@@ -1,6 +1,6 @@
 use Rattle.std.proofs.Common.{◌≡◌, ◌∙◌, ◌+◌, ◌<◌, ℕ, List, ap, sym, arith, map, length, Vec}
 use Rattle.std.specs.declared.alloc.Global.{Global}
-use Rattle.sci_diagram.specs.Objects.{object_view}
+use Rattle.sci_plain.specs.Objects.{object_view}
 use Rattle.sci_timers.specs.Timers.{numbers}
 use Rattle.sci_timers.specs.Feeding.{list_at, lists_of, plain, targets, sources}
 use Rattle.sci_timers.proofs.Joining.{sources-fed_by}

@@ -1,6 +1,6 @@
 use Rattle.std.proofs.Common.{◌≡◌, ◌+◌, ◌++◌, map, drop, vec_len}
-use Rattle.sci_diagram.specs.Objects.{object_view}
-use Rattle.sci_diagram.specs.TimerForm.{is_block, number_of}
+use Rattle.sci_plain.specs.Objects.{object_view}
+use Rattle.sci_plain.specs.TimerForm.{is_block, number_of}
 use Rattle.sci_pending.specs.Timer.{event_delay}
 use Rattle.sci_timers.specs.Timers.{timers_from}
 use Rattle.sci_timers.proofs.build.with_sources.Given as goal

@@ -1,6 +1,6 @@
 use Rattle.std.proofs.Common.{◌≡◌, ◌+◌, ◌++◌, map, drop}
-use Rattle.sci_diagram.specs.Objects.{object_view}
-use Rattle.sci_diagram.specs.TimerForm.{is_block, number_of}
+use Rattle.sci_plain.specs.Objects.{object_view}
+use Rattle.sci_plain.specs.TimerForm.{is_block, number_of}
 use Rattle.sci_timers.specs.Timers.{numbers, numbers_from}
 use Rattle.sci_timers.proofs.numbering.numbering_of.Given as goal
 

@@ -1,5 +1,5 @@
 use Rattle.std.proofs.Common.{◌∙◌, ◌+◌, ◌++◌, ℕ, List, ap, sym, arith, append_assoc, map, drop}
-use Rattle.sci_diagram.specs.Objects.{object_view}
+use Rattle.sci_plain.specs.Objects.{object_view}
 use Rattle.sci_timers.specs.Feeding.{list_at, lists_of, target, targets}
 use Rattle.sci_timers.proofs.Joining.{targets-drop}
 use Rattle.sci_timers.proofs.sources.targets_of.Goals as goal

@@ -1,5 +1,5 @@
 use Rattle.std.proofs.Common.{◌≡◌, ℕ, ◌+◌, ◌<◌, ◌++◌, map, drop, vec_len}
-use Rattle.sci_diagram.specs.Objects.{object_view}
+use Rattle.sci_plain.specs.Objects.{object_view}
 use Rattle.sci_timers.specs.Feeding.{list_at, lists_of, targets}
 use Rattle.sci_timers.proofs.sources.targets_of.Given as goal
 

@@ -1,0 +1,110 @@
+-- The weight of a value bounds its parts.
+use Rattle.std.proofs.Common.{◌≡◌, ℕ, suc, ◌+◌, ◌<◌, ◌≤◌, ℤ, zero, get_or, List, [], ◌∷◌, length, Bool, true, false, cond, Option, Some, None, option_map, option_and_then, Result, Ok, Err, Ordering, Less, Equal, Greater, subst, arith}
+use Rattle.std.specs.Prelude.{⊤}
+use Rattle.std.specs.List.{list_all}
+use Rattle.std.specs.Ordering.{match_ordering}
+use Rattle.serde_json.specs.Data.{Data, null, boolean, number, string, array, object, Items, no_items, item, Members, no_members, member}
+use Rattle.serde_json.specs.View.{view, items_view}
+use Rattle.serde_json.specs.declared.value.Value.{Value}
+use Rattle.serde_json.specs.Find.{get, get_member, as_i64}
+use Rattle.sci_base.specs.Plain.{Violation}
+use Rattle.sci_base.specs.Outcome.{◌>>=◌}
+use Rattle.sci_json.specs.Field.{whole, wholes, as_ints, formed, field_of}
+use Rattle.sci_diagram.specs.Tree.{small_list, optional, if_small, is_small}
+use Rattle.sci_diagram.specs.Weight.{weight, items_weight, members_weight}
+
+abbrev pub AtMost : {A : Type 0} → (A → ℕ) → ℕ → Option A → Type 0
+AtMost f n None = ⊤
+AtMost f n (Some a) = f a ≤ n
+
+pub at_most : {A : Type 0} (f : A → ℕ) (n : ℕ) (o : Option A) (a : A) → AtMost f n o → o ≡ Some a → f a ≤ n
+at_most f n o a h e = subst (AtMost f n) e h
+
+pub positive : (d : Data) → 1 ≤ weight d
+positive null = omega arith
+positive (boolean b) = omega arith
+positive (number n) = omega arith
+positive (string s) = omega arith
+positive (array ds) = omega arith
+positive (object ms) = omega arith
+
+cons_short : (o : Option ℤ) (r : Option (List ℤ)) (m n : ℕ) → 1 ≤ m → AtMost length n r → AtMost length (m + n) (option_and_then (λ z. option_map (λ zs. z ∷ zs) r) o)
+cons_short None r m n h k = tt
+cons_short (Some z) None m n h k = tt
+cons_short (Some z) (Some zs) m n h k = omega arith
+
+wholes_short : (ds : Items) → AtMost length (items_weight ds) (wholes ds)
+wholes_short no_items = omega arith
+wholes_short (item d ds) = cons_short (whole d) (wholes ds) (weight d) (items_weight ds) (positive d) (wholes_short ds)
+
+raise : {A : Type 0} (f : A → ℕ) (m n : ℕ) (o : Option A) → m ≤ n → AtMost f m o → AtMost f n o
+raise f m n None h k = tt
+raise f m n (Some a) h k = omega arith
+
+one_short : (o : Option ℤ) → AtMost length 1 (option_map (λ z. z ∷ []) o)
+one_short None = tt
+one_short (Some z) = omega arith
+
+ints_short : (d : Data) → AtMost length (weight d) (as_ints d)
+ints_short null = tt
+ints_short (boolean b) = tt
+ints_short (number n) = one_short (as_i64 n)
+ints_short (string s) = tt
+ints_short (array ds) = raise length (items_weight ds) (1 + items_weight ds) (wholes ds) (omega arith) (wholes_short ds)
+ints_short (object ms) = tt
+
+found_light : (o : Ordering) (a b : Option Data) (n : ℕ) → AtMost weight n a → AtMost weight n b → AtMost weight n (match_ordering o a b a)
+found_light Less a b n h k = h
+found_light Equal a b n h k = k
+found_light Greater a b n h k = h
+
+member_light : (k : List ℕ) (ms : Members) → AtMost weight (members_weight ms) (get_member k ms)
+member_light k no_members = tt
+member_light k (member l e ms) =
+    found_light _ (get_member k ms) (Some e) (weight e + members_weight ms) (raise weight (members_weight ms) (weight e + members_weight ms) _ (omega arith) (member_light k ms)) (omega arith)
+
+-- a member weighs less than the object that it is found in
+pub get_light : (k : List ℕ) (d : Data) → AtMost (λ e. weight e + 1) (weight d) (get k d)
+get_light k null = tt
+get_light k (boolean b) = tt
+get_light k (number n) = tt
+get_light k (string s) = tt
+get_light k (array ds) = tt
+get_light k (object ms) = more (get_member k ms) (members_weight ms) (member_light k ms)
+  where
+    more : (o : Option Data) (n : ℕ) → AtMost weight n o → AtMost (λ e. weight e + 1) (1 + n) o
+    more None n h = tt
+    more (Some e) n h = omega arith
+
+abbrev Short : ℕ → Result (List ℤ) Violation → Type 0
+Short n (Ok xs) = length xs ≤ n
+Short n (Err e) = ⊤
+
+formed_short : (at : List ℕ) (code : ℤ) (n : ℕ) (o : Option (List ℤ)) → AtMost length n o → Short n (optional at code (formed o))
+formed_short at code n None h = tt
+formed_short at code n (Some xs) h = h
+
+optional_short : (at : List ℕ) (code : ℤ) (n : ℕ) (o : Option Data) → AtMost (λ e. weight e + 1) n o → Short n (optional at code (field_of as_ints o))
+optional_short at code n None h = omega arith
+optional_short at code n (Some d) h = formed_short at code n (as_ints d) (raise length (weight d) n (as_ints d) (omega arith) (ints_short d))
+
+tested : (b : Bool) (n : ℕ) (xs : List ℤ) (e : Violation) → length xs ≤ n → Short n (cond b (Ok xs) (Err e))
+tested true n xs e h = h
+tested false n xs e h = tt
+
+small_short : (at : List ℕ) (code : ℤ) (n : ℕ) (o : Result (List ℤ) Violation) → Short n o → Short n (o >>= if_small at code)
+small_short at code n (Err e) h = tt
+small_short at code n (Ok xs) h = tested (list_all is_small xs) n xs _ h
+
+pub list_short : (at : List ℕ) (code : ℤ) (name : List ℕ) (d : Data) (xs : List ℤ) → small_list at code name d ≡ Ok xs → length xs ≤ weight d
+list_short at code name d xs e = subst (Short (weight d)) e (small_short at code (weight d) _ (optional_short at code (weight d) (get name d) (get_light name d)))
+
+-- each item is a value, so the list is no longer than it weighs
+pub items_long : (vs : List Value) → length vs ≤ items_weight (items_view vs)
+items_long [] = omega arith
+items_long (v ∷ vs) = omega (arith, positive (view v), items_long vs)
+
+pub item_light : (vs : List Value) (i : ℕ) (d : Value) → i < length vs → weight (view (get_or vs i d)) ≤ items_weight (items_view vs)
+item_light [] i d h = absurd (omega arith)
+item_light (v ∷ vs) zero d h = omega arith
+item_light (v ∷ vs) (suc i) d h = omega (arith, item_light vs i d (omega arith))

@@ -1,0 +1,21 @@
+use Rattle.std.proofs.Common.{◌≡◌, ◌+◌, ◌*◌, map}
+use Rattle.serde_json.specs.View.{items_view}
+use Rattle.sci_diagram.specs.Objects.{object_view}
+use Rattle.sci_diagram.specs.Tree.{walk, diagram_at}
+use Rattle.sci_diagram.proofs.Walking.{rest}
+use Rattle.sci_diagram.proofs.walk.+walk.Given as goal
+
+abbrev pub decreases-read_diagram : goal.decreases-read_diagram
+decreases-read_diagram l = 4 * l.left
+
+abbrev pub decreases-read_objs : goal.decreases-read_objs
+decreases-read_objs l = 4 * l.left + 3
+
+abbrev pub decreases-read_obj : goal.decreases-read_obj
+decreases-read_obj l = 4 * l.left + 2
+
+abbrev pub decreases-read_block : goal.decreases-read_block
+decreases-read_block l = 4 * l.left + 1
+
+abbrev pub invariant-read_objs-loop-i : goal.invariant-read_objs-loop-i
+invariant-read_objs-loop-i l = rest (diagram_at l.left) l.at (map object_view l.objs.items) l.i l.items ≡ walk (diagram_at l.left) l.at 1 (items_view l.items)

@@ -1,0 +1,57 @@
+ghost use Rattle.std.specs.Prelude.{◌≡◌, Ok, IfOk, IfErr};
+ghost use Rattle.serde_json.specs.View.{view};
+ghost use Rattle.sci_diagram.specs.Objects.{link};
+ghost use Rattle.sci_diagram.specs.Tree.{link_end, read_link};
+ghost use Rattle.sci_diagram.specs.Stops.{Stops};
+
+use crate::diagram::{End, LinkObj};
+use crate::fields::{required_ints, wrong};
+use crate::stop::ReadStop;
+use serde_json::Value;
+use std::alloc::Global;
+
+#[tactic(auto, using(crate::proofs::Stopping::stops_then), unfolding(crate::specs::Tree::read_link))]
+pub(crate) fn read_link(alloc: Global, v: &Value, at: &[u32]) -> Result<LinkObj, ReadStop>
+    ensures ok { IfOk result
+        (λ l. read_link at.now (view v.now) ≡ Ok (link l.from l.to l.kind)) }
+    ensures stop { IfErr result (λ e. Stops (read_link at.now (view v.now)) e) }
+{
+    let from = read_end(alloc, v, "from", 19, 0, at)?;
+    let to = read_end(alloc, v, "to", 20, 1, at)?;
+    let ct = required_ints(alloc, v, "ct", 21, at)?;
+    match ct.as_slice() {
+        [_, kind, ..] => Ok(LinkObj {
+            from,
+            to,
+            kind: *kind,
+        }),
+        _ => Err(wrong(alloc, at, 21)),
+    }
+}
+
+fn read_end(
+    alloc: Global,
+    v: &Value,
+    name: &str,
+    code: i64,
+    side: i64,
+    at: &[u32],
+) -> Result<End, ReadStop>
+    ensures ok { IfOk result (λ e. link_end at.now code side name.now (view v.now) ≡ Ok e) }
+    ensures stop { IfErr result (λ e. Stops (link_end at.now code side name.now (view v.now)) e) }
+{
+    let numbers = required_ints(alloc, v, name, code, at)?;
+    match numbers.as_slice() {
+        [block, port] => Ok(End {
+            block: *block,
+            port: *port,
+            side,
+        }),
+        [block, port, side] => Ok(End {
+            block: *block,
+            port: *port,
+            side: *side,
+        }),
+        _ => Err(wrong(alloc, at, code)),
+    }
+}

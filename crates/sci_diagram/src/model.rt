@@ -1,0 +1,146 @@
+ghost use Rattle.std.specs.Prelude.{◌≡◌, ◌^◌, ◌<◌, Ok, IfOk, IfErr, codes, option_map};
+ghost use Rattle.serde_json.specs.View.{view};
+ghost use Rattle.serde_json.specs.Find.{get};
+ghost use Rattle.sci_base.specs.Plain.{fields_of};
+ghost use Rattle.sci_json.specs.Field.{field, as_flags};
+ghost use Rattle.sci_diagram.specs.Tree.{is_super_name, sim_name, is_super, list_where, inner_there, flags_of, count_of, read_fields};
+ghost use Rattle.sci_diagram.specs.Stops.{Stops};
+ghost use Rattle.sci_diagram.specs.Weight.{weight};
+
+use crate::fields::{missing, optional_ints, small_ints, wrong};
+use crate::sorts::Role;
+use crate::stop::ReadStop;
+use sci_base::BlockFields;
+use serde_json::Value;
+use std::alloc::Global;
+
+fn is_super_name(name: &str) -> bool
+    ensures { result ≡ is_super_name name.now }
+{
+    name == "super" || name == "csuper"
+}
+
+fn sim_name(v: &Value) -> Option<&str>
+    ensures { option_map (λ s. s.now) result ≡ sim_name (view v.now) }
+{
+    match v {
+        Value::String(s) => Some(s.as_str()),
+        Value::Array(items) => match items.as_slice() {
+            [first, ..] => first.as_str(),
+            [] => None,
+        },
+        _ => None,
+    }
+}
+
+/// Whether the block is a superblock.
+pub(crate) fn is_super(alloc: Global, model: &Value, at: &[u32]) -> Result<bool, ReadStop>
+    ensures ok { IfOk result
+        (λ b. is_super at.now (field sim_name (codes "sim") (view model.now)) ≡ Ok b) }
+    ensures stop { IfErr result
+        (λ e. Stops (is_super at.now (field sim_name (codes "sim") (view model.now))) e) }
+{
+    match model.get("sim") {
+        None => Ok(false),
+        Some(found) => match sim_name(found) {
+            None => Err(wrong(alloc, at, 5)),
+            Some(name) => Ok(is_super_name(name)),
+        },
+    }
+}
+
+fn ints_where(
+    alloc: Global,
+    looked_at: bool,
+    v: &Value,
+    name: &str,
+    code: i64,
+    at: &[u32],
+) -> Result<Vec<i64>, ReadStop>
+    ensures ok { IfOk result
+        (λ xs. list_where looked_at at.now code name.now (view v.now) ≡ Ok xs.items) }
+    ensures stop { IfErr result
+        (λ e. Stops (list_where looked_at at.now code name.now (view v.now)) e) }
+{
+    if looked_at {
+        optional_ints(alloc, v, name, code, at)
+    } else {
+        Ok(Vec::new(alloc))
+    }
+}
+
+fn inner_there(alloc: Global, role: Role, model: &Value, at: &[u32]) -> Result<(), ReadStop>
+    ensures ok { IfOk result (λ u. inner_there role at.now (view model.now) ≡ Ok u) }
+    ensures stop { IfErr result (λ e. Stops (inner_there role at.now (view model.now)) e) }
+{
+    match role {
+        Role::Super => match model.get("rpar") {
+            None => Err(missing(alloc, at, 15)),
+            Some(_) => Ok(()),
+        },
+        _ => Ok(()),
+    }
+}
+
+fn dep_flags(alloc: Global, model: &Value, at: &[u32]) -> Result<Option<(bool, bool)>, ReadStop>
+    ensures ok { IfOk result
+        (λ o. flags_of at.now (field as_flags (codes "dep_ut") (view model.now)) ≡ Ok o) }
+    ensures stop { IfErr result
+        (λ e. Stops (flags_of at.now (field as_flags (codes "dep_ut") (view model.now))) e) }
+{
+    match sci_json::flags(model, "dep_ut") {
+        Ok(o) => Ok(o),
+        Err(_) => Err(wrong(alloc, at, 18)),
+    }
+}
+
+fn count(alloc: Global, v: &Value, name: &str, code: i64, at: &[u32]) -> Result<u32, ReadStop>
+    requires light { weight (view v.now) < 2 ^ 32 }
+    ensures ok { IfOk result (λ n. count_of at.now code name.now (view v.now) ≡ Ok n) }
+    ensures stop { IfErr result (λ e. Stops (count_of at.now code name.now (view v.now)) e) }
+{
+    let xs = small_ints(alloc, v, name, code, at)?;
+    Ok(xs.len() as u32)
+}
+
+/// What a block's model says.
+#[tactic(auto, using(crate::proofs::Stopping::stops_then), unfolding(crate::specs::Tree::read_fields))]
+pub(crate) fn read_fields(
+    alloc: Global,
+    role: Role,
+    model: &Value,
+    at: &[u32],
+) -> Result<BlockFields, ReadStop>
+    requires light { weight (view model.now) < 2 ^ 32 }
+    ensures ok { IfOk result
+        (λ f. read_fields role at.now (view model.now) ≡ Ok (fields_of f)) }
+    ensures stop { IfErr result (λ e. Stops (read_fields role at.now (view model.now)) e) }
+{
+    let ins = small_ints(alloc, model, "in", 6, at)?;
+    let in2 = small_ints(alloc, model, "in2", 7, at)?;
+    let intyp = small_ints(alloc, model, "intyp", 8, at)?;
+    let outs = small_ints(alloc, model, "out", 9, at)?;
+    let out2 = small_ints(alloc, model, "out2", 10, at)?;
+    let outtyp = small_ints(alloc, model, "outtyp", 11, at)?;
+    let evtin = count(alloc, model, "evtin", 12, at)?;
+    let evtout = count(alloc, model, "evtout", 13, at)?;
+    let dstate = ints_where(alloc, role.keeps_state(), model, "dstate", 14, at)?;
+    inner_there(alloc, role, model, at)?;
+    let ipar = ints_where(alloc, role.keeps_ipar(), model, "ipar", 16, at)?;
+    let firing = ints_where(alloc, role.keeps_state(), model, "firing", 17, at)?;
+    let dep = dep_flags(alloc, model, at)?;
+    Ok(BlockFields {
+        ins,
+        in2,
+        intyp,
+        outs,
+        out2,
+        outtyp,
+        evtin,
+        evtout,
+        dstate,
+        ipar,
+        firing,
+        dep,
+    })
+}

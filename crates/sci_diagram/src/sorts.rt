@@ -1,0 +1,96 @@
+ghost use Rattle.std.specs.Prelude.{◌≡◌, Ok, IfOk, IfErr, Some};
+ghost use Rattle.serde_json.specs.View.{view};
+ghost use Rattle.serde_json.specs.Find.{get};
+ghost use Rattle.sci_diagram.specs.Stops.{Stops};
+ghost use Rattle.sci_diagram.specs.Tree.{sort_of, as_sort, read_sort};
+
+use crate::fields::{missing, required_text, wrong};
+use crate::stop::ReadStop;
+use serde_json::Value;
+use std::alloc::Global;
+
+/// What an object is.
+#[derive(Clone, Copy, Debug, PartialEq, Eq, Drop)]
+pub enum Sort {
+    Block,
+    Link,
+    Text,
+    Deleted,
+}
+
+/// What a block is, as far as it decides which fields of its model are looked at.
+#[derive(Clone, Copy, Debug, PartialEq, Eq, Drop)]
+pub enum Role {
+    /// A block of some kind.
+    Kind,
+    /// A port of the superblock around it: IN_f, OUT_f, CLKINV_f, CLKOUTV_f.
+    Port,
+    /// A split or a union: SPLIT_f, CLKSPLIT_f, CLKSOM_f, CLKSOMV_f.
+    Joint,
+    /// A superblock.
+    Super,
+}
+
+impl Role {
+    ghost use Rattle.sci_diagram.specs.Tree.{role_of, keeps_state, keeps_ipar};
+
+    /// By its name, for a block that is no superblock.
+    pub fn of(gui: &str) -> Role
+        ensures { result ≡ role_of gui.now }
+    {
+        match gui {
+            "IN_f" | "OUT_f" | "CLKINV_f" | "CLKOUTV_f" => Role::Port,
+            "SPLIT_f" | "CLKSPLIT_f" | "CLKSOM_f" | "CLKSOMV_f" => Role::Joint,
+            _ => Role::Kind,
+        }
+    }
+
+    /// Whether `dstate` and `firing` are looked at.
+    pub fn keeps_state(self) -> bool
+        ensures { result ≡ keeps_state self }
+    {
+        self == Role::Kind
+    }
+
+    /// Whether `ipar` is looked at.
+    pub fn keeps_ipar(self) -> bool
+        ensures { result ≡ keeps_ipar self }
+    {
+        matches!(self, Role::Kind | Role::Port)
+    }
+}
+
+fn sort_of(name: &str) -> Option<Sort>
+    ensures { result ≡ sort_of name.now }
+{
+    match name {
+        "Block" => Some(Sort::Block),
+        "Link" => Some(Sort::Link),
+        "Text" => Some(Sort::Text),
+        "Deleted" => Some(Sort::Deleted),
+        _ => None,
+    }
+}
+
+fn as_sort(v: &Value) -> Option<Sort>
+    ensures { result ≡ as_sort (view v.now) }
+{
+    sort_of(v.as_str()?)
+}
+
+#[tactic(auto, unfolding(crate::specs::Tree::read_sort))]
+pub(crate) fn read_sort(alloc: Global, v: &Value, at: &[u32]) -> Result<Sort, ReadStop>
+    ensures ok { IfOk result (λ s. read_sort at.now (view v.now) ≡ Ok s) }
+    ensures stop { IfErr result (λ e. Stops (read_sort at.now (view v.now)) e) }
+{
+    if !v.is_object() {
+        return Err(wrong(alloc, at, 2));
+    }
+    match v.get("obj") {
+        None => Err(missing(alloc, at, 2)),
+        Some(found) => match as_sort(found) {
+            None => Err(wrong(alloc, at, 2)),
+            Some(sort) => Ok(sort),
+        },
+    }
+}

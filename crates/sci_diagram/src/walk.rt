@@ -1,0 +1,159 @@
+ghost use Rattle.std.specs.Prelude.{◌≡◌, ◌^◌, ◌<◌, ◌≤◌, ◌++◌, ◌∷◌, [], Ok, IfOk, IfErr, pos, codes, map, Some, None, if◌then◌else◌};
+ghost use Rattle.serde_json.specs.View.{view, items_view};
+ghost use Rattle.sci_json.specs.Field.{field};
+ghost use Rattle.sci_diagram.specs.Objects.{objects_of, object_view, block_view, diagram_view};
+ghost use Rattle.sci_diagram.specs.Tree.{required, whole_object, read_block, read_object, walk, list_of, diagram_at};
+ghost use Rattle.sci_diagram.specs.Stops.{Stops};
+ghost use Rattle.sci_diagram.specs.Weight.{weight, items_weight};
+
+use crate::diagram::{BlockObj, Diagram, Obj};
+use crate::fields::{missing, required_text, too_deep, wrong};
+use crate::links::read_link;
+use crate::model::{is_super, read_fields};
+use crate::sorts::{Role, Sort, read_sort};
+use crate::stop::ReadStop;
+use sci_json::FieldStop;
+use serde_json::Value;
+use smallvec::SmallVec;
+use std::alloc::Global;
+
+/// The diagram at a place, where `left` levels are left.
+#[cycle(walk)]
+#[tactic(auto, using(crate::proofs::Stopping::stops_then))]
+pub(crate) fn read_diagram(
+    alloc: Global,
+    v: &Value,
+    at: &[u32],
+    left: u32,
+) -> Result<Diagram, ReadStop>
+    requires light { weight (view v.now) < 2 ^ 32 }
+    requires levels { left ≤ 16 }
+    ensures ok { IfOk result
+        (λ d. diagram_at left at.now (view v.now) ≡ Ok (diagram_view d)) }
+    ensures stop { IfErr result (λ e. Stops (diagram_at left at.now (view v.now)) e) }
+{
+    if left == 0 {
+        return Err(too_deep(alloc, at));
+    }
+    let items = list_of(alloc, v, at)?;
+    let objs = read_objs(alloc, items, at, left - 1)?;
+    Ok(Diagram { objs })
+}
+
+/// The objects of a diagram, in their order.
+#[cycle(walk)]
+fn read_objs(alloc: Global, items: &[Value], at: &[u32], left: u32) -> Result<Vec<Obj>, ReadStop>
+    requires light { items_weight (items_view items.now) < 2 ^ 32 }
+    requires levels { left ≤ 16 }
+    ensures ok { IfOk result (λ os. walk (diagram_at left) at.now 1 (items_view items.now)
+        ≡ Ok (objects_of (map object_view os.items))) }
+    ensures stop { IfErr result
+        (λ e. Stops (walk (diagram_at left) at.now 1 (items_view items.now)) e) }
+{
+    let mut objs = Vec::new(alloc);
+    for (i, item) in items.iter().enumerate() {
+        let place = child(alloc, at, i as u32 + 1)?;
+        objs.push(read_obj(alloc, item, place.as_slice(), left)?)?;
+    }
+    Ok(objs)
+}
+
+/// One object.
+#[cycle(walk)]
+#[tactic(auto, using(crate::proofs::Stopping::stops_then), unfolding(crate::specs::Tree::read_object))]
+fn read_obj(alloc: Global, v: &Value, at: &[u32], left: u32) -> Result<Obj, ReadStop>
+    requires light { weight (view v.now) < 2 ^ 32 }
+    requires levels { left ≤ 16 }
+    ensures ok { IfOk result
+        (λ o. read_object (diagram_at left) at.now (view v.now) ≡ Ok (object_view o)) }
+    ensures stop { IfErr result
+        (λ e. Stops (read_object (diagram_at left) at.now (view v.now)) e) }
+{
+    match read_sort(alloc, v, at)? {
+        Sort::Block => Ok(Obj::Block(read_block(alloc, v, at, left)?)),
+        Sort::Link => Ok(Obj::Link(read_link(alloc, v, at)?)),
+        Sort::Text => Ok(Obj::Text),
+        Sort::Deleted => Ok(Obj::Deleted),
+    }
+}
+
+/// A block, with what is inside a superblock.
+#[cycle(walk)]
+#[tactic(auto, using(crate::proofs::Stopping::stops_then), unfolding(crate::specs::Tree::read_block))]
+fn read_block(alloc: Global, v: &Value, at: &[u32], left: u32) -> Result<BlockObj, ReadStop>
+    requires light { weight (view v.now) < 2 ^ 32 }
+    requires levels { left ≤ 16 }
+    ensures ok { IfOk result
+        (λ b. read_block (diagram_at left) at.now (view v.now) ≡ Ok (block_view b)) }
+    ensures stop { IfErr result
+        (λ e. Stops (read_block (diagram_at left) at.now (view v.now)) e) }
+{
+    let gui = required_text(alloc, v, "gui", 3, at)?;
+    let model = model_of(alloc, v, at)?;
+    if is_super(alloc, model, at)? {
+        let fields = read_fields(alloc, Role::Super, model, at)?;
+        let Some(rpar) = model.get("rpar") else {
+            return Err(missing(alloc, at, 15));
+        };
+        let inner = Box::new(alloc, read_diagram(alloc, rpar, at, left)?)?;
+        Ok(BlockObj {
+            gui,
+            fields,
+            inner: Some(inner),
+        })
+    } else {
+        let fields = read_fields(alloc, Role::of(gui.as_str()), model, at)?;
+        Ok(BlockObj {
+            gui,
+            fields,
+            inner: None,
+        })
+    }
+}
+
+fn child(alloc: Global, at: &[u32], position: u32) -> Result<SmallVec<u32, 8, Global>, ReadStop>
+    ensures ok { IfOk result (λ p. p.items ≡ at.now ++ position ∷ []) }
+    ensures stop { IfErr result (λ e. e ≡ ReadStop.Memory) }
+{
+    let mut path = SmallVec::from_slice(alloc, at)?;
+    path.push(position)?;
+    Ok(path)
+}
+
+#[tactic(auto, unfolding(crate::specs::Tree::list_of))]
+fn list_of<'a>(alloc: Global, v: &'a Value, at: &[u32]) -> Result<&'a [Value], ReadStop>
+    ensures ok { IfOk result (λ s. list_of at.now (view v.now) ≡ Ok (items_view s.now)) }
+    ensures stop { IfErr result (λ e. Stops (list_of at.now (view v.now)) e) }
+{
+    if !v.is_object() {
+        return Err(wrong(alloc, at, 1));
+    }
+    match sci_json::list(v, "objs") {
+        Ok(items) => Ok(items),
+        Err(FieldStop::Missing) => Err(missing(alloc, at, 1)),
+        Err(FieldStop::Wrong) => Err(wrong(alloc, at, 1)),
+        Err(FieldStop::Memory) => Err(ReadStop::Memory),
+    }
+}
+
+fn model_of<'a>(alloc: Global, v: &'a Value, at: &[u32]) -> Result<&'a Value, ReadStop>
+    ensures ok { IfOk result
+        (λ m. required at.now (pos 4) (field whole_object (codes "model") (view v.now)) ≡ Ok (view m.now)) }
+    ensures stop { IfErr result
+        (λ e. Stops (required at.now (pos 4) (field whole_object (codes "model") (view v.now))) e) }
+{
+    match v.get("model") {
+        None => Err(missing(alloc, at, 4)),
+        Some(found) => if is_object(found) {
+            Ok(found)
+        } else {
+            Err(wrong(alloc, at, 4))
+        },
+    }
+}
+
+fn is_object(v: &Value) -> bool
+    ensures { whole_object (view v.now) ≡ if result then Some (view v.now) else None }
+{
+    matches!(v, Value::Object(_))
+}

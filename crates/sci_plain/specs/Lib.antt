@@ -1,0 +1,4 @@
+pub mod Objects
+pub mod TimerForm
+pub mod Parts
+pub mod Reading

@@ -1,0 +1,48 @@
+-- What the bytes of a diagram are read as: a diagram, or the rule that they break.
+use Rattle.std.specs.Prelude.{◌≡◌, ℕ, List, Option, Some, None, option_map, Result, Ok, Err, if◌then◌else◌}
+use Rattle.std.specs.Str.{is_utf8}
+use Rattle.serde_json.specs.Data.{Data}
+use Rattle.serde_json.specs.Read.{read}
+use Rattle.sci_base.specs.declared.refusal.Rule.TheVariants.{NotJson, Unbuilt}
+use Rattle.sci_base.specs.Plain.{Violation, violation_of, of_the_whole}
+use Rattle.sci_base.specs.Outcome.{Outcome}
+use Rattle.sci_plain.specs.declared.diagram.Diagram.{Diagram}
+use Rattle.sci_plain.specs.declared.stop.ReadStop.{ReadStop}
+use Rattle.sci_plain.specs.declared.stop.ReadStop.TheVariants.{Refused, Memory}
+use Rattle.sci_plain.specs.Objects.{Objects, objects_of, diagram_view}
+use Rattle.sci_plain.specs.TimerForm.{timers_and_links}
+
+-- the JSON value that the bytes are, which are text first
+abbrev pub value_of : List ℕ → Option Data
+value_of bytes = if is_utf8 bytes then read bytes else None
+
+-- a diagram in a form that is built
+abbrev pub built : Option Objects → Outcome Objects
+built None = Err (of_the_whole Unbuilt)
+built (Some os) = Ok os
+
+abbrev pub judge_value : Option Data → Outcome Objects
+judge_value None = Err (of_the_whole NotJson)
+judge_value (Some d) = built (option_map objects_of (timers_and_links d))
+
+-- the diagram that the bytes are, or the first rule that they break
+unfoldable pub judge : List ℕ → Outcome Objects
+judge bytes = judge_value (value_of bytes)
+
+-- the bytes are this diagram
+abbrev pub Accepts : List ℕ → Objects → Type 0
+Accepts bytes d = judge bytes ≡ Ok d
+
+-- the bytes are no diagram, by this violation
+abbrev pub Breaks : List ℕ → Violation → Type 0
+Breaks bytes v = judge bytes ≡ Err v
+
+-- the answer is this outcome; want of memory may come at any time
+abbrev pub IsAnswer : Outcome Objects → Result Diagram ReadStop → Type 0
+IsAnswer o (Ok d) = o ≡ Ok (diagram_view d)
+IsAnswer o (Err (Refused r)) = o ≡ Err (violation_of r)
+IsAnswer o (Err Memory) = Unit {0}
+
+-- what a reader of these bytes answers
+abbrev pub IsRead : List ℕ → Result Diagram ReadStop → Type 0
+IsRead bytes result = IsAnswer (judge bytes) result

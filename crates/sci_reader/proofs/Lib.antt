@@ -1,6 +1,0 @@
-pub mod Stopping
-pub mod Light
-pub mod Walking
-pub mod Bytes
-pub mod Values
-pub mod Few

@@ -1,6 +1,0 @@
-pub mod Objects
-pub mod Tree
-pub mod Stops
-pub mod Weight
-pub mod Reading
-pub mod Count
