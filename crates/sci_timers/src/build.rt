@@ -10,8 +10,8 @@ ghost use Rattle.sci_timers.specs.Feeding.{list_at, plain};
 use crate::numbering::numbering_of;
 use crate::sources::{sources_of, targets_of};
 use sci_base::BlockFields;
-use sci_plain::Obj;
 use sci_pending::Timer;
+use sci_plain::Obj;
 use std::alloc::{AllocError, Global};
 
 pub(crate) fn timers_of(alloc: Global, objs: &[Obj]) -> Result<Vec<Timer>, AllocError>

@@ -15,8 +15,8 @@ mod sources;
 mod tests;
 
 use sci_base::NoMemory;
-use sci_plain::Diagram;
 use sci_pending::{Timer, TimerNet};
+use sci_plain::Diagram;
 use std::alloc::Global;
 
 /// The timers of a diagram of timers, one for each block in the order of the blocks. The timers whose events feed one are

@@ -5,8 +5,8 @@ ghost use Rattle.scicos.specs.Inputs.{HasNoColumns};
 ghost use Rattle.scicos.specs.Look.{IsFile, IsDiagram, AreInputs, IsTooLong};
 
 use sci_base::{Refusal, Rule};
-use sci_plain::{Diagram, ReadStop, read};
 use sci_io::{Folder, ReadEnd};
+use sci_plain::{Diagram, ReadStop, read};
 use std::alloc::Global;
 
 /// The limit of a diagram's and an input file, in bytes.
