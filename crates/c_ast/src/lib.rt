@@ -4,6 +4,11 @@
 //! What a program is spelled as stands in `specs/Spelling.antt`, which programs are in the subset in `specs/Bounds.antt`.
 #![tactic(auto)]
 
+pub mod events;
+mod rules;
+
+pub use rules::{first_fault, static_rules};
+
 /// A letter from `a` to `z` and a number, as `v12`.
 #[derive(Clone, Copy, PartialEq, Eq, Hash)]
 pub struct Name {

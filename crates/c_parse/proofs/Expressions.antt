@@ -25,11 +25,11 @@ ends_cases true d e = absurd cc
 ends_cases false true e = absurd cc
 ends_cases false false e = (refl, refl)
 
-no_digit_from : (rest : List ℕ) → ends rest ≡ true → no_digit rest ≡ true
+pub no_digit_from : (rest : List ℕ) → ends rest ≡ true → no_digit rest ≡ true
 no_digit_from [] e = refl
 no_digit_from (c ∷ cs) e = cond-false (is_ascii_digit c) _ _ (ends_cases (is_ascii_digit c) (nat_eq c 91) e).0
 
-no_bracket : (rest : List ℕ) → ends rest ≡ true → after (codes "[") rest ≡ None
+pub no_bracket : (rest : List ℕ) → ends rest ≡ true → after (codes "[") rest ≡ None
 no_bracket [] e = refl
 no_bracket (c ∷ cs) e = cond-false (nat_eq c 91) _ _ (ends_cases (is_ascii_digit c) (nat_eq c 91) e).1
 
@@ -39,7 +39,7 @@ name_again x rest f n =
     let m = number_again (2 ^ 32) x.number rest f.1 (omega arith) n in
     cond-true (is_letter x.letter) _ _ f.0 ∙ ap (λ o. o >>= (λ n. Some (record { letter = x.letter; number = n.0 }, n.1))) m
 
-letter_range : (c : ℕ) → is_letter c ≡ true → 97 ≤ c
+pub letter_range : (c : ℕ) → is_letter c ≡ true → 97 ≤ c
 letter_range c h = leb-true 97 c (guarded_bool (nat_le 97 c) (nat_le c 122) h)
   where
     guarded_bool : (a b : Bool) → cond a b false ≡ true → a ≡ true
@@ -123,7 +123,7 @@ bin_again true read op a b ta tb to rest p h = rw (p.0, p.1) h
 bin_again false read op a b ta tb to rest p h = rw p.2 h
 
 -- a digit in front is no other byte
-not_digit : (c : ℕ) (cs ds rest : List ℕ) → is_ascii_digit c ≡ false → 0 < length ds → all_ascii_digits ds ≡ true → after (c ∷ cs) (ds ++ rest) ≡ None
+pub not_digit : (c : ℕ) (cs ds rest : List ℕ) → is_ascii_digit c ≡ false → 0 < length ds → all_ascii_digits ds ≡ true → after (c ∷ cs) (ds ++ rest) ≡ None
 not_digit c cs [] rest n some e = absurd (omega arith)
 not_digit c cs (d ∷ ds) rest n some e =
     let p = and_parts (is_ascii_digit d) (all_ascii_digits ds) e in
@@ -176,7 +176,7 @@ exp_again (bin op a b) (suc d) rest f n =
 abbrev pub Takes : Reader → (Exp → Type 0) → Type 0
 Takes read Fit = (bytes : List ℕ) (y : Exp × List ℕ) → read bytes ≡ Some y → (bytes ≡ exp_text y.0 ++ y.1) × Fit y.0
 
-some_is : {A : Type 0} {x y : A} → Some x ≡ Some y → x ≡ y
+pub some_is : {A : Type 0} {x y : A} → Some x ≡ Some y → x ≡ y
 some_is e = cc
 
 -- the value under another name

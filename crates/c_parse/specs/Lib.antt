@@ -1,5 +1,8 @@
 pub mod Reading
-pub mod Lines
 pub mod LineReading
 pub mod Places
+pub mod LineBounds
+pub mod LineView
 pub mod Machine
+pub mod MachineView
+pub mod Blame

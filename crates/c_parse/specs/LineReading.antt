@@ -3,6 +3,7 @@ use Rattle.std.specs.Prelude.{◌≡◌, ℕ, ◌^◌, ◌/◌, ◌%◌, ◌-◌
 use Rattle.c_ast.specs.declared.Name.{Name}
 use Rattle.c_ast.specs.declared.Bound.{Bound}
 use Rattle.c_ast.specs.declared.Bound.TheVariants as bounds
+use Rattle.c_ast.specs.Rules.{same_name}
 use Rattle.c_ast.specs.Syntax.{Exp, Place, scalar, cell, Asked, more, input, until, limit, Told, start, event, value, finish, stop}
 use Rattle.c_ast.specs.Spelling.{name_text, Line, Row, row_of, header_line, scalar_line, array_line, function_line, main_line, set_line, ask_line, if_line, else_line, for_line, call_line, tell_line, close_line}
 use Rattle.c_parse.specs.Reading.{◌>>=◌, or_else, after, closed, number_at, name_at, exp_at}
@@ -69,13 +70,17 @@ bound_at bytes = or_else (after (codes "INT64_C(") bytes)
     (λ rest. number_at (2 ^ 63) rest >>= λ n. closed (bounds.Num (pos n.0)) (codes ")") n.1)
     (name_at bytes >>= λ x. Some (bounds.Var x.0, x.1))
 
+-- this name again
+unfoldable pub same_at : Name → List ℕ → Option (List ℕ)
+same_at x bytes = name_at bytes >>= λ y. if same_name x y.0 then Some y.1 else None
+
 -- the rest of a loop's line, behind its bound
 unfoldable pub counted_at : Name → Bound → List ℕ → Option Line
-counted_at x b bytes = after (codes "; ") bytes >>= after (name_text x) >>= after (codes " = ") >>= after (name_text x) >>= ending (for_line x b) (codes " + INT64_C(1)) {")
+counted_at x b bytes = after (codes "; ") bytes >>= same_at x >>= after (codes " = ") >>= same_at x >>= ending (for_line x b) (codes " + INT64_C(1)) {")
 
 -- a loop's line, behind `for (`
 unfoldable pub for_at : List ℕ → Option Line
-for_at bytes = name_at bytes >>= λ x. after (codes " = INT64_C(0); ") x.1 >>= after (name_text x.0) >>= after (codes " < ") >>= bound_at >>= λ b. counted_at x.0 b.0 b.1
+for_at bytes = name_at bytes >>= λ x. after (codes " = INT64_C(0); ") x.1 >>= same_at x.0 >>= after (codes " < ") >>= bound_at >>= λ b. counted_at x.0 b.0 b.1
 
 -- the size of an array, behind its bracket
 unfoldable pub size_at : Name → List ℕ → Option Line

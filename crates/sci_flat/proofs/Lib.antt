@@ -1,0 +1,10 @@
+pub mod Filling
+pub mod Reaching
+pub mod Stopping
+pub mod Meaning
+pub mod Formed
+pub mod Net
+pub mod Whole
+pub mod Making
+pub mod Reading
+pub mod Verdicts

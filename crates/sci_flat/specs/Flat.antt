@@ -1,61 +1,51 @@
 -- The flat net of a tree: its blocks in tree order, numbered from 1, and which outputs feed their inputs.
-use Rattle.std.specs.Prelude.{◌≡◌, ℕ, zero, suc, ◌+◌, ◌<◌, ◌⊎◌, ◌↔◌, pos, List, [], ◌∷◌, ◌++◌, Option, Some, None, slice_get, AllPairs, Contains, if◌then◌else◌}
-use Rattle.sci_base.specs.Plain.{Fields}
-use Rattle.sci_diagram.specs.Objects.{Object, block, superblock, link, text, deleted, Objects, no_objects, object}
-use Rattle.sci_diagram.specs.Tree.{is_pass_through}
-use Rattle.sci_flat.specs.declared.ports.Class.{Class}
-use Rattle.sci_flat.specs.declared.ports.Class.TheVariants.{Regular, Activation}
-use Rattle.sci_flat.specs.declared.ports.Side.TheVariants.{Input, Output}
-use Rattle.sci_flat.specs.Ports.{port}
+use Rattle.std.specs.Prelude.{◌≡◌, ℕ, ◌≤◌, ◌↔◌, pos, List, [], length, map, Contains, Ok}
+use Rattle.sci_base.specs.Outcome.{Outcome, ◌>>=◌}
+use Rattle.sci_diagram.specs.Objects.{Objects}
+use Rattle.sci_net.specs.declared.Wire.{Wire}
+use Rattle.sci_net.specs.declared.Feed.{Feed}
+use Rattle.sci_net.specs.Parts.{Parts, numbered, no_spec, AreRising, IsInput, IsActivationInput, wire_of, feeds_of}
+use Rattle.sci_net.specs.Flat.{IsFlat}
+use Rattle.sci_parts.specs.declared.class.PortClass.{PortClass}
+use Rattle.sci_parts.specs.declared.class.PortClass.TheVariants.{Input, Output, ActivationInput, ActivationOutput}
+use Rattle.sci_parts.specs.Blocks.{Placed, placed, parts_of}
+use Rattle.sci_parts.specs.Wiring.{links_of}
+use Rattle.sci_steps.specs.Ports.{port}
 use Rattle.sci_flat.specs.Feeds.{Feeds}
 
-pub record FlatBlock : Type 0 where
-  pub place : List ℕ
-  pub gui : List ℕ
-  pub fields : Fields
+-- the blocks in tree order, where no object and no link breaks a rule; else the first rule broken
+abbrev pub blocks : Objects → Outcome (List Placed)
+blocks t = parts_of t >>= λ ps. links_of t >>= λ _. Ok ps
 
--- the blocks that are neither superblocks nor pass-through objects, in tree order
-unfoldable mutual
-  pub blocks_of : List ℕ → ℕ → Objects → List FlatBlock
-  blocks_of at k no_objects = []
-  blocks_of at k (object o os) = object_blocks (at ++ k ∷ []) o ++ blocks_of at (k + 1) os
+-- the block of this number, counted from 1
+abbrev pub block_at : List Placed → ℕ → Placed
+block_at ps b = numbered (placed [] no_spec) ps b
 
-  pub object_blocks : List ℕ → Object → List FlatBlock
-  object_blocks here (block gui fields) = if is_pass_through gui then [] else record { place = here; gui = gui; fields = fields } ∷ []
-  object_blocks here (superblock gui fields inner) = blocks_of here 1 inner
-  object_blocks here (link from to kind) = []
-  object_blocks here text = []
-  object_blocks here deleted = []
-
-abbrev pub flat_blocks : Objects → List FlatBlock
-flat_blocks t = blocks_of [] 1 t
-
--- the block of this number
-abbrev pub numbered : List FlatBlock → ℕ → Option FlatBlock
-numbered bs zero = None
-numbered bs (suc n) = slice_get bs n
-
--- an output of a flat block, by the block's number and the port's
-pub record Out : Type 0 where
-  pub block : ℕ
-  pub port : ℕ
-
--- input p of flat block b is fed by that output
-pub record FedBy (t : Objects) (class : Class) (b p : ℕ) (o : Out) : Type 0 where
-  pub source : FlatBlock
-  pub target : FlatBlock
-  pub source_is : numbered (flat_blocks t) o.block ≡ Some source
-  pub target_is : numbered (flat_blocks t) b ≡ Some target
-  pub fed : Feeds t (port source.place class Output (pos o.port)) (port target.place class Input (pos p))
+-- port p of block b is fed by port k of block s, where these are ports of two classes
+pub record FedBy (t : Objects) (ps : List Placed) (from to : PortClass) (s k b p : ℕ) : Type 0 where
+  pub least : 1 ≤ s
+  pub most : s ≤ length ps
+  pub fed : Feeds t (port (block_at ps s).place from (pos k)) (port (block_at ps b).place to (pos p))
 
 -- the output that feeds regular input k of block b
-abbrev pub IsWire : Objects → ℕ → ℕ → Out → Type 0
-IsWire t b k o = FedBy t Regular b k o
+abbrev pub IsWire : Objects → List Placed → ℕ → ℕ → Wire → Type 0
+IsWire t ps b k w = FedBy t ps Output Input w.block w.port b k
 
-abbrev pub Precedes : Out → Out → Type 0
-Precedes a b = (a.block < b.block) ⊎ ((a.block ≡ b.block) × (a.port < b.port))
+-- an activation output that feeds activation input p of block b
+abbrev pub IsFeed : Objects → List Placed → ℕ → ℕ → Feed → Type 0
+IsFeed t ps b p q = FedBy t ps ActivationOutput ActivationInput q.block q.port b p
 
 -- the activation outputs that feed activation input p of block b: by block and port, without repeats
-pub record IsFeedList (t : Objects) (b p : ℕ) (feeds : List Out) : Type 0 where
-  pub rising : AllPairs Precedes feeds
-  pub exactly : (o : Out) → Contains feeds o ↔ FedBy t Activation b p o
+pub record IsFeedList (t : Objects) (ps : List Placed) (b p : ℕ) (feeds : List Feed) : Type 0 where
+  pub rising : AreRising feeds
+  pub exactly : (q : Feed) → Contains feeds q ↔ IsFeed t ps b p q
+
+-- the flat net of a tree
+pub record IsFlatNet (t : Objects) (n : Parts) : Type 0 where
+  pub placed : List Placed
+  pub blocks : blocks t ≡ Ok placed
+  pub specs : n.specs ≡ map (λ p. p.spec) placed
+  pub paths : n.paths ≡ map (λ p. p.place) placed
+  pub flat : IsFlat n
+  pub wires : (b k : ℕ) → IsInput n b k → IsWire t placed b k (wire_of n b k)
+  pub feeds : (b p : ℕ) → IsActivationInput n b p → IsFeedList t placed b p (feeds_of n b p)

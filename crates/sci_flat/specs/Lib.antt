@@ -1,5 +1,11 @@
-pub mod Chain
-pub mod Ports
 pub mod Feeds
 pub mod Flat
+pub mod Refused
 pub mod Rows
+pub mod Ends
+pub mod Wired
+pub mod Stops
+pub mod Ready
+pub mod Placed
+pub mod Passing
+pub mod Answer

@@ -2,9 +2,8 @@
 use Rattle.std.specs.Prelude.{ℕ, ℤ, pos, negsuc, [], ◌∷◌, codes, None}
 use Rattle.sci_base.specs.Plain.{Fields}
 use Rattle.sci_diagram.specs.Objects.{Object, block, link, Objects, no_objects, object}
-use Rattle.sci_flat.specs.declared.ports.Class.TheVariants.{Activation}
-use Rattle.sci_flat.specs.declared.ports.Side.TheVariants.{Input, Output}
-use Rattle.sci_flat.specs.Ports.{port}
+use Rattle.sci_parts.specs.declared.class.PortClass.TheVariants.{ActivationInput, ActivationOutput}
+use Rattle.sci_steps.specs.Ports.{port}
 use Rattle.sci_flat.specs.Feeds.{Feeds}
 
 abbrev pub clocked : ℕ → ℕ → Fields
@@ -20,4 +19,4 @@ timer_and_union =
     (object (activation (pos 1) (pos 2) (pos 1)) (object (activation (pos 1) (pos 2) (pos 2)) (object (activation (pos 2) (pos 1) (pos 1)) no_objects))))
 
 abbrev pub WorkedFeeds : Type 0
-WorkedFeeds = Feeds timer_and_union (port (1 ∷ []) Activation Output (pos 1)) (port (1 ∷ []) Activation Input (pos 1))
+WorkedFeeds = Feeds timer_and_union (port (1 ∷ []) ActivationOutput (pos 1)) (port (1 ∷ []) ActivationInput (pos 1))

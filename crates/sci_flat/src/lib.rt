@@ -1,12 +1,23 @@
-//! The flat net of a diagram: its blocks without superblocks and pass-through objects, and which port feeds which. So far the
-//! definitions alone.
+//! The flat net of a diagram: its blocks without superblocks and pass-through objects, and which port feeds which.
 #![tactic(auto)]
 
 ghost use Rattle.sci_flat.specs.Rows.{WorkedFeeds};
 
-mod ports;
+mod blocks;
+mod columns;
+mod ends;
+mod flat;
+mod laws;
+mod refusals;
+mod rows;
+mod stop;
+#[cfg(test)]
+mod tests;
+mod wires;
 
-pub use ports::{Class, Side};
+pub use flat::flatten;
+pub use laws::{one_verdict, one_violation, read_is_ready};
+pub use stop::FlatStop;
 
 /// The definitions say what was worked out by hand for a small diagram.
 pub fn worked_feeds()

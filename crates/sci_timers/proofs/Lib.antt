@@ -1,3 +1,1 @@
-pub mod Filling
-pub mod Joining
-pub mod WellFormed
+pub mod TimerForms

@@ -1,2 +1,2 @@
 pub mod Timers
-pub mod Feeding
+pub mod Built

@@ -1,62 +1,53 @@
-// The timers of a diagram's objects.
-ghost use Rattle.std.specs.Prelude.{◌≡◌, ℕ, ◌+◌, ◌<◌, ◌≤◌, map, IfOk, length, slice_index_or, negsuc};
-ghost use Rattle.sci_base.specs.Plain.{fields_of};
-ghost use Rattle.sci_plain.specs.Objects.{object_view};
-ghost use Rattle.sci_plain.specs.TimerForm.{is_block, number_of};
-ghost use Rattle.sci_pending.specs.Timer.{event_delay};
-ghost use Rattle.sci_timers.specs.Timers.{timer_with, timers_from, fed_by};
-ghost use Rattle.sci_timers.specs.Feeding.{list_at, plain};
+// The timers of a net of timers.
+ghost use Rattle.std.specs.Prelude.{◌≡◌, ◌≤◌, ◌+◌, true, None, map, length, IfOk};
+ghost use Rattle.sci_net.specs.Parts.{spec_of};
+ghost use Rattle.sci_pending.specs.Timer.{event_delay, IsNet};
+ghost use Rattle.sci_timers.specs.Timers.{is_timer, block_of, timer_of, timers_of};
+ghost use Rattle.sci_timers.specs.Built.{first_unbuilt};
 
-use crate::numbering::numbering_of;
-use crate::sources::{sources_of, targets_of};
-use sci_base::BlockFields;
+use sci_net::{Feed, Net};
 use sci_pending::Timer;
-use sci_plain::Obj;
 use std::alloc::{AllocError, Global};
 
-pub(crate) fn timers_of(alloc: Global, objs: &[Obj]) -> Result<Vec<Timer>, AllocError>
-    requires { number_of is_block (map object_view objs.now) ≤ 2048 }
-    ensures { IfOk result (λ ts. map event_delay ts.items
-        ≡ timers_from (map object_view objs.now) 1 (map object_view objs.now)) }
+// The blocks whose events feed, in the order of the feeds.
+fn sources(alloc: Global, feeds: &[Feed]) -> Result<Vec<u32>, AllocError>
+    ensures { IfOk result (λ v. v.items ≡ map block_of feeds.now) }
 {
-    let numbering = numbering_of(alloc, objs)?;
-    let targets = targets_of(alloc, objs, &numbering.numbers, numbering.count as usize)?;
-    let sources = sources_of(alloc, &targets)?;
-    with_sources(alloc, objs, &sources)
+    let mut blocks = Vec::new(alloc);
+    for feed in feeds {
+        blocks.push(feed.block)?;
+    }
+    Ok(blocks)
 }
 
-fn with_sources(alloc: Global, objs: &[Obj], sources: &[Vec<u32>]) -> Result<Vec<Timer>, AllocError>
-    requires count { length sources.now ≡ number_of is_block (map object_view objs.now) }
-    requires sources { (k : ℕ) → k < length sources.now
-        → list_at (plain sources.now) k ≡ fed_by (map object_view objs.now) (k + 1) }
-    ensures { IfOk result (λ ts. map event_delay ts.items
-        ≡ timers_from (map object_view objs.now) 1 (map object_view objs.now)) }
+#[tactic(auto, using(crate::proofs::TimerForms::one_input))]
+fn timer_of(alloc: Global, net: &Net, block: u32) -> Result<Timer, AllocError>
+    requires least { 1 ≤ block }
+    requires most { block ≤ length net.now.specs }
+    requires timer { is_timer (spec_of net.now block).kind ≡ true }
+    ensures { IfOk result (λ t. event_delay t ≡ timer_of net.now block) }
 {
+    net.well_formed();
+    let fed_by = sources(alloc, net.feeds(block, 1))?;
+    let spec = net.spec(block);
+    Ok(Timer {
+        delay: spec.params.at(0),
+        firing: spec.firing.at(0),
+        fed_by,
+    })
+}
+
+/// The timers of all blocks, by number.
+#[tactic(auto, using(crate::proofs::TimerForms::each_timer, crate::proofs::TimerForms::next_timer))]
+pub(crate) fn timers(alloc: Global, net: &Net) -> Result<Vec<Timer>, AllocError>
+    requires { first_unbuilt net.now ≡ None }
+    ensures timers { IfOk result (λ ts. map event_delay ts.items ≡ timers_of net.now) }
+    ensures net { IfOk result (λ ts. IsNet (map event_delay ts.items)) }
+{
+    net.well_formed();
     let mut timers = Vec::new(alloc);
-    for obj in objs {
-        if let Obj::Block(block) = obj {
-            let fed_by = Vec::from_slice(alloc, &sources[timers.len()])?;
-            timers.push(timer_of(&block.fields, fed_by))?;
-        }
+    for at in 0..net.len() {
+        timers.push(timer_of(alloc, net, at + 1)?)?;
     }
     Ok(timers)
-}
-
-fn timer_of(fields: &BlockFields, fed_by: Vec<u32>) -> Timer
-    ensures { event_delay result ≡ timer_with (fields_of fields.now) fed_by.items }
-{
-    Timer {
-        delay: first_of(&fields.ipar),
-        firing: first_of(&fields.firing),
-        fed_by,
-    }
-}
-
-fn first_of(numbers: &[i64]) -> i64
-    ensures { result ≡ slice_index_or numbers.now 0 (negsuc 0) }
-{
-    match numbers.first() {
-        Some(number) => *number,
-        None => -1,
-    }
 }

@@ -1,41 +1,61 @@
-//! The timers of a diagram of timers.
+//! The timers of a net that has no other blocks: what is built of the run so far.
 #![tactic(auto)]
 
-ghost use Rattle.std.specs.Prelude.{◌≡◌, map, IfOk};
-ghost use Rattle.sci_plain.specs.Objects.{diagram_view};
-ghost use Rattle.sci_plain.specs.TimerForm.{IsOfTimers};
-ghost use Rattle.sci_pending.specs.Timer.{event_delay, IsNet};
-ghost use Rattle.sci_timers.specs.Timers.{timers_of};
+ghost use Rattle.std.specs.Prelude.{◌≡◌};
+ghost use Rattle.sci_timers.specs.Built.{IsAnswer, built};
 
 mod build;
-mod lists;
-mod numbering;
-mod sources;
-#[cfg(test)]
-mod tests;
+mod unbuilt;
 
-use sci_base::NoMemory;
-use sci_pending::{Timer, TimerNet};
-use sci_plain::Diagram;
-use std::alloc::Global;
+use crate::build::timers;
+use crate::unbuilt::{first_unbuilt, has_too_many_feeds, unbuilt_at};
+use sci_base::{NoMemory, Refusal, Rule};
+use sci_net::Net;
+use sci_pending::TimerNet;
+use std::alloc::{AllocError, Global};
 
-/// The timers of a diagram of timers, one for each block in the order of the blocks. The timers whose events feed one are
-/// those from which a link leads to it.
-pub fn timers(alloc: Global, d: &Diagram) -> Result<Vec<Timer>, NoMemory>
-    requires { IsOfTimers (diagram_view d.now) }
-    ensures timers { IfOk result (λ ts. map event_delay ts.items ≡ timers_of (diagram_view d.now)) }
-    ensures net { IfOk result (λ ts. IsNet (map event_delay ts.items)) }
-{
-    match build::timers_of(alloc, &d.objs) {
-        Ok(timers) => Ok(timers),
-        Err(_) => Err(NoMemory),
+/// Why a net gives no timers.
+#[derive(Drop)]
+pub enum TimersStop {
+    /// A block is of a kind that isn't built (rule 30, at its place), or the timers have more than 262,144 feeding events in
+    /// all (rule 30, without a place).
+    Refused(Refusal),
+    /// There was no memory.
+    Memory,
+}
+
+impl From<AllocError> for TimersStop {
+    ghost use Rattle.std.specs.Prelude.{◌≡◌};
+    ghost use Rattle.sci_timers.specs.declared.TimersStop.TheVariants.{Memory};
+
+    ghost from_gives = { λ _ e. e ≡ Memory };
+
+    fn from(_: AllocError) -> TimersStop {
+        TimersStop::Memory
     }
 }
 
-/// The net of a diagram of timers.
-pub fn net(alloc: Global, d: &Diagram) -> Result<TimerNet, NoMemory>
-    requires { IsOfTimers (diagram_view d.now) }
-    ensures { IfOk result (λ n. n ≡ timers_of (diagram_view d.now)) }
+impl From<NoMemory> for TimersStop {
+    ghost use Rattle.std.specs.Prelude.{◌≡◌};
+    ghost use Rattle.sci_timers.specs.declared.TimersStop.TheVariants.{Memory};
+
+    ghost from_gives = { λ _ e. e ≡ Memory };
+
+    fn from(_: NoMemory) -> TimersStop {
+        TimersStop::Memory
+    }
+}
+
+/// The timers of a net, one for each block, by number; or rule 30.
+pub fn timer_net(alloc: Global, net: &Net) -> Result<TimerNet, TimersStop>
+    ensures { IsAnswer (built net.now) result }
 {
-    TimerNet::new(alloc, timers(alloc, d)?)
+    net.well_formed();
+    if let Some(at) = first_unbuilt(net) {
+        return Err(unbuilt_at(alloc, net.path(at + 1)));
+    }
+    if has_too_many_feeds(net) {
+        return Err(TimersStop::Refused(Refusal::of_the_whole(alloc, Rule::Unbuilt)));
+    }
+    Ok(TimerNet::new(alloc, timers(alloc, net)?)?)
 }

@@ -8,10 +8,9 @@ use Rattle.sci_io.specs.Files.{Files, FolderState}
 use Rattle.sci_io.specs.Taken.{SinkState}
 use Rattle.sci_trace.specs.Lines.{stops}
 use Rattle.sci_pending.specs.Run.{trace}
-use Rattle.sci_plain.specs.Objects.{Objects}
-use Rattle.sci_plain.specs.Reading.{Accepts}
-use Rattle.sci_timers.specs.Timers.{timers_of}
-use Rattle.scicos.specs.Words.{Request, simulate, Spells, NoCommand, files_of}
+use Rattle.sci_pending.specs.Timer.{EventDelay}
+use Rattle.sci_verdict.specs.Verdict.{Accepts}
+use Rattle.scicos.specs.Words.{Request, simulate, host, Spells, NoCommand, files_of}
 use Rattle.scicos.specs.Answer.{Answer, usage, read_fault, no_memory, refused, ran, run_status, simulated}
 use Rattle.scicos.specs.Due.{Due, DueOf, DueBehind, Passes}
 use Rattle.scicos.specs.Reached.{ReadsFiles, EarlierPass, AsksFront, ReachesDue, Reaches, ReachesOf}
@@ -41,22 +40,24 @@ of_run c names a os h all =
     let is : a.status ≡ run_status (stops os) = status-is h in
     printed (elim (status_of_run (stops os)) [ inl s ↦ inl (is ∙ s) | inr s ↦ inr (is ∙ s) ]) all
 
-pub kind_behind : (files : Files) (o : Objects) (d i : List ℕ) (until limit : ℕ) (names : List (List ℕ)) (a : Answer) → DueBehind files o d i until limit names a → Kind (simulate d i until limit) names a
+pub kind_behind : (files : Files) (o : List EventDelay) (d i : List ℕ) (until limit : ℕ) (names : List (List ℕ)) (a : Answer) → DueBehind files o d i until limit names a → Kind (simulate d i until limit) names a
 kind_behind files o d i until limit names a (inl h) = of_refusal (simulate d i until limit) names a h.0 h.2
-kind_behind files o d i until limit names a (inr h) = of_run (simulate d i until limit) names a (trace (timers_of o) until limit) h.2.0 h.2.1
+kind_behind files o d i until limit names a (inr h) = of_run (simulate d i until limit) names a (trace o until limit) h.2.0 h.2.1
 
 pub kind_of : (files : Files) (c : Request) (names : List (List ℕ)) (a : Answer) → DueOf files c names a → Kind c names a
 kind_of files (simulate d i until limit) names a (inl h) = of_refusal (simulate d i until limit) names a h.0 h.2
 kind_of files (simulate d i until limit) names a (inr h) = kind_behind files h.0 d i until limit names a h.2
+kind_of files host names a h = printed (inl (status-is h.0)) h.1
 
 -- the names that are read for what is due are a front of the files of the command
-pub front_behind : (old new : FolderState) (o : Objects) (d i : List ℕ) (until limit : ℕ) (names : List (List ℕ)) (a : Answer) → Passes Accepts old.files d o → DueBehind old.files o d i until limit names a → new.asked ≡ old.asked ++ names → AsksFront old new (simulate d i until limit)
+pub front_behind : (old new : FolderState) (o : List EventDelay) (d i : List ℕ) (until limit : ℕ) (names : List (List ℕ)) (a : Answer) → Passes Accepts old.files d o → DueBehind old.files o d i until limit names a → new.asked ≡ old.asked ++ names → AsksFront old new (simulate d i until limit)
 front_behind old new o d i until limit names a passes (inl h) is = (d ∷ i ∷ [], [], refl, is ∙ ap (λ (l : List (List ℕ)). old.asked ++ l) h.3, (o, passes))
 front_behind old new o d i until limit names a passes (inr h) is = (d ∷ i ∷ [], [], refl, is ∙ ap (λ (l : List (List ℕ)). old.asked ++ l) h.2.1, (o, passes))
 
 pub front_of : (old new : FolderState) (c : Request) (names : List (List ℕ)) (a : Answer) → DueOf old.files c names a → new.asked ≡ old.asked ++ names → AsksFront old new c
 front_of old new (simulate d i until limit) names a (inl h) is = (d ∷ [], i ∷ [], refl, is ∙ ap (λ (l : List (List ℕ)). old.asked ++ l) h.3, tt)
 front_of old new (simulate d i until limit) names a (inr h) is = front_behind old new h.0 d i until limit names a h.1 h.2 is
+front_of old new host names a h is = ([], [], refl, is ∙ ap (λ (l : List (List ℕ)). old.asked ++ l) h.1, tt)
 
 -- what a call came to, with what its status tells
 pub data Came (words : List (List ℕ)) (old new : FolderState) (a : Answer) : Type 0 where

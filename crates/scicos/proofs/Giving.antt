@@ -13,7 +13,7 @@ use Rattle.sci_report.specs.Line.{refused_line, head_text}
 use Rattle.sci_trace.specs.Lines.{text, line, stops}
 use Rattle.sci_sim.specs.declared.ready.RunEnd.{RunEnd}
 use Rattle.sci_sim.specs.Ended.{is_stopped}
-use Rattle.scicos.specs.Answer.{Answer, says, ran, run_status, write_fault_line}
+use Rattle.scicos.specs.Answer.{Answer, says, prints, ran, run_status, write_fault_line}
 use Rattle.scicos.specs.Written.{Took, Cut, Given, CutShort, Written}
 use Rattle.scicos.specs.Deliver.{Gives, Said, Ran, Finished}
 
@@ -55,6 +55,15 @@ said_written status t out err err' answer (some, inr h) = inr (inr (h.0, none_gi
 pub fault_told : (err err' : SinkState) (answer : ℕ) → Said 4 write_fault_line err err' answer → (answer ≡ 4) × (Given err err' write_fault_line ⊎ CutShort err err' write_fault_line)
 fault_told err err' answer (some, inl h) = (h.0, inl (inr (some, h.1)))
 fault_told err err' answer (some, inr h) = (h.0, inr (some, h.1))
+
+-- a text was printed on out, or cut
+pub printed_written : (t : List ℕ) (out out' err : SinkState) → 0 < length t → Took out out' t → Written (prints t) out out' err err 0
+printed_written t out out' err some h = inl (refl, inr (some_text t some, h), none_given err)
+
+pub cut_written : (t : List ℕ) (out out' err err' : SinkState) (answer : ℕ) → 0 < length t → Cut out out' t → Said 4 write_fault_line err err' answer → Written (prints t) out out' err err' answer
+cut_written t out out' err err' answer some h said =
+    let told = fault_told err err' answer said in
+    inr (inl (told.0, (some_text t some, h), told.1))
 
 pub ran_written : (os : List Obs) (out out' err err' : SinkState) (answer : ℕ) (r : Result RunEnd Failed) → Ran (Start ∷ os) out out' r → Finished r err err' answer → Written (ran (Start ∷ os)) out out' err err' answer
 ran_written os out out' err err' answer (Ok e) p h =

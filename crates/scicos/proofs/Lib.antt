@@ -4,4 +4,3 @@ mod Giving
 mod Coming
 mod Causes
 mod OneAnswer
-mod SomeAnswer

@@ -1,13 +1,13 @@
 -- One answer is due of the words and the told files.
 use Rattle.std.proofs.Common.{◌≡◌, ◌≤◌, ◌<◌, ℕ, List, [], ◌∷◌, ◌⊎◌, inl, inr, refl, sym, ◌∙◌, ap, subst, arith, decimal, Some, length}
-use Rattle.std.specs.Prelude.{Result, Ok, Err}
 use Rattle.std.proofs.lemmas.Fmt.{decimal_injective}
 use Rattle.sci_base.specs.Plain.{Violation}
 use Rattle.sci_io.specs.Files.{file_named}
-use Rattle.sci_plain.specs.Objects.{Objects}
-use Rattle.sci_plain.specs.Reading.{Accepts, Breaks}
+use Rattle.sci_pending.specs.Timer.{EventDelay}
+use Rattle.sci_verdict.specs.Verdict.{Accepts, Breaks}
+use Rattle.sci_verdict.proofs.Verdicts.{one_net, one_violation, not_both}
 use Rattle.scicos.specs.Inputs.{AcceptsInputs, BreaksInputs}
-use Rattle.scicos.specs.Words.{Request, simulate, spelled, InBounds, Spells, NoCommand}
+use Rattle.scicos.specs.Words.{Request, simulate, host, spelled, InBounds, Spells, NoCommand}
 use Rattle.scicos.specs.Answer.{Answer, refused, simulated}
 use Rattle.scicos.specs.Due.{Holds, Passes, Fails, Judged, Due, DueOf, DueBehind, longest, too_long}
 use Rattle.scicos.specs.Laws.{OneAnswer}
@@ -17,6 +17,9 @@ same_command (simulate d i t n) (simulate d' i' t' n') p q h =
     let dates : decimal t ≡ decimal t' = cc h in
     let counts : decimal n ≡ decimal n' = cc h in
     cc (h, decimal_injective t t' (omega (arith, p.0)) (omega (arith, q.0)) dates, decimal_injective n n' (omega (arith, p.1)) (omega (arith, q.1)) counts)
+same_command host host p q h = refl
+same_command host (simulate d i t n) p q h = absurd (cc h)
+same_command (simulate d i t n) host p q h = absurd (cc h)
 
 pub same_bytes : (all : List (List ℕ × List ℕ)) (name x y : List ℕ) → Holds (Some all) name x → Holds (Some all) name y → x ≡ y
 same_bytes all name x y h k = cc (h, k)
@@ -28,7 +31,7 @@ pub record Exact {A : Type 0} (breaks : List ℕ → Violation → Type 0) (acce
   pub apart : (bytes : List ℕ) (m : A) (v : Violation) → breaks bytes v → accepts bytes m → ⊥
 
 pub exact_diagram : Exact Breaks Accepts
-exact_diagram = record { one_break = λ bytes v w h k. cc (h, k); one_made = λ bytes m n h k. cc (h, k); apart = λ bytes m v h k. absurd (cc (h, k)) }
+exact_diagram = record { one_break = one_violation; one_made = one_net; apart = λ bytes m v h k. not_both bytes m v k h }
 
 pub exact_inputs : Exact BreaksInputs AcceptsInputs
 exact_inputs = record { one_break = λ bytes v w h k. h.1 ∙ sym k.1; one_made = λ bytes m n h k. refl; apart = λ bytes m v h k. h.0 k }
@@ -67,6 +70,7 @@ one_judged breaks accepts which all name read names others a b next next' exact 
 pub one_due_of : (all : List (List ℕ × List ℕ)) (c : Request) (names others : List (List ℕ)) (a b : Answer) → DueOf (Some all) c names a → DueOf (Some all) c others b → Same a b names others
 one_due_of all (simulate d i t n) names others a b h k = one_judged Breaks Accepts 1 all d (d ∷ []) names others a b (λ o. DueBehind (Some all) o d i t n names a) (λ o. DueBehind (Some all) o d i t n others b) exact_diagram
     (λ o x y. one_judged BreaksInputs AcceptsInputs 2 all i (d ∷ i ∷ []) names others a b (λ (_ : Unit {0}). (a ≡ simulated o t n) × (names ≡ d ∷ i ∷ [])) (λ (_ : Unit {0}). (b ≡ simulated o t n) × (others ≡ d ∷ i ∷ [])) exact_inputs (λ v p q. (p.0 ∙ sym q.0, p.1 ∙ sym q.1)) x y) h k
+one_due_of all host names others a b h k = (h.0 ∙ sym k.0, h.1 ∙ sym k.1)
 
 pub one_answer : OneAnswer
 one_answer all words names others a b (inl h) (inl k) = (h.1 ∙ sym k.1, h.2 ∙ sym k.2)

@@ -5,8 +5,7 @@ use Rattle.sci_base.specs.declared.observation.Obs.{Obs}
 use Rattle.sci_report.specs.Line.{refused_line}
 use Rattle.sci_trace.specs.Lines.{text, stops}
 use Rattle.sci_pending.specs.Run.{trace}
-use Rattle.sci_plain.specs.Objects.{Objects}
-use Rattle.sci_timers.specs.Timers.{timers_of}
+use Rattle.sci_pending.specs.Timer.{EventDelay}
 
 pub record Answer : Type 0 where
   pub out : List ℕ
@@ -41,6 +40,10 @@ read_fault = says 3 read_fault_line
 abbrev pub no_memory : Answer
 no_memory = says 5 no_memory_line
 
+-- a text on out alone
+abbrev pub prints : List ℕ → Answer
+prints text = record { out = text; err = []; status = 0 }
+
 -- the status of a run, which may stop
 abbrev pub run_status : Bool → ℕ
 run_status false = 0
@@ -50,6 +53,6 @@ run_status true = 6
 abbrev pub ran : List Obs → Answer
 ran observed = record { out = text observed; err = []; status = run_status (stops observed) }
 
--- the trace of a diagram's timers
-abbrev pub simulated : Objects → (until limit : ℕ) → Answer
-simulated diagram until limit = ran (trace (timers_of diagram) until limit)
+-- the trace of a net of timers
+abbrev pub simulated : List EventDelay → (until limit : ℕ) → Answer
+simulated timers until limit = ran (trace timers until limit)

@@ -3,11 +3,12 @@ use Rattle.std.specs.Prelude.{ℕ, ◌≡◌, ◌≤◌, ◌<◌, ◌⊎◌, pos
 use Rattle.sci_base.specs.Plain.{Violation}
 use Rattle.sci_base.specs.declared.refusal.Rule.TheVariants.{FileTooLong}
 use Rattle.sci_io.specs.Files.{Files, file_named}
-use Rattle.sci_plain.specs.Objects.{Objects}
-use Rattle.sci_plain.specs.Reading.{Accepts, Breaks}
+use Rattle.sci_pending.specs.Timer.{EventDelay}
+use Rattle.sci_verdict.specs.Verdict.{Accepts, Breaks}
 use Rattle.scicos.specs.Inputs.{AcceptsInputs, BreaksInputs}
-use Rattle.scicos.specs.Words.{Request, simulate, Spells, NoCommand}
-use Rattle.scicos.specs.Answer.{Answer, usage, refused, simulated}
+use Rattle.scicos.specs.Host.{host_text}
+use Rattle.scicos.specs.Words.{Request, simulate, host, Spells, NoCommand}
+use Rattle.scicos.specs.Answer.{Answer, usage, prints, refused, simulated}
 
 -- the file of this name holds these bytes, where the folder tells
 abbrev pub Holds : Files → List ℕ → List ℕ → Type 0
@@ -35,14 +36,15 @@ abbrev pub Judged : {A : Type 0} → (Violation → Type 0) → (A → Type 0) �
 Judged {A = A} fails passes read next names a = ((v : Violation) × fails v × (a ≡ refused v) × (names ≡ read)) ⊎ ((made : A) × passes made × next made)
 
 -- what is due of a simulation whose diagram passes
-abbrev pub DueBehind : Files → Objects → List ℕ → List ℕ → (until limit : ℕ) → List (List ℕ) → Answer → Type 0
-DueBehind files diagram d i until limit names a =
-    Judged (Fails BreaksInputs 2 files i) (Passes AcceptsInputs files i) (d ∷ i ∷ []) (λ (_ : Unit {0}). (a ≡ simulated diagram until limit) × (names ≡ d ∷ i ∷ [])) names a
+abbrev pub DueBehind : Files → List EventDelay → List ℕ → List ℕ → (until limit : ℕ) → List (List ℕ) → Answer → Type 0
+DueBehind files timers d i until limit names a =
+    Judged (Fails BreaksInputs 2 files i) (Passes AcceptsInputs files i) (d ∷ i ∷ []) (λ (_ : Unit {0}). (a ≡ simulated timers until limit) × (names ≡ d ∷ i ∷ [])) names a
 
 -- what is due of a command, after these names were read
 abbrev pub DueOf : Files → Request → List (List ℕ) → Answer → Type 0
 DueOf files (simulate d i until limit) names a =
-    Judged (Fails Breaks 1 files d) (Passes Accepts files d) (d ∷ []) (λ diagram. DueBehind files diagram d i until limit names a) names a
+    Judged (Fails Breaks 1 files d) (Passes Accepts files d) (d ∷ []) (λ timers. DueBehind files timers d i until limit names a) names a
+DueOf files host names a = (a ≡ prints host_text) × (names ≡ [])
 
 -- The answer that is due of these words, and the names that are read for it.
 abbrev pub Due : Files → List (List ℕ) → List (List ℕ) → Answer → Type 0

@@ -5,9 +5,8 @@ use Rattle.sci_base.specs.Plain.{violation_of}
 use Rattle.sci_base.specs.declared.refusal.Rule.TheVariants.{FileTooLong}
 use Rattle.sci_io.specs.Causes.{Rose}
 use Rattle.sci_io.specs.Files.{FolderState}
-use Rattle.sci_plain.specs.declared.diagram.Diagram.{Diagram}
-use Rattle.sci_plain.specs.Objects.{diagram_view}
-use Rattle.sci_plain.specs.Reading.{Accepts, Breaks}
+use Rattle.sci_pending.specs.Timer.{EventDelay}
+use Rattle.sci_verdict.specs.Verdict.{Accepts, Breaks}
 use Rattle.scicos.specs.Inputs.{AcceptsInputs, BreaksInputs}
 use Rattle.scicos.specs.Due.{Holds, longest, Passes, Fails}
 use Rattle.scicos.specs.declared.look.FileStop.{FileStop}
@@ -33,8 +32,8 @@ IsFile old new name (Err TooLong) = ((bytes : List ℕ) × Holds old.files name 
 IsFile old new name (Err Failed) = AsksInVain old new name
 IsFile old new name (Err NoBytes) = MayAsk old new name
 
-abbrev pub IsDiagram : FolderState → FolderState → List ℕ → Result Diagram LookStop → Type 0
-IsDiagram old new name (Ok d) = Passes Accepts old.files name (diagram_view d) × Asks old new name
+abbrev pub IsDiagram : FolderState → FolderState → List ℕ → Result (List EventDelay) LookStop → Type 0
+IsDiagram old new name (Ok n) = Passes Accepts old.files name n × Asks old new name
 IsDiagram old new name (Err (Refused r)) = Fails Breaks 1 old.files name (violation_of r) × Asks old new name
 IsDiagram old new name (Err Fault) = AsksInVain old new name
 IsDiagram old new name (Err Memory) = MayAsk old new name

@@ -3,7 +3,7 @@ ghost use Rattle.sci_base.specs.Plain.{violation_of};
 ghost use Rattle.sci_report.specs.Line.{refused_line};
 ghost use Rattle.sci_pending.specs.Run.{trace};
 ghost use Rattle.sci_sim.specs.Running.{IsAtStart};
-ghost use Rattle.scicos.specs.Answer.{write_fault_line, usage_line, read_fault_line, no_memory_line};
+ghost use Rattle.scicos.specs.Answer.{prints, write_fault_line, usage_line, read_fault_line, no_memory_line};
 ghost use Rattle.scicos.specs.Written.{Written};
 ghost use Rattle.scicos.specs.Deliver.{Gives, Said, Ran, Finished};
 ghost use Rattle.scicos.specs.Prepare.{answer_of, IsPrepared};
@@ -98,6 +98,18 @@ fn print_trace<O: Sink>(
     Ok(end)
 }
 
+// Prints a text, or tells the failure of out.
+#[tactic(auto, using(crate::proofs::Giving::printed_written, crate::proofs::Giving::cut_written))]
+fn print<O: Sink, E: Sink>(text: &str, out: &mut O, err: &mut E) -> u8
+    requires { 0 < length text.now }
+    ensures { Written (prints text.now) (O.state out.old) (O.state out.new) (E.state err.old) (E.state err.new) result }
+{
+    match give(text, out) {
+        Ok(()) => 0,
+        Err(_) => say_write_fault(err),
+    }
+}
+
 fn finish<E: Sink>(ran: Result<RunEnd, Failed>, err: &mut E) -> u8
     ensures { Finished ran (E.state err.old) (E.state err.new) result }
 {
@@ -119,6 +131,7 @@ pub fn deliver<O: Sink, E: Sink>(prepared: Prepared, out: &mut O, err: &mut E) -
         Prepared::Refused(refusal) => refuse(&refusal, err),
         Prepared::ReadFault => say_read_fault(err),
         Prepared::Memory => say_no_memory(err),
+        Prepared::Print(text) => print(text, out, err),
         Prepared::Simulate(ready, until, limit) => {
             let mut ready = ready;
             finish(print_trace(&mut ready, until, limit, out), err)

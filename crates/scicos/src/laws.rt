@@ -1,11 +1,6 @@
-ghost use Rattle.scicos.specs.Laws.{OneAnswer, SomeAnswer};
+ghost use Rattle.scicos.specs.Laws.{OneAnswer};
 
 /// Where the files are told, at most one answer is due of the words, with one list of names that are read for it.
 pub fn one_answer_is_due()
     ensures { OneAnswer }
-{}
-
-/// Where both files of a simulation are there, an answer is due.
-pub fn an_answer_is_due()
-    ensures { SomeAnswer }
 {}

@@ -1,12 +1,11 @@
-ghost use Rattle.std.specs.Prelude.{◌≡◌, ◌↔◌, true, IfOk};
-ghost use Rattle.sci_plain.specs.Objects.{diagram_view};
-ghost use Rattle.sci_plain.specs.TimerForm.{IsOfTimers};
+ghost use Rattle.std.specs.Prelude.{◌≡◌, ◌↔◌, true};
 ghost use Rattle.scicos.specs.Inputs.{HasNoColumns};
 ghost use Rattle.scicos.specs.Look.{IsFile, IsDiagram, AreInputs, IsTooLong};
 
 use sci_base::{Refusal, Rule};
 use sci_io::{Folder, ReadEnd};
-use sci_plain::{Diagram, ReadStop, read};
+use sci_pending::TimerNet;
+use sci_verdict::{VerdictStop, timer_net};
 use std::alloc::Global;
 
 /// The limit of a diagram's and an input file, in bytes.
@@ -63,17 +62,16 @@ fn file_too_long(alloc: Global, which: i64) -> LookStop
     LookStop::Refused(refusal)
 }
 
-/// The diagram of a file.
-pub fn diagram<F: Folder>(alloc: Global, folder: &mut F, name: &str) -> Result<Diagram, LookStop>
+/// The net of a diagram's file.
+pub fn diagram<F: Folder>(alloc: Global, folder: &mut F, name: &str) -> Result<TimerNet, LookStop>
     ensures diagram { IsDiagram (F.state folder.old) (F.state folder.new) name.now result }
-    ensures timers { IfOk result (λ d. IsOfTimers (diagram_view d)) }
     ensures kept { (F.state folder.new).files ≡ (F.state folder.old).files }
 {
     match file(alloc, folder, name) {
-        Ok(bytes) => match read(alloc, &bytes) {
-            Ok(diagram) => Ok(diagram),
-            Err(ReadStop::Refused(refusal)) => Err(LookStop::Refused(refusal)),
-            Err(ReadStop::Memory) => Err(LookStop::Memory),
+        Ok(bytes) => match timer_net(alloc, &bytes) {
+            Ok(net) => Ok(net),
+            Err(VerdictStop::Refused(refusal)) => Err(LookStop::Refused(refusal)),
+            Err(VerdictStop::Memory) => Err(LookStop::Memory),
         },
         Err(FileStop::TooLong) => Err(file_too_long(alloc, 1)),
         Err(FileStop::Failed) => Err(LookStop::Fault),

@@ -3,6 +3,7 @@
 
 mod command;
 mod deliver;
+mod host;
 mod laws;
 mod look;
 mod prepare;

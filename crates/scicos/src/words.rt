@@ -46,11 +46,22 @@ fn of_five<'a>(
     }
 }
 
+fn of_one<'a>(name: &str) -> Option<Command<'a>>
+    ensures { Parses (name.now ∷ []) result }
+{
+    if name == "host" {
+        Some(Command::Host)
+    } else {
+        None
+    }
+}
+
 /// The command that the words spell.
 pub fn parse(words: &[String]) -> Option<Command<'_>>
     ensures { Parses (map string_bytes words.now) result }
 {
     match words {
+        [name] => of_one(name.as_str()),
         [name, diagram, inputs, until, limit] => of_five(
             name.as_str(),
             diagram.as_str(),

@@ -1,0 +1,99 @@
+"""Diagrams that break a rule, each with the line that is due, worked out by hand.
+
+A diagram is written as its objects in order. `block` gives a block of a kind; ports are of one element and of type int32
+(code 3) unless it says otherwise. `wire` and `event` are a regular link and an activation link, from (block, port) to
+(block, port).
+"""
+
+
+def block(gui, ins=(), outs=(), evtin=0, evtout=0, types=3, **model):
+    """A block whose rows are `ins` and `outs`; `types` is the type of all its ports, or a list for each side."""
+    intyp, outtyp = types if isinstance(types, tuple) else ([types] * len(ins), [types] * len(outs))
+    model = dict({'in': list(ins), 'intyp': list(intyp), 'out': list(outs), 'outtyp': list(outtyp), 'evtin': [1] * evtin, 'evtout': [1] * evtout}, **model)
+    return {'obj': 'Block', 'gui': gui, 'model': model}
+
+
+def superblock(objs, ins=(), outs=(), evtin=0, evtout=0):
+    return block('SUPER_f', ins, outs, evtin, evtout, sim='super', rpar={'objs': objs})
+
+
+def wire(source, target, kind=1):
+    return {'obj': 'Link', 'from': [*source, 0], 'to': [*target, 1], 'ct': [1, kind]}
+
+
+def event(source, target):
+    return {'obj': 'Link', 'from': [*source, 0], 'to': [*target, 1], 'ct': [5, -1]}
+
+
+TEXT = {'obj': 'Text'}
+CLOCK = block('EVTDLY_c', evtin=1, evtout=1, ipar=1, firing=0)
+
+
+def constant(*values, rows=1, types=3):
+    return block('CONST_m', outs=[rows], types=types, ipar=list(values))
+
+
+def gain(ins=(1,), outs=(1,), types=3, factor=2):
+    return block('GAINBLK', ins, outs, types=types, ipar=[0, factor])
+
+
+def nested(levels):
+    objs = []
+    for _ in range(levels):
+        objs = [superblock(objs)]
+    return objs
+
+
+def sensor(column):
+    return block('SENSOR', outs=[1], evtin=1, ipar=[column])
+
+
+def delay(types=-1, rows=1):
+    return block('DOLLAR_m', [rows], [rows], types=types, dstate=0)
+
+
+# name, objects, what is due behind 'refused '
+REFUSALS = [
+    ('no objects', None, '2 MissingField at - 1'),
+    ('no gui', [{'obj': 'Block', 'model': {}}], '2 MissingField at 1 3'),
+    ('no diagram inside', [block('SUPER_f', sim='super')], '2 MissingField at 1 15'),
+    ('a size that is no whole number', [block('CONST_m', outs=[1.5])], '3 WrongField at 1 9'),
+    ('a size past 2^31 - 1', [block('CONST_m', outs=[2147483648])], '3 WrongField at 1 9'),
+    ('seventeen levels', nested(17), '4 TooDeep at ' + '/'.join(['1'] * 16) + ' 16'),
+    ('too many blocks', [CLOCK] * 2049, '5 TooManyBlocks at - 2049'),
+    ('too many links', [CLOCK] + [event((1, 1), (1, 1))] * 16385, '6 TooManyLinks at - 16385'),
+    ('an unknown block', [TEXT, block('SCOPE', ins=[1])], '7 UnknownBlock at 2'),
+    ('an unknown block inside', [TEXT, superblock([TEXT, TEXT, block('SCOPE')])], '7 UnknownBlock at 2/3'),
+    ('a mode that there is not', [block('ABS_VALUE', [1], [1], ipar=3)], '8 BadParameter at 1 1 1 3'),
+    ('too many parameters', [block('ABS_VALUE', [1], [1], ipar=[0, 0])], '8 BadParameter at 1 1 0 2'),
+    ('a state below its least', [block('Modulo_Count', outs=[1], evtin=1, ipar=3, dstate=-1)], '8 BadParameter at 1 2 1 -1'),
+    ('a first date past 2^31 - 1', [block('EVTDLY_c', evtin=1, evtout=1, ipar=1, firing=2147483648)], '8 BadParameter at 1 3 1 2147483648'),
+    ('no feedthrough where the kind has it', [block('GAINBLK', [1], [1], ipar=[0, 2], dep_ut=[False, False])], '8 BadParameter at 1 4 1 0'),
+    ('a port block without a number', [superblock([block('IN_f', outs=[1], ipar=0)])], '8 BadParameter at 1/1 1 1 0'),
+    ('one input too many', [block('GAINBLK', [1, 1], [1], ipar=[0, 2])], '9 PortShape at 1 1 2'),
+    ('a missing type', [block('GAINBLK', [1], [1], types=([], [3]), ipar=[0, 2])], '9 PortShape at 1 6 0'),
+    ('a split with an activation input', [block('SPLIT_f', [1], [1, 1], evtin=1)], '9 PortShape at 1 3 1'),
+    ('a real type', [gain(types=([3], [1]))], '10 NotInteger at 1 2 1 1'),
+    ('always active', [block('GAINBLK', [1], [1], ipar=[0, 2], dep_ut=[True, True])], '11 AlwaysActive at 1'),
+    ('a link of another type', [constant(1), gain(), wire((1, 1), (2, 1), 2)], '12 LinkEnd at 3 0 2'),
+    ('a link from no port', [constant(1), gain(), wire((1, 2), (2, 1))], '12 LinkEnd at 3 1'),
+    ('a link to a text', [constant(1), TEXT, wire((1, 1), (2, 1))], '12 LinkEnd at 3 2'),
+    ('a link between classes', [CLOCK, gain(), wire((1, 1), (2, 1))], '12 LinkEnd at 3 1'),
+    ('two links to one input', [constant(1), constant(1), gain(), wire((1, 1), (3, 1)), wire((2, 1), (3, 1))], '13 InputTwice at 5 3 1'),
+    ('a port block too few', [superblock([block('CLKINV_f', evtout=1, ipar=1)], evtin=2)], '14 SuperPorts at 1 3 2'),
+    ('a port block too many', [superblock([block('OUT_f', ins=[1], ipar=2)])], '14 SuperPorts at 1 2 2'),
+    ('a port block outside', [block('IN_f', outs=[1], ipar=1)], '14 SuperPorts at - 1 1'),
+    ('the ports before the inside', [superblock([block('SCOPE')], ins=[1])], '14 SuperPorts at 1 1 1'),
+    ('an input that nothing feeds', [gain()], '15 NoSource at 1 1'),
+    ('a split that nothing feeds', [block('SPLIT_f', [1], [1, 1]), gain(), wire((1, 1), (1, 1)), wire((1, 2), (2, 1))], '15 NoSource at 2 1'),
+    ('a column twice', [CLOCK, sensor(1), sensor(2), sensor(1)], '16 ColumnTwice at 4 1'),
+    ('two types', [constant(0, types=5), gain(types=4, factor=1), wire((1, 1), (2, 1))], '17 TypeConflict at 1 2 1 4 5'),
+    ('two sizes', [constant(0, rows=2), gain([3], [3]), wire((1, 1), (2, 1))], '18 SizeConflict at 1 2 1 1 2 3'),
+    ('no type', [delay(), delay(), wire((1, 1), (2, 1)), wire((2, 1), (1, 1))], '19 TypeOpen at 1 1 1'),
+    ('no size', [block('MUX', [-1, -2], [-3]), delay(types=3, rows=-1), wire((2, 1), (1, 1)), wire((2, 1), (1, 2)), wire((2, 1), (2, 1))], '20 SizeOpen at 1 1 1 1'),
+    ('a value outside its type', [constant(200, types=5)], '21 TypeNotHere at 1 2 1 1'),
+    ('rows that do not add up', [constant(0, rows=5), block('DEMUX', [5], [2, 2]), wire((1, 1), (2, 1))], '22 ShapeRule at 2 1 1 1'),
+    ('an output of 257 elements', [constant(0, rows=257)], '23 SignalTooLarge at 1 1 257'),
+    ('outputs of 65,537 elements', [constant(0, rows=256)] * 256 + [constant(0)], '23 SignalTooLarge at - 0 65537'),
+    ('another kind', [CLOCK, TEXT, superblock([TEXT, constant(1)])], '30 Unbuilt at 3/2'),
+]

@@ -1,0 +1,316 @@
+-- A program's text leads to the program, line by line, and what begins a program's text passes.
+use Rattle.std.proofs.Common.{◌≡◌, ℕ, zero, suc, ◌+◌, ◌-◌, ◌*◌, ◌<◌, ◌≤◌, List, [], ◌∷◌, ◌++◌, map, length, Option, Some, None, Bool, true, false, cond, refl, sym, ap, ◌∙◌, subst, arith, append_assoc, append-nil}
+use Rattle.std.specs.Prelude.{nat_eq, nat_lt, ◌&&◌, ◌||◌, All, codes}
+use Rattle.std.specs.List.{flat_map, list_any}
+use Rattle.std.proofs.lemmas.Bool.{cond-true, cond-false, eq-eqb, eqb-true, eqb-false, and_parts}
+use Rattle.std.proofs.lemmas.List.{map-append}
+use Rattle.std.proofs.lemmas.List.Folds.{list_any-append}
+use Rattle.std.proofs.lemmas.Grind.{flat_map-append}
+use Rattle.std.proofs.lemmas.List.Elements.{All-head, All-tail}
+use Rattle.c_ast.specs.declared.Name.{Name}
+use Rattle.c_ast.specs.Syntax.{Statement, set, ask, choice, loop, call, tell, Block, done, next, Declared, Function, Whole}
+use Rattle.c_ast.specs.Spelling.{Line, Row, row_of, row_text, rows_text, at_depth, header_line, scalar_line, array_line, function_line, main_line, set_line, ask_line, if_line, else_line, for_line, call_line, tell_line, close_line, statement_rows, block_rows, else_rows, declared_line, declared_row, function_rows, main_rows, header_lines, spelling}
+use Rattle.c_ast.specs.Bounds.{IsName, IsSize, IsDeclared, IsFunction, IsBody, IsWhole, StatementFits, BlockFits}
+use Rattle.c_parse.specs.Reading.{◌>>=◌, after}
+use Rattle.c_parse.specs.LineReading.{row_at}
+use Rattle.c_parse.specs.LineBounds.{IsLine, row_bytes}
+use Rattle.c_parse.specs.Machine.{Open, bottom, inner, expected_depth, is_close, step_row, State, heading, outside, body, over, header_text, outset, begun, step_outside, ends_body, is_end, body_of, step_body, step, pass, passes}
+use Rattle.c_parse.specs.Blame.{Spells, IsFront, has_lf, with_lf, behind_rows, joined, AllClear, Reached}
+use Rattle.c_parse.proofs.Parts.{bind_some, guarded}
+use Rattle.c_parse.proofs.Expressions.{some_is}
+use Rattle.c_parse.proofs.LineAgain.{row_again}
+use Rattle.c_parse.proofs.LineFeeds.{row_clear}
+use Rattle.c_parse.proofs.BlockLaws.{steps, body_steps}
+use Rattle.c_parse.proofs.StateLaws.{owner_line, StateFits, IsBehind, Moved, step_moved, fits_body, rows_text-append, row_text_is, spelling_is, Led, pass_led, led_front}
+
+-- lines within the bounds
+abbrev pub AllLines : List Row → Type 0
+AllLines [] = Unit {0}
+AllLines (r ∷ rs) = IsLine r.line × AllLines rs
+
+all_append : (a b : List Row) → AllLines a → AllLines b → AllLines (a ++ b)
+all_append [] b f g = g
+all_append (r ∷ a) b f g = (f.0, all_append a b f.1 g)
+
+mutual
+  statement_lines : (s : Statement) (d n : ℕ) → StatementFits n s → AllLines (statement_rows d s)
+  statement_lines s d zero f = absurd f
+  statement_lines (set p e) d (suc n) f = (f, tt)
+  statement_lines (ask p a) d (suc n) f = (f, tt)
+  statement_lines (call x) d (suc n) f = (f, tt)
+  statement_lines (tell t) d (suc n) f = (f, tt)
+  statement_lines (choice e a b) d (suc n) f = (f.0, all_append (block_rows (suc d) a) (else_rows d b) (block_lines a (suc d) n f.1) (else_lines b d n f.2))
+  statement_lines (loop x m s) d (suc n) f = ((f.0, f.1), all_append (block_rows (suc d) s) (at_depth d close_line) (block_lines s (suc d) n f.2) (tt, tt))
+
+  block_lines : (b : Block) (d n : ℕ) → BlockFits n b → AllLines (block_rows d b)
+  block_lines done d n f = tt
+  block_lines (next s b) d n f = all_append (statement_rows d s) (block_rows d b) (statement_lines s d n f.0) (block_lines b d n f.1)
+
+  else_lines : (b : Block) (d n : ℕ) → BlockFits n b → AllLines (else_rows d b)
+  else_lines done d n f = (tt, tt)
+  else_lines (next s b) d n f = (tt, all_append (statement_rows (suc d) s ++ block_rows (suc d) b) (at_depth d close_line) (all_append (statement_rows (suc d) s) (block_rows (suc d) b) (statement_lines s (suc d) n f.0) (block_lines b (suc d) n f.1)) (tt, tt))
+
+declared_line_fits : (x : Name) (size : Option ℕ) → IsName x → IsSize size → IsLine (declared_line x size)
+declared_line_fits x None f g = f
+declared_line_fits x (Some n) f g = (f, g)
+
+decls_lines : (ds : List Declared) → All IsDeclared ds → AllLines (map declared_row ds)
+decls_lines [] f = tt
+decls_lines (d ∷ ds) f = let h = All-head IsDeclared d ds f in (declared_line_fits d.name d.size h.0 h.1, decls_lines ds (All-tail IsDeclared d ds f))
+
+body_lines : (b : Block) → BlockFits 16 b → AllLines (block_rows 1 b ++ at_depth 0 close_line)
+body_lines b f = all_append (block_rows 1 b) (at_depth 0 close_line) (block_lines b 1 16 f) (tt, tt)
+
+funcs_lines : (fs : List Function) → All IsFunction fs → AllLines (flat_map function_rows fs)
+funcs_lines [] f = tt
+funcs_lines (g ∷ fs) f =
+    let h = All-head IsFunction g fs f in
+    all_append (function_rows g) (flat_map function_rows fs) (h.0, body_lines g.body (fits_body g.body h.1)) (funcs_lines fs (All-tail IsFunction g fs f))
+
+behind_lines : (p : Whole) → IsWhole p → AllLines (behind_rows p)
+behind_lines p f =
+    all_append (map declared_row p.decls) (flat_map function_rows p.funcs ++ main_rows p.main) (decls_lines p.decls f.decls)
+    (all_append (flat_map function_rows p.funcs) (main_rows p.main) (funcs_lines p.funcs f.funcs) (tt, body_lines p.main (fits_body p.main f.main)))
+
+-- the rows of a text, one by one
+abbrev runs : List Row → State → Option State
+runs [] s = Some s
+runs (r ∷ rs) s = step r s >>= runs rs
+
+runs-append : (a b : List Row) (s t : State) → runs a s ≡ Some t → runs (a ++ b) s ≡ runs b t
+runs-append [] b s t e = ap (λ (q : Option State). q >>= runs b) e
+runs-append (r ∷ rs) b s t e =
+    let m = bind_some (step r s) (runs rs) t e in
+    ap (λ (q : Option State). q >>= runs (rs ++ b)) m.1 ∙ runs-append rs b m.0 t m.2
+
+step_declared : (x : Name) (size : Option ℕ) (ds : List Declared) → step (row_of 0 (declared_line x size)) (outside ds []) ≡ Some (outside (ds ++ record { name = x; size = size } ∷ []) [])
+step_declared x None ds = refl
+step_declared x (Some n) ds = refl
+
+decls_run : (more ds : List Declared) → runs (map declared_row more) (outside ds []) ≡ Some (outside (ds ++ more) [])
+decls_run [] ds = ap (λ (l : List Declared). Some (outside l [])) (sym (append-nil ds))
+decls_run (d ∷ more) ds =
+    ap (λ (q : Option State). q >>= runs (map declared_row more)) (step_declared d.name d.size ds) ∙ decls_run more (ds ++ d ∷ []) ∙ ap (λ (l : List Declared). Some (outside l [])) (append_assoc ds (d ∷ []) more)
+
+expected_one : (l : Line) (b : Block) → expected_depth l (bottom b) ≡ 1
+expected_one (header_line t) b = refl
+expected_one (scalar_line x) b = refl
+expected_one (array_line x n) b = refl
+expected_one (function_line x) b = refl
+expected_one main_line b = refl
+expected_one (set_line p e) b = refl
+expected_one (ask_line p a) b = refl
+expected_one (if_line e) b = refl
+expected_one else_line b = refl
+expected_one (for_line x n) b = refl
+expected_one (call_line x) b = refl
+expected_one (tell_line t) b = refl
+expected_one close_line b = refl
+
+either_false : (a b : Bool) → b ≡ false → (a && b) ≡ false
+either_false true b e = e
+either_false false b e = refl
+
+not_end : (r : Row) (o q : Open) → step_row r o ≡ Some q → is_end r o ≡ false
+not_end r (inner b w k) q e = refl
+not_end r (bottom b) q e =
+    let g = guarded _ _ q e in
+    let d = sym (eqb-true (expected_depth r.line (bottom b)) r.depth (and_parts (nat_eq (expected_depth r.line (bottom b)) r.depth) _ g.0).0) ∙ expected_one r.line b in
+    either_false (is_close r.line) (nat_eq r.depth 0) (ap (λ (n : ℕ). nat_eq n 0) d)
+
+body_run : (rs : List Row) (ds : List Declared) (fs : List Function) (owner : Option Name) (o p : Open) → steps rs o ≡ Some p → runs rs (body ds fs owner o) ≡ Some (body ds fs owner p)
+body_run [] ds fs owner o p e = ap (λ (q : Open). Some (body ds fs owner q)) (some_is e)
+body_run (r ∷ rs) ds fs owner o p e =
+    let m = bind_some (step_row r o) (steps rs) p e in
+    ap (λ (q : Option State). q >>= runs rs) (cond-false (is_end r o) (Some (ends_body ds fs owner (body_of o))) (step_row r o >>= λ p. Some (body ds fs owner p)) (not_end r o m.0 m.1) ∙ ap (λ (q : Option Open). q >>= λ p. Some (body ds fs owner p)) m.1)
+    ∙ body_run rs ds fs owner m.0 p m.2
+
+-- the body of a function or of sci_main, with its last line
+whole_body_run : (b : Block) (ds : List Declared) (fs : List Function) (owner : Option Name) → BlockFits 16 b → runs (block_rows 1 b ++ at_depth 0 close_line) (body ds fs owner (bottom done)) ≡ Some (ends_body ds fs owner b)
+whole_body_run b ds fs owner f = runs-append (block_rows 1 b) (at_depth 0 close_line) (body ds fs owner (bottom done)) (body ds fs owner (bottom b)) (body_run (block_rows 1 b) ds fs owner (bottom done) (bottom b) (body_steps b f))
+
+funcs_run : (more : List Function) (ds : List Declared) (fs : List Function) → All IsFunction more → runs (flat_map function_rows more) (outside ds fs) ≡ Some (outside ds (fs ++ more))
+funcs_run [] ds fs f = ap (λ (l : List Function). Some (outside ds l)) (sym (append-nil fs))
+funcs_run (g ∷ more) ds fs f =
+    let h = All-head IsFunction g more f in
+    runs-append (function_rows g) (flat_map function_rows more) (outside ds fs) (outside ds (fs ++ g ∷ [])) (whole_body_run g.body ds fs (Some g.name) (fits_body g.body h.1))
+    ∙ funcs_run more ds (fs ++ g ∷ []) (All-tail IsFunction g more f) ∙ ap (λ (l : List Function). Some (outside ds l)) (append_assoc fs (g ∷ []) more)
+
+behind_run : (p : Whole) → IsWhole p → runs (behind_rows p) (outside [] []) ≡ Some (over p)
+behind_run p f =
+    runs-append (map declared_row p.decls) (flat_map function_rows p.funcs ++ main_rows p.main) (outside [] []) (outside p.decls []) (decls_run p.decls [])
+    ∙ runs-append (flat_map function_rows p.funcs) (main_rows p.main) (outside p.decls []) (outside p.decls p.funcs) (funcs_run p.funcs p.decls [] f.funcs)
+    ∙ whole_body_run p.main p.decls p.funcs None (fits_body p.main f.main)
+
+-- a line is read as its row
+pass_row : (r : Row) (s : State) → IsBehind s → IsLine r.line → pass (row_bytes r) s ≡ step r s
+pass_row r (heading t) b f = absurd b
+pass_row r (outside ds fs) b f = ap (λ (o : Option Row). o >>= λ r. step r (outside ds fs)) (row_again r.depth r.line f)
+pass_row r (body ds fs owner o) b f = ap (λ (q : Option Row). q >>= λ r. step r (body ds fs owner o)) (row_again r.depth r.line f)
+pass_row r (over p) b f = refl
+
+passes_runs : (rs : List Row) (s t : State) → IsBehind s → StateFits s → AllLines rs → runs rs s ≡ Some t → passes (map row_bytes rs) s ≡ Some t
+passes_runs [] s t b f g e = e
+passes_runs (r ∷ rs) s t b f g e =
+    let m = bind_some (step r s) (runs rs) t e in
+    let v = step_moved r s m.0 f g.0 m.1 in
+    ap (λ (q : Option State). q >>= passes (map row_bytes rs)) (pass_row r s b g.0 ∙ m.1) ∙ passes_runs rs m.0 t v.behind v.fits g.1 m.2
+
+pub passes-append : (a b : List (List ℕ)) (s t : State) → passes a s ≡ Some t → passes (a ++ b) s ≡ passes b t
+passes-append [] b s t e = ap (λ (q : Option State). q >>= passes b) e
+passes-append (l ∷ a) b s t e =
+    let m = bind_some (pass l s) (passes a) t e in
+    ap (λ (q : Option State). q >>= passes (a ++ b)) m.1 ∙ passes-append a b m.0 t m.2
+
+passes_front : (a b : List (List ℕ)) (s t : State) → passes (a ++ b) s ≡ Some t → (u : State) × (passes a s ≡ Some u)
+passes_front [] b s t e = (s, refl)
+passes_front (l ∷ a) b s t e =
+    let m = bind_some (pass l s) (passes (a ++ b)) t e in
+    let i = passes_front a b m.0 t m.2 in
+    (i.0, ap (λ (q : Option State). q >>= passes a) m.1 ∙ i.1)
+
+header_passes : passes header_lines outset ≡ Some (outside [] [])
+unfolding header_text
+header_passes = refl
+
+-- the lines of a program
+abbrev pub lines_of : Whole → List (List ℕ)
+lines_of p = header_lines ++ map row_bytes (behind_rows p)
+
+fits_nothing : StateFits (outside [] [])
+fits_nothing = (λ i d h. absurd (omega (arith, h)), λ i d h. absurd (omega (arith, h)))
+
+pub program_passes : (p : Whole) → IsWhole p → passes (lines_of p) outset ≡ Some (over p)
+program_passes p f =
+    passes-append header_lines (map row_bytes (behind_rows p)) outset (outside [] []) header_passes
+    ∙ passes_runs (behind_rows p) (outside [] []) (over p) tt fits_nothing (behind_lines p f) (behind_run p f)
+
+rows_joined : (rs : List Row) → rows_text rs ≡ joined (map row_bytes rs)
+rows_joined [] = refl
+rows_joined (r ∷ rs) = ap (λ (l : List ℕ). l ++ rows_text rs) (row_text_is r) ∙ ap (λ (l : List ℕ). with_lf (row_bytes r) ++ l) (rows_joined rs)
+
+pub joined-append : (a b : List (List ℕ)) → joined (a ++ b) ≡ joined a ++ joined b
+joined-append a b = flat_map-append with_lf a b
+
+header_joined : header_text ≡ joined header_lines
+unfolding header_text
+header_joined = refl
+
+pub spelling_joined : (p : Whole) → spelling p ≡ joined (lines_of p)
+spelling_joined p =
+    spelling_is p ∙ ap (λ (h : List ℕ). h ++ rows_text (behind_rows p)) header_joined ∙ ap (λ (l : List ℕ). joined header_lines ++ l) (rows_joined (behind_rows p)) ∙ sym (joined-append header_lines (map row_bytes (behind_rows p)))
+
+pub clear_append : (a b : List (List ℕ)) → AllClear a → AllClear b → AllClear (a ++ b)
+clear_append [] b f g = g
+clear_append (l ∷ a) b f g = (f.0, clear_append a b f.1 g)
+
+rows_clear : (rs : List Row) → AllLines rs → AllClear (map row_bytes rs)
+rows_clear [] f = tt
+rows_clear (r ∷ rs) f = (row_clear r f.0, rows_clear rs f.1)
+
+header_clear : AllClear header_lines
+header_clear = (refl, (refl, (refl, (refl, (refl, (refl, (refl, (refl, (refl, (refl, tt))))))))))
+
+lines_clear : (p : Whole) → IsWhole p → AllClear (lines_of p)
+lines_clear p f = clear_append header_lines (map row_bytes (behind_rows p)) header_clear (rows_clear (behind_rows p) (behind_lines p f))
+
+or_parts : (a b : Bool) → (a || b) ≡ false → (a ≡ false) × (b ≡ false)
+or_parts true b e = absurd cc
+or_parts false b e = (refl, e)
+
+-- the first line of a text is one
+first_line : (a b x y : List ℕ) → has_lf a ≡ false → has_lf b ≡ false → with_lf a ++ x ≡ with_lf b ++ y → (a ≡ b) × (x ≡ y)
+first_line [] [] x y e f h = (refl, cc)
+first_line [] (c ∷ b) x y e f h = let p = or_parts (nat_eq 10 c) (has_lf b) f in let same : 10 ≡ c = cc in absurd (eqb-false 10 c p.0 same)
+first_line (c ∷ a) [] x y e f h = let p = or_parts (nat_eq 10 c) (has_lf a) e in let same : 10 ≡ c = cc in absurd (eqb-false 10 c p.0 same)
+first_line (c ∷ a) (d ∷ b) x y e f h =
+    let p = or_parts (nat_eq 10 c) (has_lf a) e in
+    let q = or_parts (nat_eq 10 d) (has_lf b) f in
+    let heads : c ≡ d = cc in
+    let tails : with_lf a ++ x ≡ with_lf b ++ y = cc in
+    let i = first_line a b x y p.1 q.1 tails in
+    let is = i.0 in
+    (cc, i.1)
+
+line_has_lf : (a x : List ℕ) → has_lf (with_lf a ++ x) ≡ true
+line_has_lf [] x = refl
+line_has_lf (c ∷ a) x = or_true (nat_eq 10 c) (has_lf (with_lf a ++ x)) (line_has_lf a x)
+  where
+    or_true : (a b : Bool) → b ≡ true → (a || b) ≡ true
+    or_true true b e = refl
+    or_true false b e = e
+
+-- lines at the beginning of a text are its first lines
+split_lines : (ls ms : List (List ℕ)) (more : List ℕ) → AllClear ls → AllClear ms → joined ms ≡ joined ls ++ more → (ks : List (List ℕ)) × (ms ≡ ls ++ ks) × (joined ks ≡ more)
+split_lines [] ms more f g e = (ms, refl, e)
+split_lines (l ∷ ls) [] more f g e = let h = line_has_lf l (joined ls ++ more) in let k : has_lf [] ≡ true = ap has_lf (e ∙ append_assoc (with_lf l) (joined ls) more) ∙ h in absurd (no_lf k)
+  where
+    no_lf : has_lf [] ≡ true → ⊥
+    no_lf k = cc
+split_lines (l ∷ ls) (m ∷ ms) more f g e =
+    let s = first_line m l (joined ms) (joined ls ++ more) g.0 f.0 (e ∙ append_assoc (with_lf l) (joined ls) more) in
+    let i = split_lines ls ms more f.1 g.1 s.1 in
+    (i.0, ap (λ (h : List ℕ). h ∷ ms) s.0 ∙ ap (λ (t : List (List ℕ)). l ∷ t) i.1, i.2)
+
+pub reached_none : Reached [] outset
+reached_none = record { lines = []; split = refl; clear = tt; ran = refl }
+
+pub reached_more : (text line : List ℕ) (s u : State) → Reached text s → has_lf line ≡ false → pass line s ≡ Some u → Reached (text ++ with_lf line) u
+reached_more text line s u r c e = record {
+  lines = r.lines ++ line ∷ [];
+  split = ap (λ (t : List ℕ). t ++ with_lf line) r.split ∙ ap (λ (t : List ℕ). joined r.lines ++ t) (sym (append-nil (with_lf line))) ∙ sym (joined-append r.lines (line ∷ []));
+  clear = clear_append r.lines (line ∷ []) r.clear (c, tt);
+  ran = passes-append r.lines (line ∷ []) outset s r.ran ∙ ap (λ (q : Option State). q >>= passes []) e;
+}
+
+led_passes : (ls : List (List ℕ)) (t : List ℕ) (s u : State) → Led t s → StateFits s → passes ls s ≡ Some u → Led (t ++ joined ls) u × StateFits u
+led_passes [] t s u l f e = subst (λ (q : State). Led (t ++ []) q × StateFits q) (some_is e) (subst (λ (x : List ℕ). Led x s) (sym (append-nil t)) l, f)
+led_passes (a ∷ ls) t s u l f e =
+    let m = bind_some (pass a s) (passes ls) u e in
+    let p = pass_led a t s m.0 l f m.1 in
+    let i = led_passes ls (t ++ with_lf a) m.0 u p.0 p.1 m.2 in
+    (subst (λ (x : List ℕ). Led x u) (append_assoc t (with_lf a) (joined ls)) i.0, i.1)
+
+pub reached_led : (text : List ℕ) (s : State) → Reached text s → Led text s × StateFits s
+reached_led text s r =
+    let l = led_passes r.lines [] outset s refl tt r.ran in
+    (subst (λ (x : List ℕ). Led x s) (sym r.split) l.0, l.1)
+
+pub reached_front : (text : List ℕ) (s : State) → Reached text s → IsFront text
+reached_front text s r = let l = reached_led text s r in led_front text s l.0 l.1
+
+no_some : (t : State) → None ≡ Some t → ⊥
+no_some t e = cc
+
+-- a line that doesn't pass
+pub stops_there : (text line : List ℕ) (s : State) → Reached text s → has_lf line ≡ false → pass line s ≡ None → IsFront (text ++ with_lf line) → ⊥
+stops_there text line s r c e f =
+    let p = f.0 in
+    let whole : joined (lines_of p) ≡ joined (r.lines ++ line ∷ []) ++ f.1 =
+    sym (spelling_joined p) ∙ f.3 ∙ ap (λ (t : List ℕ). t ++ f.1) (ap (λ (t : List ℕ). t ++ with_lf line) r.split ∙ ap (λ (t : List ℕ). joined r.lines ++ t) (sym (append-nil (with_lf line))) ∙ sym (joined-append r.lines (line ∷ []))) in
+    let s2 = split_lines (r.lines ++ line ∷ []) (lines_of p) f.1 (clear_append r.lines (line ∷ []) r.clear (c, tt)) (lines_clear p f.2) whole in
+    let all : passes ((r.lines ++ line ∷ []) ++ s2.0) outset ≡ Some (over p) = ap (λ (ls : List (List ℕ)). passes ls outset) (sym s2.1) ∙ program_passes p f.2 in
+    let front = passes_front (r.lines ++ line ∷ []) s2.0 outset (over p) all in
+    let here : passes (line ∷ []) s ≡ Some front.0 = sym (passes-append r.lines (line ∷ []) outset s r.ran) ∙ front.1 in
+    let one = bind_some (pass line s) (passes []) front.0 here in
+    no_some one.0 (sym e ∙ one.1)
+
+-- behind the last whole line of a program's text stands nothing, and it has led to the program
+pub spelled_ends : (bytes text rest : List ℕ) (s : State) (p : Whole) → bytes ≡ text ++ rest → Reached text s → has_lf rest ≡ false → Spells bytes p → (rest ≡ []) × (s ≡ over p)
+spelled_ends bytes text rest s p is r c f =
+    let whole : joined (lines_of p) ≡ joined r.lines ++ rest = sym (spelling_joined p) ∙ sym f.1 ∙ is ∙ ap (λ (t : List ℕ). t ++ rest) r.split in
+    let k = split_lines r.lines (lines_of p) rest r.clear (lines_clear p f.0) whole in
+    let none = no_more k.0 rest k.2 c in
+    let same : r.lines ≡ lines_of p = sym (append-nil r.lines) ∙ ap (λ (ks : List (List ℕ)). r.lines ++ ks) (sym none.0) ∙ sym k.1 in
+    (none.1, some_is (sym r.ran ∙ ap (λ (ls : List (List ℕ)). passes ls outset) same ∙ program_passes p f.0))
+  where
+    no_more : (ks : List (List ℕ)) (rest : List ℕ) → joined ks ≡ rest → has_lf rest ≡ false → (ks ≡ []) × (rest ≡ [])
+    no_more [] rest e c = (refl, sym e)
+    no_more (l ∷ ks) rest e c = let h = line_has_lf l (joined ks) in let k : true ≡ false = sym h ∙ ap has_lf e ∙ c in absurd (differ k)
+      where
+        differ : true ≡ false → ⊥
+        differ k = cc
+
+-- a text that has led to a program is the program's
+pub reached_spells : (text : List ℕ) (p : Whole) → Reached text (over p) → Spells text p
+reached_spells text p r = let l = reached_led text (over p) r in (l.1, l.0 ∙ sym (spelling_is p))

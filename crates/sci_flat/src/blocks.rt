@@ -1,0 +1,33 @@
+// The specs of a diagram's blocks, and their places.
+ghost use Rattle.std.specs.Prelude.{◌≡◌, length, map, IfOk};
+ghost use Rattle.sci_parts.specs.Blocks.{part_view};
+ghost use Rattle.sci_flat.specs.Placed.{placed_all};
+
+use sci_base::Place;
+use sci_forms::Spec;
+use sci_parts::Part;
+use std::alloc::{AllocError, Global};
+
+/// The blocks of a diagram in tree order.
+#[derive(Drop)]
+pub struct Blocks {
+    pub specs: Vec<Spec>,
+    pub places: Vec<Place>,
+}
+
+impl Blocks {
+    /// Specs and places apart.
+    pub(crate) fn of(alloc: Global, parts: Vec<Part>) -> Result<Blocks, AllocError>
+        ensures same { IfOk result (λ b. placed_all b.specs.items b.places.items ≡ map part_view parts.items) }
+        ensures long { IfOk result (λ b. length b.places.items ≡ length b.specs.items) }
+    {
+        let mut specs = Vec::new(alloc);
+        let mut places = Vec::new(alloc);
+        for part in parts {
+            let Part { place, spec } = part;
+            specs.push(spec)?;
+            places.push(place)?;
+        }
+        Ok(Blocks { specs, places })
+    }
+}

@@ -1,0 +1,115 @@
+// The ports of one class of all blocks, and which of another class they reach.
+ghost use Rattle.std.specs.Prelude.{◌≡◌, ◌+◌, ◌<◌, ◌≤◌, ◌^◌, ◌++◌, All, Contains, IfOk, OnOk, map, length, ℕ};
+ghost use Rattle.std.specs.List.{range_with_len};
+ghost use Rattle.sci_reach.specs.Chain.{AllWithin};
+ghost use Rattle.sci_reach.specs.Lists.{lists_of};
+ghost use Rattle.sci_reach.specs.Reached.{IsWanted};
+ghost use Rattle.sci_flat.specs.Ends.{end_of, seat_numbers, seat_ends, numbers_of, ends_of, IsInside, AreFeeding};
+
+use sci_net::Feed;
+use sci_parts::PortClass;
+use sci_reach::reached;
+use sci_steps::{NoRoom, Seat};
+use std::alloc::{AllocError, Global};
+
+/// The ports of one class, by block and port.
+#[derive(Drop)]
+pub struct Ends {
+    /// Their numbers.
+    pub numbers: Vec<u32>,
+    /// Which they are.
+    pub feeds: Vec<Feed>,
+}
+
+/// Which ports of one class reach the ports of another.
+#[derive(Drop)]
+pub struct Feeding {
+    /// The ports of the first class, by block and port.
+    pub feeds: Vec<Feed>,
+    /// By the number of a port of the second class, the indices of those that reach it.
+    pub lists: Vec<Vec<u32>>,
+}
+
+impl Ends {
+    // Adds the ports of one block.
+    fn add(
+        &mut self,
+        ports: u32,
+        block: u32,
+        seat: Seat,
+        class: PortClass,
+    ) -> Result<(), AllocError>
+        requires { IsInside ports seat }
+        ensures numbers { OnOk result (self.new.numbers.items ≡ self.old.numbers.items ++ seat_numbers class seat) }
+        ensures feeds { OnOk result (self.new.feeds.items ≡ self.old.feeds.items ++ seat_ends class block seat) }
+    {
+        let first = seat.first_of(class);
+        for k in 0..seat.count(class) {
+            self.numbers.push((first + u64::from(k)) as u32)?;
+            self.feeds.push(Feed { block, port: k + 1 })?;
+        }
+        Ok(())
+    }
+
+    /// The ports of a class.
+    pub(crate) fn of(
+        alloc: Global,
+        ports: u32,
+        seats: &[Seat],
+        class: PortClass,
+    ) -> Result<Ends, AllocError>
+        requires inside { All (IsInside ports) seats.now }
+        requires few { length seats.now ≤ 2048 }
+        ensures numbers { IfOk result (λ r. r.numbers.items ≡ numbers_of class seats.now) }
+        ensures feeds { IfOk result (λ r. r.feeds.items ≡ ends_of class 1 seats.now) }
+    {
+        let mut ends = Ends {
+            numbers: Vec::new(alloc),
+            feeds: Vec::new(alloc),
+        };
+        let mut block = 0;
+        for seat in seats {
+            block += 1;
+            ends.add(ports, block, *seat, class)?;
+        }
+        Ok(ends)
+    }
+}
+
+/// One mark for each port, set where its number is among these.
+fn marked(alloc: Global, ports: u32, numbers: &[u32]) -> Result<Vec<bool>, AllocError>
+    requires { All (λ n. n < ports) numbers.now }
+    ensures long { IfOk result (λ v. length v.items ≡ ports) }
+    ensures marks { IfOk result (λ v. (q : ℕ) → Contains numbers.now q → IsWanted v.items q) }
+{
+    let mut marks = vec![in alloc; false; ports as usize]?;
+    for number in numbers {
+        marks[*number as usize] = true;
+    }
+    Ok(marks)
+}
+
+/// Which ports of the class `from` reach those of the class `to`.
+pub(crate) fn feeding_of(
+    alloc: Global,
+    ports: u32,
+    steps: &[(u32, u32)],
+    seats: &[Seat],
+    from: PortClass,
+    to: PortClass,
+) -> Result<Feeding, NoRoom>
+    requires within { AllWithin ports steps.now }
+    requires inside { All (IsInside ports) seats.now }
+    requires few { length seats.now ≤ 2048 }
+    ensures { IfOk result (λ r. AreFeeding seats.now steps.now ports from to r.feeds.items (lists_of r.lists)) }
+{
+    let sources = Ends::of(alloc, ports, seats, from)?;
+    let targets = Ends::of(alloc, ports, seats, to)?;
+    let wanted = marked(alloc, ports, &targets.numbers)?;
+    if sources.numbers.len() >= 4294967296 {
+        return Err(NoRoom);
+    }
+    let lists = reached(alloc, steps, &sources.numbers, &wanted)?;
+    let Ends { numbers: _, feeds } = sources;
+    Ok(Feeding { feeds, lists })
+}

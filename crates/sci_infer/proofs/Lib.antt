@@ -1,0 +1,10 @@
+pub mod Places
+pub mod Typings
+pub mod Alone
+pub mod Wires
+pub mod Numbers
+pub mod Few
+pub mod Declared
+pub mod Sums
+pub mod Filled
+pub mod TypedNet

@@ -1,0 +1,16 @@
+use Rattle.std.proofs.Common.{ap, arith}
+use Rattle.sci_net.specs.Parts.{Parts}
+use Rattle.sci_net.proofs.ReadRows.{wire_row_length, wire_read}
+use Rattle.sci_net.proofs.draft.Draft.wire.Goals as goal
+
+pub index-requires-2 : goal.index-requires-2
+index-requires-2 c =
+    let l = wire_row_length c.self.inside.wires.items c.args.self.now (ap (λ (n : Parts). n.wires) c.self.view_is) c.requires.each
+    c.args.block c.index.result.now c.requires.block_least c.requires.block_most c.index.ensures in
+    omega (arith, c.requires.port_most, c.requires.port_least, l, c.index.result.now.ok.0)
+
+pub returns : goal.returns
+returns c =
+    wire_read c.self.inside.wires.items c.args.self.now (ap (λ (n : Parts). n.wires) c.self.view_is) c.requires.each
+    c.args.block c.args.port c.index.result.now c.index-2.result.now c.requires.block_least c.requires.block_most c.requires.port_least c.requires.port_most
+    c.index.ensures c.index-2.ensures

@@ -1,0 +1,9 @@
+use Rattle.std.proofs.Common.{◌≡◌, List, All, true, subst, sym}
+use Rattle.sci_forms.specs.declared.spec.Spec.{Spec}
+use Rattle.sci_forms.specs.Typed.{typed}
+use Rattle.sci_net.proofs.TypedSpecs.{all_typed}
+use Rattle.sci_net.proofs.net.columns.Goals as goal
+
+pub spec_columns-requires-clause-typed_specs : goal.spec_columns-requires-clause-typed_specs
+spec_columns-requires-clause-typed_specs c =
+    subst (λ (ss : List Spec). All (λ (s : Spec). typed s ≡ true) ss) (sym c.as_slice.ensures.value) (all_typed _ c.net.invariant.well_formed)

@@ -1,0 +1,6 @@
+pub mod Stopping
+pub mod Keeping
+mod Tallying
+mod Walks
+mod Feeding
+pub mod Lawful

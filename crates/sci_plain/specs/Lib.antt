@@ -1,4 +1,0 @@
-pub mod Objects
-pub mod TimerForm
-pub mod Parts
-pub mod Reading

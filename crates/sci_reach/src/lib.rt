@@ -1,0 +1,11 @@
+//! Which ports a port leads to, over ports that are numbered from 0 and joined by steps: each port that is asked for gets the sources that
+//! reach it.
+#![tactic(auto)]
+
+mod forward;
+mod lists;
+mod search;
+#[cfg(test)]
+mod tests;
+
+pub use forward::reached;

@@ -1,0 +1,103 @@
+// The search from one source after another: each port that a source reaches, and that is wanted, gets the source at the end of its list.
+ghost use Rattle.std.specs.Prelude.{◌≡◌, ◌≢◌, ℕ, ◌+◌, ◌<◌, ◌≤◌, ◌^◌, All, [], IfOk, OnOk, length, replicate, slice_index};
+ghost use Rattle.sci_reach.specs.Lists.{lists_of, list_at, plain};
+ghost use Rattle.sci_reach.specs.Search.{IsStamped, Enters, Visits, Walks, IsReady};
+
+use crate::lists::{empty_lists, push_at};
+use std::alloc::{AllocError, Global};
+
+/// What the search has come to.
+#[derive(Drop)]
+pub struct Search {
+    /// By port, the number of the last source that reached it, counted from 1; 0 where there is none.
+    pub stamps: Vec<u32>,
+    /// By port, the sources that reached it, where it is wanted.
+    pub lists: Vec<Vec<u32>>,
+    /// Ports that the present source reached, and from which the search has still to go on.
+    pub pending: Vec<u32>,
+}
+
+impl Search {
+    /// A search over so many ports before its first source.
+    pub(crate) fn new(alloc: Global, ports: usize) -> Result<Search, AllocError>
+        ensures stamps { IfOk result (λ s. s.stamps.items ≡ replicate ports 0) }
+        ensures lists { IfOk result (λ s. lists_of s.lists ≡ replicate ports []) }
+        ensures ready { IfOk result (λ s. IsReady s ports 0) }
+    {
+        let stamps = vec![in alloc; 0; ports]?;
+        let lists = empty_lists(alloc, ports)?;
+        let pending = Vec::new(alloc);
+        Ok(Search {
+            stamps,
+            lists,
+            pending,
+        })
+    }
+
+    // A port that the source has not reached before.
+    fn enter(&mut self, wanted: &[bool], source: u32, port: u32) -> Result<(), AllocError>
+        requires port { port < length self.old.stamps.items }
+        requires lists { length self.old.lists.items ≡ length self.old.stamps.items }
+        requires wanted { length wanted.now ≡ length self.old.stamps.items }
+        requires few { source + 1 < 2 ^ 32 }
+        ensures { OnOk result (Enters wanted.now source port self.old self.new) }
+    {
+        self.stamps[port as usize] = source + 1;
+        if wanted[port as usize] {
+            push_at(&mut self.lists, port as usize, source)?;
+        }
+        self.pending.push(port)?;
+        Ok(())
+    }
+
+    // A port to which a step leads from one that the source has reached.
+    fn visit(&mut self, wanted: &[bool], source: u32, port: u32) -> Result<(), AllocError>
+        requires port { port < length self.old.stamps.items }
+        requires lists { length self.old.lists.items ≡ length self.old.stamps.items }
+        requires wanted { length wanted.now ≡ length self.old.stamps.items }
+        requires few { source + 1 < 2 ^ 32 }
+        ensures again { OnOk result (IsStamped self.old.stamps.items (source + 1) port → self.new ≡ self.old) }
+        ensures first { OnOk result (slice_index self.old.stamps.items port ≢ source + 1 → Enters wanted.now source port self.old self.new) }
+    {
+        if self.stamps[port as usize] == source + 1 {
+            return Ok(());
+        }
+        self.enter(wanted, source, port)
+    }
+
+    // All the ports of a list.
+    fn visit_all(&mut self, wanted: &[bool], source: u32, ports: &[u32]) -> Result<(), AllocError>
+        requires ports { All (λ q. q < length self.old.stamps.items) ports.now }
+        requires lists { length self.old.lists.items ≡ length self.old.stamps.items }
+        requires wanted { length wanted.now ≡ length self.old.stamps.items }
+        requires few { source + 1 < 2 ^ 32 }
+        ensures { OnOk result (Visits wanted.now source ports.now self.old self.new) }
+    {
+        for port in ports {
+            self.visit(wanted, source, *port)?;
+        }
+        Ok(())
+    }
+
+    /// All that a source reaches which stands at the port `start`.
+    pub(crate) fn walk(
+        &mut self,
+        wanted: &[bool],
+        source: u32,
+        start: u32,
+        successors: &[Vec<u32>],
+    ) -> Result<(), AllocError>
+        requires ready { IsReady self.old (length wanted.now) source }
+        requires start { start < length wanted.now }
+        requires within { (p : ℕ) → All (λ q. q < length wanted.now) (list_at (plain successors.now) p) }
+        requires long { length successors.now ≡ length wanted.now }
+        requires few { source + 1 < 2 ^ 32 }
+        ensures { OnOk result (Walks (plain successors.now) wanted.now source start self.old self.new) }
+    {
+        self.visit(wanted, source, start)?;
+        while let Some(port) = self.pending.pop() {
+            self.visit_all(wanted, source, &successors[port as usize])?;
+        }
+        Ok(())
+    }
+}

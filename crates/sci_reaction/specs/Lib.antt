@@ -1,0 +1,11 @@
+pub mod Links
+pub mod Active
+pub mod Depends
+pub mod Memory
+pub mod Equations
+pub mod Result
+pub mod Next
+pub mod Schedule
+pub mod Pass
+pub mod Laws
+pub mod Worked

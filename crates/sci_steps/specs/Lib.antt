@@ -1,0 +1,4 @@
+pub mod Seat
+pub mod Ports
+pub mod Numbers
+pub mod Numbered

@@ -1,0 +1,80 @@
+-- A stop of one phase is the file's verdict.
+use Rattle.std.proofs.Common.{◌≡◌, refl, sym, subst, ℕ, List}
+use Rattle.std.specs.Prelude.{Result, Ok, Err, ◌≤◌, length}
+use Rattle.sci_base.specs.Plain.{Violation, violation_of}
+use Rattle.sci_diagram.specs.Objects.{Objects, diagram_view}
+use Rattle.sci_diagram.specs.declared.diagram.Diagram.{Diagram}
+use Rattle.sci_diagram.specs.declared.stop.ReadStop.{ReadStop}
+use Rattle.sci_diagram.specs.declared.stop.ReadStop.TheVariants.{Refused as ReadRefused, Memory as ReadMemory}
+use Rattle.sci_diagram.specs.Reading.{IsRead, Accepts as IsDiagram}
+use Rattle.sci_net.specs.Parts.{Parts}
+use Rattle.sci_flat.specs.declared.stop.FlatStop.{FlatStop}
+use Rattle.sci_flat.specs.declared.stop.FlatStop.TheVariants.{Refused as FlatRefused, Memory as FlatMemory}
+use Rattle.sci_flat.specs.Ready.{IsReady}
+use Rattle.sci_flat.specs.Answer.{IsFlattened}
+use Rattle.sci_infer.specs.declared.InferStop.{InferStop}
+use Rattle.sci_infer.specs.declared.InferStop.TheVariants.{Refused as InferRefused, Memory as InferMemory}
+use Rattle.sci_infer.specs.Answer.{IsAnswer, IsStop}
+use Rattle.sci_pending.specs.Timer.{EventDelay}
+use Rattle.sci_timers.specs.declared.TimersStop.{TimersStop}
+use Rattle.sci_timers.specs.declared.TimersStop.TheVariants.{Refused as TimersRefused, Memory as TimersMemory}
+use Rattle.sci_timers.specs.Built.{built, IsAnswer as IsBuilt}
+use Rattle.sci_verdict.specs.declared.stop.VerdictStop.{VerdictStop}
+use Rattle.sci_verdict.specs.declared.stop.VerdictStop.TheVariants.{Refused, Memory}
+use Rattle.sci_verdict.specs.Passing.{read_stop, flat_stop, infer_stop, timers_stop}
+use Rattle.sci_verdict.specs.Verdict.{GivesFlat, GivesNet, BreaksNet, unread, not_flat, not_typed, Accepts, Breaks, no_net, unbuilt, IsTyped, IsJudged}
+use Rattle.sci_flat.proofs.Reading.{accepted_ready}
+
+-- a diagram that was read
+pub was_read : (bytes : List ℕ) (d : Diagram) (r : Result Diagram ReadStop) → r ≡ Ok d → IsRead bytes r → IsDiagram bytes (diagram_view d)
+was_read bytes d r is h = subst (λ q. IsRead bytes q) is h
+
+pub fit_to_flatten : (bytes : List ℕ) (d : Diagram) (r : Result Diagram ReadStop) → length bytes ≤ 16777216 → r ≡ Ok d → IsRead bytes r → IsReady (diagram_view d)
+fit_to_flatten bytes d r short is h = accepted_ready bytes (diagram_view d) short (was_read bytes d r is h)
+
+read_stops : (bytes : List ℕ) (e : ReadStop) → IsRead bytes (Err e) → IsTyped bytes (Err (read_stop e))
+read_stops bytes (ReadRefused r) h = unread h
+read_stops bytes ReadMemory h = tt
+
+pub stopped_reading : (bytes : List ℕ) (e : ReadStop) (r : Result Diagram ReadStop) (s : Result Parts VerdictStop) → r ≡ Err e → s ≡ Err (read_stop e) → IsRead bytes r → IsTyped bytes s
+stopped_reading bytes e r s is was h = subst (λ q. IsTyped bytes q) (sym was) (read_stops bytes e (subst (λ q. IsRead bytes q) is h))
+
+flat_stops : (bytes : List ℕ) (t : Objects) (e : FlatStop) → IsDiagram bytes t → IsFlattened t (Err e) → IsTyped bytes (Err (flat_stop e))
+flat_stops bytes t (FlatRefused r) read h = not_flat t read h
+flat_stops bytes t FlatMemory read h = tt
+
+pub stopped_flattening : (bytes : List ℕ) (t : Objects) (e : FlatStop) (r : Result Parts FlatStop) (s : Result Parts VerdictStop) → r ≡ Err e → s ≡ Err (flat_stop e) → IsDiagram bytes t → IsFlattened t r → IsTyped bytes s
+stopped_flattening bytes t e r s is was read h = subst (λ q. IsTyped bytes q) (sym was) (flat_stops bytes t e read (subst (λ q. IsFlattened t q) is h))
+
+pub flattened : (bytes : List ℕ) (t : Objects) (n : Parts) (r : Result Parts FlatStop) → r ≡ Ok n → IsDiagram bytes t → IsFlattened t r → GivesFlat bytes n
+flattened bytes t n r is read h = record { tree = t; read = read; flat = subst (λ q. IsFlattened t q) is h }
+
+infer_stops : (bytes : List ℕ) (n : Parts) (e : InferStop) → GivesFlat bytes n → IsStop n e → IsTyped bytes (Err (infer_stop e))
+infer_stops bytes n (InferRefused r) given h = not_typed n given h
+infer_stops bytes n InferMemory given h = tt
+
+pub stopped_inferring : (bytes : List ℕ) (n : Parts) (e : InferStop) (s : Result Parts VerdictStop) → s ≡ Err (infer_stop e) → GivesFlat bytes n → IsStop n e → IsTyped bytes s
+stopped_inferring bytes n e s was given h = subst (λ q. IsTyped bytes q) (sym was) (infer_stops bytes n e given h)
+
+pub inferred : (bytes : List ℕ) (m n : Parts) → GivesFlat bytes m → IsAnswer m (Ok n) → GivesNet bytes n
+inferred bytes m n given h = record { declared = m; given = given; inferred = h }
+
+net_stops : (bytes : List ℕ) (e : VerdictStop) → IsTyped bytes (Err e) → IsJudged bytes (Err e)
+net_stops bytes (Refused r) h = no_net h
+net_stops bytes Memory h = tt
+
+pub stopped_before : (bytes : List ℕ) (e : VerdictStop) (r : Result Parts VerdictStop) (s : Result (List EventDelay) VerdictStop) → r ≡ Err e → s ≡ Err e → IsTyped bytes r → IsJudged bytes s
+stopped_before bytes e r s is was h = subst (λ q. IsJudged bytes q) (sym was) (net_stops bytes e (subst (λ q. IsTyped bytes q) is h))
+
+pub net_given : (bytes : List ℕ) (n : Parts) (r : Result Parts VerdictStop) → r ≡ Ok n → IsTyped bytes r → GivesNet bytes n
+net_given bytes n r is h = subst (λ q. IsTyped bytes q) is h
+
+timers_stops : (bytes : List ℕ) (n : Parts) (e : TimersStop) → GivesNet bytes n → IsBuilt (built n) (Err e) → IsJudged bytes (Err (timers_stop e))
+timers_stops bytes n (TimersRefused r) given h = unbuilt n given h
+timers_stops bytes n TimersMemory given h = tt
+
+pub stopped_building : (bytes : List ℕ) (n : Parts) (e : TimersStop) (r : Result (List EventDelay) TimersStop) (s : Result (List EventDelay) VerdictStop) → r ≡ Err e → s ≡ Err (timers_stop e) → GivesNet bytes n → IsBuilt (built n) r → IsJudged bytes s
+stopped_building bytes n e r s is was given h = subst (λ q. IsJudged bytes q) (sym was) (timers_stops bytes n e given (subst (λ q. IsBuilt (built n) q) is h))
+
+pub accepted : (bytes : List ℕ) (n : Parts) (ts : List EventDelay) (r : Result (List EventDelay) TimersStop) → r ≡ Ok ts → GivesNet bytes n → IsBuilt (built n) r → Accepts bytes ts
+accepted bytes n ts r is given h = record { net = n; given = given; built = subst (λ q. IsBuilt (built n) q) is h }

@@ -1,0 +1,53 @@
+-- The verdict on a diagram's file: its net, or the first rule that it breaks.
+use Rattle.std.specs.Prelude.{◌≡◌, ℕ, List, Result, Ok, Err}
+use Rattle.sci_base.specs.Plain.{Violation, violation_of}
+use Rattle.sci_diagram.specs.Objects.{Objects}
+use Rattle.sci_diagram.specs.Reading.{Accepts as IsDiagram, Breaks as IsNoDiagram}
+use Rattle.sci_net.specs.Parts.{Parts}
+use Rattle.sci_flat.specs.Flat.{IsFlatNet}
+use Rattle.sci_flat.specs.Refused.{Breaks as IsNotFlat}
+use Rattle.sci_infer.specs.Answer.{IsAnswer}
+use Rattle.sci_pending.specs.Timer.{EventDelay}
+use Rattle.sci_timers.specs.Built.{built}
+use Rattle.sci_verdict.specs.declared.stop.VerdictStop.{VerdictStop}
+use Rattle.sci_verdict.specs.declared.stop.VerdictStop.TheVariants.{Refused, Memory}
+
+-- the bytes are a diagram that gives this flat net
+pub record GivesFlat (bytes : List ℕ) (n : Parts) : Type 0 where
+  pub tree : Objects
+  pub read : IsDiagram bytes tree
+  pub flat : IsFlatNet tree n
+
+-- the bytes are a diagram that gives this typed net
+pub record GivesNet (bytes : List ℕ) (n : Parts) : Type 0 where
+  pub declared : Parts
+  pub given : GivesFlat bytes declared
+  pub inferred : IsAnswer declared (Ok n)
+
+-- the first rule that the bytes break on their way to a typed net
+pub data BreaksNet (bytes : List ℕ) (v : Violation) : Type 0 where
+  unread : IsNoDiagram bytes v → BreaksNet bytes v
+  not_flat : (t : Objects) → IsDiagram bytes t → IsNotFlat t v → BreaksNet bytes v
+  not_typed : (n : Parts) → GivesFlat bytes n → IsAnswer n (Err v) → BreaksNet bytes v
+
+-- the bytes are a diagram of these timers
+pub record Accepts (bytes : List ℕ) (timers : List EventDelay) : Type 0 where
+  pub net : Parts
+  pub given : GivesNet bytes net
+  pub built : built net ≡ Ok timers
+
+-- the first rule that the bytes break
+pub data Breaks (bytes : List ℕ) (v : Violation) : Type 0 where
+  no_net : BreaksNet bytes v → Breaks bytes v
+  unbuilt : (n : Parts) → GivesNet bytes n → built n ≡ Err v → Breaks bytes v
+
+-- what an answer says; want of memory may come at any time
+abbrev pub IsTyped : List ℕ → Result Parts VerdictStop → Type 0
+IsTyped bytes (Ok n) = GivesNet bytes n
+IsTyped bytes (Err (Refused r)) = BreaksNet bytes (violation_of r)
+IsTyped bytes (Err Memory) = Unit {0}
+
+abbrev pub IsJudged : List ℕ → Result (List EventDelay) VerdictStop → Type 0
+IsJudged bytes (Ok timers) = Accepts bytes timers
+IsJudged bytes (Err (Refused r)) = Breaks bytes (violation_of r)
+IsJudged bytes (Err Memory) = Unit {0}

@@ -1,0 +1,35 @@
+// A file's verdict, phase by phase.
+ghost use Rattle.std.specs.Prelude.{◌≤◌, length};
+ghost use Rattle.sci_verdict.specs.Verdict.{IsTyped, IsJudged};
+
+use crate::stop::VerdictStop;
+use sci_diagram::read;
+use sci_flat::flatten;
+use sci_infer::infer;
+use sci_net::Net;
+use sci_pending::TimerNet;
+use sci_timers::timer_net as timers_of;
+use std::alloc::Global;
+
+/// The typed net of a diagram's file, or the first rule that it breaks: of the file's form (1 to 6), of blocks and links (14, 7,
+/// 9, 10, 11, 8; 12, 13), of what feeds each input (15, 16), of types and sizes (17 to 23).
+pub fn typed_net(alloc: Global, bytes: &[u8]) -> Result<Net, VerdictStop>
+    requires { length bytes.now ≤ 16777216 }
+    ensures { IsTyped bytes.now result }
+{
+    let diagram = read(alloc, bytes)?;
+    let flat = flatten(alloc, &diagram)?;
+    let net = infer(alloc, &flat)?;
+    Ok(net)
+}
+
+/// The net of timers of a diagram's file, or the first rule that it breaks: one of those of `typed_net`, or else rule 30, at the
+/// first block that is no delayed event, or without a place where the timers have too many feeding events.
+pub fn timer_net(alloc: Global, bytes: &[u8]) -> Result<TimerNet, VerdictStop>
+    requires { length bytes.now ≤ 16777216 }
+    ensures { IsJudged bytes.now result }
+{
+    let net = typed_net(alloc, bytes)?;
+    let timers = timers_of(alloc, &net)?;
+    Ok(timers)
+}
