@@ -2,10 +2,11 @@
 use Rattle.std.proofs.Common.{◌≡◌, ℕ, zero, suc, ◌<◌, List, [], ◌∷◌, length, get_or, map, Some, refl, sym, ap, ◌∙◌, arith, ℤ}
 use Rattle.std.specs.Prelude.{slice_get, slice_set}
 use Rattle.c_ast.specs.Syntax.{Exp, Place}
-use Rattle.c_mean.specs.declared.machine.Variable.{Variable}
+use Rattle.c_mean.specs.declared.memory.Memory.{Memory}
 use Rattle.c_mean.specs.declared.machine.Column.{Column}
 use Rattle.c_mean.specs.Meaning.{World, evaluate, assign, column_place, received}
-use Rattle.c_mean.specs.Running.{slots, left_of, world}
+use Rattle.c_mean.specs.Running.{left_of, world}
+use Rattle.c_mean.specs.Layout.{slots}
 
 got : (cs : List Column) (i : ℕ) (c : Column) → i < length cs → slice_get (map left_of cs) i ≡ Some (left_of (get_or cs i c))
 got [] i c h = absurd (omega arith)
@@ -17,7 +18,7 @@ left_set [] i c = refl
 left_set (d ∷ cs) zero c = refl
 left_set (d ∷ cs) (suc i) c = ap (λ (l : List (List ℤ)). left_of d ∷ l) (left_set cs i c)
 
-pub received_is : (p : Place) (e : Exp) (vs vs' : List Variable) (cs : List Column) (k : ℤ) (i : ℕ) (v : ℤ) (rest c new : Column) → evaluate e (slots vs) ≡ Some k → column_place k ≡ Some i → i < length cs
+pub received_is : (p : Place) (e : Exp) (vs vs' : Memory) (cs : List Column) (k : ℤ) (i : ℕ) (v : ℤ) (rest c new : Column) → evaluate e (slots vs) ≡ Some k → column_place k ≡ Some i → i < length cs
     → left_of (get_or cs i c) ≡ v ∷ left_of rest → assign p v (slots vs) ≡ Some (slots vs') → new ≡ rest → Some (world vs' (slice_set cs i new)) ≡ received p e (world vs cs)
 received_is p e vs vs' cs k i v rest c new ev pl h first given same =
     let there : slice_get (map left_of cs) i ≡ Some (v ∷ left_of rest) = got cs i c h ∙ ap Some first in

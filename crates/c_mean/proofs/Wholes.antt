@@ -7,12 +7,13 @@ use Rattle.c_ast.specs.declared.Stmt.{Stmt}
 use Rattle.c_ast.specs.View.{declared_of, function_of, statements_of, whole_of}
 use Rattle.c_mean.specs.declared.machine.Flow.{Flow}
 use Rattle.c_mean.specs.declared.machine.Flow.TheVariants as flows
-use Rattle.c_mean.specs.declared.machine.Variable.{Variable}
+use Rattle.c_mean.specs.declared.memory.Memory.{Memory}
 use Rattle.c_mean.specs.declared.machine.Column.{Column}
 use Rattle.c_mean.specs.declared.machine.Routine.{Routine}
 use Rattle.c_mean.specs.declared.machine.Limits.{Limits}
 use Rattle.c_mean.specs.Meaning.{Slot, World, Ran, Numbered, run_block, around, calls_of, numbered, behind_functions, first_slot, meaning}
-use Rattle.c_mean.specs.Running.{Runs, numbered_of, slots, left_of, world, surroundings}
+use Rattle.c_mean.specs.Running.{Runs, numbered_of, left_of, world, surroundings}
+use Rattle.c_mean.specs.Layout.{slots}
 use Rattle.c_mean.specs.Answering.{Answers, answer_of, end_of}
 
 pub answers : {old new : SinkState} (r : Result Flow Failed) (w : World) (ran : Ran) → Runs old new r w ran → Answers old new (answer_of r) ran
@@ -22,7 +23,7 @@ answers (Ok flows.Over) w ran h = record { by = (h.by.0, sym (ap end_of h.by.1))
 answers (Ok flows.Halted) w ran h = record { by = (h.by.0, sym (ap end_of h.by.1)) }
 answers (Err e) w ran h = record { by = h.by }
 
-pub run_is : (p : Program) (columns : List (List ℤ)) (u l : ℤ) (limits : Limits) (gs : List Routine) (n : ℕ) (list : List Stmt) (vs : List Variable) (cs : List Column) → limits.until ≡ u → limits.limit ≡ l
+pub run_is : (p : Program) (columns : List (List ℤ)) (u l : ℤ) (limits : Limits) (gs : List Routine) (n : ℕ) (list : List Stmt) (vs : Memory) (cs : List Column) → limits.until ≡ u → limits.limit ≡ l
     → map numbered_of gs ≡ numbered 1 (map function_of p.funcs.items) []
     → n ≡ behind_functions 1 (map function_of p.funcs.items) → list ≡ p.main.items → slots vs ≡ map first_slot (map declared_of p.decls.items) → map left_of cs ≡ columns
     → run_block (surroundings gs limits) n (statements_of list) (world vs cs) ≡ meaning (whole_of p) columns u l

@@ -1,7 +1,5 @@
 -- What the run of a whole program answers.
-use Rattle.std.specs.Prelude.{◌≡◌, ℤ, List, map, Result, Ok, Err}
-use Rattle.std.specs.declared.vec.Vec.{Vec}
-use Rattle.std.specs.declared.alloc.Global.{Global}
+use Rattle.std.specs.Prelude.{◌≡◌, Result, Ok, Err}
 use Rattle.sci_io.specs.declared.sink.Failed.{Failed}
 use Rattle.sci_io.specs.Taken.{SinkState, Writes}
 use Rattle.sci_trace.specs.Lines.{text}
@@ -36,7 +34,3 @@ answer_of (Ok (flows.Undefined n)) = Ok (ends.Undefined n)
 answer_of (Ok flows.Over) = Ok ends.End
 answer_of (Ok flows.Halted) = Ok ends.Stop
 answer_of (Err e) = Err causes.Failed
-
--- the values of input columns
-abbrev pub values_of : List (Vec ℤ Global) → List (List ℤ)
-values_of columns = map (λ (c : Vec ℤ Global). c.items) columns

@@ -1,3 +1,6 @@
 pub mod Meaning
+pub mod Spans
+pub mod Layout
+pub mod Calls
 pub mod Running
 pub mod Answering

@@ -1,30 +1,30 @@
 -- What a run in memory stands for.
-use Rattle.std.specs.Prelude.{◌≡◌, ℤ, List, map, Result, Ok, Err}
+use Rattle.std.specs.Prelude.{◌≡◌, ℕ, ℤ, List, map, drop, Result, Ok, Err}
 use Rattle.sci_io.specs.Taken.{SinkState, Writes}
 use Rattle.sci_trace.specs.Lines.{text}
 use Rattle.c_ast.specs.View.{statements_of}
-use Rattle.c_mean.specs.declared.machine.Variable.{Variable}
+use Rattle.c_mean.specs.declared.functions.Functions.{Functions}
+use Rattle.c_mean.specs.declared.memory.Memory.{Memory}
 use Rattle.c_mean.specs.declared.machine.Column.{Column}
 use Rattle.c_mean.specs.declared.machine.Routine.{Routine}
 use Rattle.c_mean.specs.declared.machine.Limits.{Limits}
 use Rattle.c_mean.specs.declared.machine.Flow.{Flow}
 use Rattle.c_mean.specs.declared.machine.Flow.TheVariants as flows
-use Rattle.c_mean.specs.Meaning.{Slot, World, How, going, undefined, over, halted, Ran, Numbered, Around, around, calls_of}
-
-abbrev pub slot_of : Variable → Slot
-slot_of v = record { name = v.name; cells = v.cells.items }
-
-abbrev pub slots : List Variable → List Slot
-slots vs = map slot_of vs
+use Rattle.c_mean.specs.Layout.{slots}
+use Rattle.c_mean.specs.Meaning.{World, How, going, undefined, over, halted, Ran, Numbered, Around, around, calls_of}
 
 abbrev pub left_of : Column → List ℤ
 left_of c = c.left.now
 
-abbrev pub world : List Variable → List Column → World
-world vs cs = record { slots = slots vs; left = map left_of cs }
+abbrev pub world : Memory → List Column → World
+world m cs = record { slots = slots m; left = map left_of cs }
 
 abbrev pub numbered_of : Routine → Numbered
 numbered_of g = record { name = g.name; first = g.first; body = statements_of g.body.now }
+
+-- the functions from this place on
+abbrev pub earlier : Functions → ℕ → List Routine
+earlier functions n = drop n functions.routines.items
 
 -- the latest comes first
 abbrev pub surroundings : List Routine → Limits → Around

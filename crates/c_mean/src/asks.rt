@@ -3,10 +3,12 @@
 ghost use Rattle.std.specs.Prelude.{◌≡◌, Some, None, map, if◌then◌else◌};
 ghost use Rattle.c_ast.specs.View.{exp_of, place_of, asked_of};
 ghost use Rattle.c_mean.specs.Meaning.{assign, has_left, column, column_place, told_more, received, asked, quietly};
-ghost use Rattle.c_mean.specs.Running.{slots, left_of, world, how_of};
+ghost use Rattle.c_mean.specs.Running.{left_of, world, how_of};
+ghost use Rattle.c_mean.specs.Layout.{slots};
 
 use crate::effects::give;
-use crate::machine::{Column, Flow, Limits, Variable};
+use crate::machine::{Column, Flow, Limits};
+use crate::memory::Memory;
 use crate::values::eval;
 use c_ast::{Ask, Expr, Target};
 
@@ -29,7 +31,7 @@ fn has_value(columns: &[Column<'_>], k: i64) -> bool
     false
 }
 
-fn more(memory: &mut [Variable], columns: &[Column<'_>], target: &Target, e: &Expr) -> bool
+fn more(memory: &mut Memory<'_>, columns: &[Column<'_>], target: &Target, e: &Expr) -> bool
     ensures { (if result then Some (slots memory.new) else None) ≡ told_more (place_of target.now) (exp_of e.now) (world memory.old columns.now) }
 {
     let Some(k) = eval(memory, e) else {
@@ -39,7 +41,7 @@ fn more(memory: &mut [Variable], columns: &[Column<'_>], target: &Target, e: &Ex
     give(memory, target, answer)
 }
 
-fn receive(memory: &mut [Variable], columns: &mut [Column<'_>], target: &Target, e: &Expr) -> bool
+fn receive(memory: &mut Memory<'_>, columns: &mut [Column<'_>], target: &Target, e: &Expr) -> bool
     ensures { (if result then Some (world memory.new columns.new) else None) ≡ received (place_of target.now) (exp_of e.now) (world memory.old columns.old) }
 {
     let Some(k) = eval(memory, e) else {
@@ -64,7 +66,7 @@ fn receive(memory: &mut [Variable], columns: &mut [Column<'_>], target: &Target,
 
 /// Asks, in the statement of this number.
 pub fn ask(
-    memory: &mut [Variable],
+    memory: &mut Memory<'_>,
     columns: &mut [Column<'_>],
     limits: Limits,
     number: u64,

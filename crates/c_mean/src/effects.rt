@@ -3,15 +3,16 @@
 ghost use Rattle.std.specs.Prelude.{◌≡◌, Some, None, if◌then◌else◌};
 ghost use Rattle.c_ast.specs.View.{exp_of, place_of, told_of};
 ghost use Rattle.c_mean.specs.Meaning.{assign, set_to, counted, told, end_word, stop_word, bound_value, turn_count, is_zero};
-ghost use Rattle.c_mean.specs.Running.{slots};
+ghost use Rattle.c_mean.specs.Layout.{slots};
 
-use crate::machine::{Column, Flow, Variable};
+use crate::machine::{Column, Flow};
+use crate::memory::Memory;
 use crate::values::{eval, look, put};
 use c_ast::{Bound, Expr, Name, Target, Tell};
 use sci_base::{EndWord, Obs, StopWord};
 
 /// Gives the target this value: false where its index is none.
-pub fn give(memory: &mut [Variable], target: &Target, v: i64) -> bool
+pub fn give(memory: &mut Memory<'_>, target: &Target, v: i64) -> bool
     ensures { (if result then Some (slots memory.new) else None) ≡ assign (place_of target.now) v (slots memory.old) }
 {
     match target {
@@ -28,7 +29,7 @@ pub fn give(memory: &mut [Variable], target: &Target, v: i64) -> bool
     }
 }
 
-pub fn set(memory: &mut [Variable], target: &Target, e: &Expr) -> bool
+pub fn set(memory: &mut Memory<'_>, target: &Target, e: &Expr) -> bool
     ensures { (if result then Some (slots memory.new) else None) ≡ set_to (place_of target.now) (exp_of e.now) (slots memory.old) }
 {
     match eval(memory, e) {
@@ -38,7 +39,7 @@ pub fn set(memory: &mut [Variable], target: &Target, e: &Expr) -> bool
 }
 
 /// The counter's next value.
-pub fn up(memory: &mut [Variable], x: Name) -> bool
+pub fn up(memory: &mut Memory<'_>, x: Name) -> bool
     ensures { (if result then Some (slots memory.new) else None) ≡ counted x (slots memory.old) }
 {
     let Some(v) = look(memory, x, 0) else {
@@ -50,7 +51,7 @@ pub fn up(memory: &mut [Variable], x: Name) -> bool
     }
 }
 
-pub fn bound(memory: &[Variable], bound: &Bound) -> Option<i64>
+pub fn bound(memory: &Memory<'_>, bound: &Bound) -> Option<i64>
     ensures { result ≡ bound_value bound.now (slots memory.now) }
 {
     match bound {
@@ -84,7 +85,7 @@ fn stop_of(n: i64) -> Option<StopWord>
 }
 
 /// What is observed, where all its numbers are defined.
-pub fn observation(memory: &[Variable], tell: &Tell) -> Option<Obs>
+pub fn observation(memory: &Memory<'_>, tell: &Tell) -> Option<Obs>
     ensures { result ≡ told (told_of tell.now) (slots memory.now) }
 {
     match tell {

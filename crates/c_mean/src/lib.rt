@@ -3,7 +3,9 @@
 
 mod asks;
 mod effects;
+mod functions;
 mod machine;
+mod memory;
 mod start;
 mod steps;
 mod values;
@@ -14,6 +16,7 @@ pub use start::{CEnd, RunStop, run};
 mod tests {
     use super::*;
     use c_ast::{Decl, Expr, Name, Op, Program, Stmt, Target, Tell};
+    use sci_inputs::Inputs;
     use sci_io::MemSink;
     use std::alloc::{AllocError, Global};
     use std::test::Fail;
@@ -22,6 +25,10 @@ mod tests {
         let left = Box::new(alloc, a).map_err(AllocError::from)?;
         let right = Box::new(alloc, b).map_err(AllocError::from)?;
         Ok(Expr::Bin(op, left, right))
+    }
+
+    fn none(alloc: Global) -> Inputs {
+        Inputs::of(Vec::new(alloc))
     }
 
     // sci_start(); sci_val(1, 1, 1, 7 / 2); sci_end(2);
@@ -60,7 +67,7 @@ mod tests {
     fn a_quotient_is_cut_toward_zero(rt: HostRuntime) -> Result<(), Fail> {
         let alloc = rt.alloc();
         let mut out = MemSink::new(alloc, Vec::new(alloc), 100)?;
-        let end = run(alloc, &quotient(alloc)?, &[], 10, 10, &mut out);
+        let end = run(alloc, &quotient(alloc)?, &none(alloc), 10, 10, &mut out);
         assert_eq!(rt; end, Ok(CEnd::End));
         assert_eq!(rt; out.taken(), "start\nval 1 1 1 3\nend empty\n".as_bytes());
         Ok(())
@@ -70,7 +77,7 @@ mod tests {
     fn a_sum_past_the_last_number_is_undefined(rt: HostRuntime) -> Result<(), Fail> {
         let alloc = rt.alloc();
         let mut out = MemSink::new(alloc, Vec::new(alloc), 100)?;
-        let end = run(alloc, &overflow(alloc)?, &[], 10, 10, &mut out);
+        let end = run(alloc, &overflow(alloc)?, &none(alloc), 10, 10, &mut out);
         assert_eq!(rt; end, Ok(CEnd::Undefined(2)));
         assert_eq!(rt; out.taken(), "".as_bytes());
         Ok(())

@@ -2,11 +2,11 @@
 
 use c_ast::{Name, Stmt};
 
-/// A declared name with its elements; a scalar has one.
-#[derive(Drop)]
-pub struct Variable {
-    pub name: Name,
-    pub cells: Vec<i64>,
+/// The elements of a variable among those of all: the first, and how many; a scalar has one.
+#[derive(Clone, Copy)]
+pub struct Span {
+    pub first: usize,
+    pub size: usize,
 }
 
 /// What is left of an input column.

@@ -3,15 +3,22 @@
 ghost use Rattle.std.specs.Prelude.{◌≡◌, ◌<◌, ◌^◌, pos, [], map, IfOk};
 ghost use Rattle.c_ast.specs.View.{declared_of, function_of, whole_of};
 ghost use Rattle.c_mean.specs.Meaning.{first_slot, numbered, behind_functions, meaning};
-ghost use Rattle.c_mean.specs.Running.{slot_of, slots, left_of, numbered_of};
-ghost use Rattle.c_mean.specs.Answering.{Answers, answer_of, values_of};
+ghost use Rattle.c_mean.specs.Running.{left_of, numbered_of};
+ghost use Rattle.c_mean.specs.Layout.{slots};
+ghost use Rattle.c_mean.specs.Spans.{elements_of};
+ghost use Rattle.sci_inputs.specs.Columns.{columns_view};
+ghost use Rattle.c_mean.specs.Answering.{Answers, answer_of};
 ghost use Rattle.c_mean.specs.declared.start.RunStop.TheVariants.{Memory};
 
-use crate::machine::{Column, Flow, Limits, Routine, Variable};
+use crate::functions::indexed;
+use crate::machine::{Column, Flow, Limits, Routine, Span};
+use crate::memory::{Memory, enter};
 use crate::steps::{block, count_all};
 use c_ast::{Decl, Func, Program};
+use sci_inputs::Inputs;
 use sci_io::{Failed, Sink};
 use std::alloc::{AllocError, Global};
+use std::collections::HashMap;
 
 /// How a run ended.
 #[derive(Clone, Copy, Debug, PartialEq, Eq)]
@@ -41,31 +48,36 @@ impl From<AllocError> for RunStop {
     }
 }
 
-fn variable(alloc: Global, decl: &Decl) -> Result<Variable, AllocError>
-    ensures { IfOk result (λ v. slot_of v ≡ first_slot (declared_of decl.now)) }
+fn elements(decl: &Decl) -> usize
+    ensures value { result ≡ elements_of (declared_of decl.now) }
+    ensures few { result < 2 ^ 32 }
 {
-    let size = match decl.size {
+    match decl.size {
         None => 1,
         Some(size) => size as usize,
-    };
-    Ok(Variable {
-        name: decl.name,
-        cells: vec![in alloc; 0; size]?,
+    }
+}
+
+fn memory_of<'a>(alloc: Global, decls: &'a [Decl]) -> Result<Memory<'a>, AllocError>
+    ensures { IfOk result (λ m. slots m ≡ map first_slot (map declared_of decls.now)) }
+{
+    let mut spans = HashMap::new(alloc);
+    let mut cells = Vec::new(alloc);
+    for decl in decls {
+        let first = cells.len();
+        let size = elements(decl);
+        enter(&mut spans, decl.name, Span { first, size })?;
+        cells.resize(first + size, 0)?;
+    }
+    Ok(Memory {
+        decls,
+        spans,
+        cells,
     })
 }
 
-fn variables(alloc: Global, decls: &[Decl]) -> Result<Vec<Variable>, AllocError>
-    ensures { IfOk result (λ v. slots v.items ≡ map first_slot (map declared_of decls.now)) }
-{
-    let mut list = Vec::new(alloc);
-    for decl in decls {
-        list.push(variable(alloc, decl)?)?;
-    }
-    Ok(list)
-}
-
 fn columns_of<'a>(alloc: Global, columns: &'a [Vec<i64>]) -> Result<Vec<Column<'a>>, AllocError>
-    ensures { IfOk result (λ v. map left_of v.items ≡ values_of columns.now) }
+    ensures { IfOk result (λ v. map left_of v.items ≡ columns_view columns.now) }
 {
     let mut list = Vec::new(alloc);
     for column in columns {
@@ -135,25 +147,26 @@ fn answer(left: Result<Flow, Failed>) -> Result<CEnd, RunStop>
 pub fn run<S: Sink>(
     alloc: Global,
     p: &Program,
-    columns: &[Vec<i64>],
+    ins: &Inputs,
     until: u64,
     limit: u64,
     out: &mut S,
 ) -> Result<CEnd, RunStop>
     requires until_fits { until < 2 ^ 63 }
     requires limit_fits { limit < 2 ^ 63 }
-    ensures { Answers (S.state out.old) (S.state out.new) result (meaning (whole_of p.now) (values_of columns.now) (pos until) (pos limit)) }
+    ensures { Answers (S.state out.old) (S.state out.new) result (meaning (whole_of p.now) ins.now (pos until) (pos limit)) }
 {
-    let mut memory = variables(alloc, &p.decls)?;
-    let mut left = columns_of(alloc, columns)?;
-    let routines = routines_of(alloc, &p.funcs)?;
+    let mut memory = memory_of(alloc, &p.decls)?;
+    let mut left = columns_of(alloc, ins.columns())?;
+    let functions = indexed(alloc, routines_of(alloc, &p.funcs)?)?;
     let limits = limits_of(until, limit);
     let number = number_behind(&p.funcs);
     answer(block(
         &mut memory,
         &mut left,
         limits,
-        &routines,
+        &functions,
+        0,
         number,
         &p.main,
         out,

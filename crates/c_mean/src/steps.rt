@@ -3,11 +3,14 @@
 ghost use Rattle.std.specs.Prelude.{◌≡◌, ℤ, List, Bool};
 ghost use Rattle.c_ast.specs.View.{statement_of, statements_of, told_of};
 ghost use Rattle.c_mean.specs.Meaning.{World, run_statement, run_block, statement_count, block_count, turns, one_turn, calling, telling, how_after};
-ghost use Rattle.c_mean.specs.Running.{slots, world, surroundings, how_of, Runs};
+ghost use Rattle.c_mean.specs.Running.{world, earlier, surroundings, how_of, Runs};
+ghost use Rattle.c_mean.specs.Layout.{slots};
 
 use crate::asks::ask;
 use crate::effects::{bound, observation, set, turns_of, up, zero};
-use crate::machine::{Column, Flow, Limits, Routine, Variable};
+use crate::functions::{Functions, find};
+use crate::machine::{Column, Flow, Limits};
+use crate::memory::Memory;
 use crate::values::{eval, put};
 use c_ast::{Name, Stmt, Tell};
 use sci_base::Obs;
@@ -72,7 +75,7 @@ fn flow_after(o: Obs) -> Flow
 }
 
 /// An observation, in the statement of this number.
-fn tell<S: Sink>(memory: &[Variable], number: u64, t: &Tell, out: &mut S) -> Result<Flow, Failed>
+fn tell<S: Sink>(memory: &Memory<'_>, number: u64, t: &Tell, out: &mut S) -> Result<Flow, Failed>
     ensures { (left : List (List ℤ)) → Runs (S.state out.old) (S.state out.new) result (record { slots = slots memory.now; left = left }) (telling number (told_of t.now) (record { slots = slots memory.now; left = left })) }
 {
     let Some(o) = observation(memory, t) else {
@@ -82,18 +85,19 @@ fn tell<S: Sink>(memory: &[Variable], number: u64, t: &Tell, out: &mut S) -> Res
     Ok(flow_after(o))
 }
 
-/// A statement, whose number this is.
+/// A statement, whose number this is. It may call the functions from this place on.
 #[cycle(run)]
 pub fn statement<S: Sink>(
-    memory: &mut [Variable],
+    memory: &mut Memory<'_>,
     columns: &mut [Column<'_>],
     limits: Limits,
-    earlier: &[Routine<'_>],
+    functions: &Functions<'_>,
+    from: usize,
     number: u64,
     s: &Stmt,
     out: &mut S,
 ) -> Result<Flow, Failed>
-    ensures { Runs (S.state out.old) (S.state out.new) result (world memory.new columns.new) (run_statement (surroundings earlier.now limits) number (statement_of s.now) (world memory.old columns.old)) }
+    ensures { Runs (S.state out.old) (S.state out.new) result (world memory.new columns.new) (run_statement (surroundings (earlier functions.now from) limits) number (statement_of s.now) (world memory.old columns.old)) }
 {
     match s {
         Stmt::Set(target, e) => Ok(defined(number, set(memory, target, e))),
@@ -108,13 +112,14 @@ pub fn statement<S: Sink>(
                     memory,
                     columns,
                     limits,
-                    earlier,
+                    functions,
+                    from,
                     first.saturating_add(count_all(yes)),
                     no,
                     out,
                 )
             } else {
-                block(memory, columns, limits, earlier, first, yes, out)
+                block(memory, columns, limits, functions, from, first, yes, out)
             }
         }
         Stmt::For(x, limit, body) => {
@@ -128,7 +133,8 @@ pub fn statement<S: Sink>(
                 memory,
                 columns,
                 limits,
-                earlier,
+                functions,
+                from,
                 number,
                 *x,
                 turns_of(end),
@@ -136,7 +142,7 @@ pub fn statement<S: Sink>(
                 out,
             )
         }
-        Stmt::Call(f) => call(memory, columns, limits, earlier, number, *f, out),
+        Stmt::Call(f) => call(memory, columns, limits, functions, from, number, *f, out),
         Stmt::Tell(t) => tell(memory, number, t, out),
     }
 }
@@ -144,19 +150,20 @@ pub fn statement<S: Sink>(
 /// Statements in a row, the first of which has this number.
 #[cycle(run)]
 pub fn block<S: Sink>(
-    memory: &mut [Variable],
+    memory: &mut Memory<'_>,
     columns: &mut [Column<'_>],
     limits: Limits,
-    earlier: &[Routine<'_>],
+    functions: &Functions<'_>,
+    from: usize,
     number: u64,
     list: &[Stmt],
     out: &mut S,
 ) -> Result<Flow, Failed>
-    ensures { Runs (S.state out.old) (S.state out.new) result (world memory.new columns.new) (run_block (surroundings earlier.now limits) number (statements_of list.now) (world memory.old columns.old)) }
+    ensures { Runs (S.state out.old) (S.state out.new) result (world memory.new columns.new) (run_block (surroundings (earlier functions.now from) limits) number (statements_of list.now) (world memory.old columns.old)) }
 {
     let mut here = number;
     for s in list {
-        let left = statement(memory, columns, limits, earlier, here, s, out);
+        let left = statement(memory, columns, limits, functions, from, here, s, out);
         if goes_on(left) {
             here = here.saturating_add(count(s));
         } else {
@@ -169,22 +176,24 @@ pub fn block<S: Sink>(
 /// The body once, and the counter's next value.
 #[cycle(run)]
 fn turn<S: Sink>(
-    memory: &mut [Variable],
+    memory: &mut Memory<'_>,
     columns: &mut [Column<'_>],
     limits: Limits,
-    earlier: &[Routine<'_>],
+    functions: &Functions<'_>,
+    from: usize,
     number: u64,
     x: Name,
     body: &[Stmt],
     out: &mut S,
 ) -> Result<Flow, Failed>
-    ensures { Runs (S.state out.old) (S.state out.new) result (world memory.new columns.new) (one_turn (surroundings earlier.now limits) number x (statements_of body.now) (world memory.old columns.old)) }
+    ensures { Runs (S.state out.old) (S.state out.new) result (world memory.new columns.new) (one_turn (surroundings (earlier functions.now from) limits) number x (statements_of body.now) (world memory.old columns.old)) }
 {
     let left = block(
         memory,
         columns,
         limits,
-        earlier,
+        functions,
+        from,
         number.saturating_add(1),
         body,
         out,
@@ -199,20 +208,23 @@ fn turn<S: Sink>(
 /// So many turns.
 #[cycle(run)]
 fn repeat<S: Sink>(
-    memory: &mut [Variable],
+    memory: &mut Memory<'_>,
     columns: &mut [Column<'_>],
     limits: Limits,
-    earlier: &[Routine<'_>],
+    functions: &Functions<'_>,
+    from: usize,
     number: u64,
     x: Name,
     times: u64,
     body: &[Stmt],
     out: &mut S,
 ) -> Result<Flow, Failed>
-    ensures { Runs (S.state out.old) (S.state out.new) result (world memory.new columns.new) (turns times (one_turn (surroundings earlier.now limits) number x (statements_of body.now)) (world memory.old columns.old)) }
+    ensures { Runs (S.state out.old) (S.state out.new) result (world memory.new columns.new) (turns times (one_turn (surroundings (earlier functions.now from) limits) number x (statements_of body.now)) (world memory.old columns.old)) }
 {
     for _ in 0..times {
-        let left = turn(memory, columns, limits, earlier, number, x, body, out);
+        let left = turn(
+            memory, columns, limits, functions, from, number, x, body, out,
+        );
         if goes_on(left) {
             continue;
         }
@@ -221,24 +233,32 @@ fn repeat<S: Sink>(
     Ok(Flow::Going)
 }
 
-/// The body of the latest function of this name among the earlier ones.
+/// The body of the latest function of this name among those from this place on.
 #[cycle(run)]
 fn call<S: Sink>(
-    memory: &mut [Variable],
+    memory: &mut Memory<'_>,
     columns: &mut [Column<'_>],
     limits: Limits,
-    earlier: &[Routine<'_>],
+    functions: &Functions<'_>,
+    from: usize,
     number: u64,
     f: Name,
     out: &mut S,
 ) -> Result<Flow, Failed>
-    ensures { Runs (S.state out.old) (S.state out.new) result (world memory.new columns.new) (calling (surroundings earlier.now limits) number f (world memory.old columns.old)) }
+    ensures { Runs (S.state out.old) (S.state out.new) result (world memory.new columns.new) (calling (surroundings (earlier functions.now from) limits) number f (world memory.old columns.old)) }
 {
-    let Some((g, rest)) = earlier.split_first() else {
+    let Some(k) = find(functions, from, f) else {
         return Ok(Flow::Undefined(number));
     };
-    if g.name.letter == f.letter && g.name.number == f.number {
-        return block(memory, columns, limits, rest, g.first, g.body, out);
-    }
-    call(memory, columns, limits, rest, number, f, out)
+    let g = functions.routines[k];
+    block(
+        memory,
+        columns,
+        limits,
+        functions,
+        k + 1,
+        g.first,
+        g.body,
+        out,
+    )
 }

@@ -1,28 +1,50 @@
 // Values of expressions.
 
-ghost use Rattle.std.specs.Prelude.{◌≡◌, slice_get, if◌then◌else◌};
-ghost use Rattle.c_ast.specs.View.{exp_of};
+ghost use Rattle.std.specs.Prelude.{◌≡◌, ◌<◌, IfSome, Some, None, length, map, if◌then◌else◌};
+ghost use Rattle.c_ast.specs.View.{exp_of, declared_of};
 ghost use Rattle.c_mean.specs.Meaning.{lookup, store, evaluate, strict};
-ghost use Rattle.c_mean.specs.Running.{slots};
+ghost use Rattle.c_mean.specs.Layout.{slots};
+ghost use Rattle.c_mean.specs.Spans.{element_at};
 
-use crate::machine::Variable;
+use crate::memory::Memory;
 use c_ast::{Expr, Name, Op};
 
-fn cell(cells: &[i64], i: usize) -> Option<i64>
-    ensures { result ≡ slice_get cells.now i }
+/// Where element i of a name stands among all elements, if there is such.
+fn place(memory: &Memory<'_>, x: Name, i: usize) -> Option<usize>
+    ensures value { result ≡ element_at (length memory.now.cells.items) (map declared_of memory.now.decls.now) x i }
+    ensures within { IfSome result (λ k. k < length memory.now.cells.items) }
 {
-    cells.get(i).copied()
+    let span = memory.spans.get(&x)?;
+    if i >= span.size {
+        return None;
+    }
+    let k = span.first.checked_add(i)?;
+    if k < memory.cells.len() {
+        Some(k)
+    } else {
+        None
+    }
 }
 
-pub fn look(memory: &[Variable], x: Name, i: usize) -> Option<i64>
+pub fn look(memory: &Memory<'_>, x: Name, i: usize) -> Option<i64>
     ensures { result ≡ lookup (slots memory.now) x i }
 {
-    for v in memory {
-        if v.name.letter == x.letter && v.name.number == x.number {
-            return cell(&v.cells, i);
+    match place(memory, x, i) {
+        None => None,
+        Some(k) => Some(memory.cells[k]),
+    }
+}
+
+pub fn put(memory: &mut Memory<'_>, x: Name, i: usize, v: i64) -> bool
+    ensures { (if result then Some (slots memory.new) else None) ≡ store (slots memory.old) x i v }
+{
+    match place(memory, x, i) {
+        None => false,
+        Some(k) => {
+            memory.cells[k] = v;
+            true
         }
     }
-    None
 }
 
 fn strict_op(op: Op, a: i64, b: i64) -> Option<i64>
@@ -45,7 +67,7 @@ fn strict_op(op: Op, a: i64, b: i64) -> Option<i64>
     }
 }
 
-pub fn eval(memory: &[Variable], e: &Expr) -> Option<i64>
+pub fn eval(memory: &Memory<'_>, e: &Expr) -> Option<i64>
     ensures { result ≡ evaluate (exp_of e.now) (slots memory.now) }
 {
     match e {
@@ -72,19 +94,4 @@ pub fn eval(memory: &[Variable], e: &Expr) -> Option<i64>
             strict_op(*op, left, right)
         }
     }
-}
-
-pub fn put(memory: &mut [Variable], x: Name, i: usize, v: i64) -> bool
-    ensures { (if result then Some (slots memory.new) else None) ≡ store (slots memory.old) x i v }
-{
-    for k in 0..memory.len() {
-        if memory[k].name.letter == x.letter && memory[k].name.number == x.number {
-            if i < memory[k].cells.len() {
-                memory[k].cells[i] = v;
-                return true;
-            }
-            return false;
-        }
-    }
-    false
 }

@@ -1,5 +1,5 @@
 -- The places of the ports' elements among all values.
-use Rattle.std.proofs.Common.{◌≡◌, ◌≢◌, ℕ, zero, suc, ◌+◌, ◌-◌, ◌<◌, ◌≤◌, List, [], ◌∷◌, ℤ, length, refl, ap, sym, ◌∙◌, arith, subst, inl, inr}
+use Rattle.std.proofs.Common.{◌≡◌, ◌≢◌, ℕ, zero, suc, ◌+◌, ◌-◌, ◌<◌, ◌≤◌, List, [], ◌∷◌, ℤ, length, refl, ap, sym, ◌∙◌, arith, rules, subst, inl, inr, false, IsTrue, ◌↔◌}
 use Rattle.std.proofs.lemmas.Bool.{cases_lt}
 use Rattle.sci_base.specs.Fit.{InRange}
 use Rattle.sci_base.specs.Lists.{at}
@@ -55,6 +55,28 @@ pub fit_all : (ps : List Port) (vs : List ℤ) (k start : ℕ) → FirstFit ps v
 fit_all ps vs k start f e l =
     let all : start ≡ total ps = f.place ∙ ap (before ps) e ∙ before_all ps in
     record { enough = sym l ∙ all; in_range = λ i h. f.in_range i (omega (arith, h, all)) }
+
+-- the elements of port k and those before it are among all
+up_to : (ps : List Port) (k : ℕ) → k < length ps → before ps k + elements (port_at ps k) ≤ total ps
+up_to [] k h = absurd (omega arith)
+up_to (p ∷ ps) zero h = omega arith
+up_to (p ∷ ps) (suc k) h = let rest : before ps k + elements (port_at ps k) ≤ total ps = up_to ps k (omega arith) in omega (arith, rest)
+
+-- values that fill all ports fill port k
+pub run_of : (ps : List Port) (vs : List ℤ) (k : ℕ) → Fills ps vs → k < length ps → RunFits (type_of (port_at ps k)) vs (before ps k) (elements (port_at ps k))
+run_of ps vs k f h = record {
+  within = let most : before ps k + elements (port_at ps k) ≤ total ps = up_to ps k h in omega (arith, most, f.enough);
+  in_range = λ i l. subst (λ t. InRange t (at vs (before ps k + i))) (type_at_place ps k i h l)
+      (f.in_range (before ps k + i) (let most : before ps k + elements (port_at ps k) ≤ total ps = up_to ps k h in omega (arith, most, l)));
+}
+
+-- they are as many as all ports have elements
+pub all_of : (ps : List Port) (vs : List ℤ) (k start : ℕ) → FirstFit ps vs k start → k ≡ length ps → Fills ps vs → start ≡ length vs
+all_of ps vs k start f e filled = f.place ∙ ap (before ps) e ∙ before_all ps ∙ sym filled.enough
+
+-- a test that fails, of what does not hold
+pub fails : {A : Type 0} → (A → ⊥) → IsTrue false ↔ A
+fails never = (λ h. absurd (search rules), λ a. absurd (never a))
 
 -- the ports of a kind other than SENSOR that values go in at are its inputs
 pub entering-other : (k : Kind) (s : Spec) → k ≢ Sensor → entering_of k s ≡ s.ins

@@ -1,5 +1,5 @@
 //! Tests of what a call of a bank asks: values that fill the ports, and a mask of the activation inputs.
-ghost use Rattle.std.specs.Prelude.{◌≡◌, ◌≤◌, true, length};
+ghost use Rattle.std.specs.Prelude.{◌<◌, ◌≤◌, ◌^◌, length, IsTrue, ◌↔◌};
 ghost use Rattle.sci_forms.specs.Ports.{Fills};
 ghost use Rattle.sci_kinds.specs.Asks.{IsMask, entering};
 ghost use Rattle.sci_bank.specs.Bank.{RunFits};
@@ -11,7 +11,7 @@ use sci_kinds::{Kind, Ports, Spec};
 /// Whether the `n` values from `start` on are there, and in range of the type.
 fn run_fits(t: Ty, values: &[i64], start: usize, n: usize) -> bool
     requires { start ≤ length values.now }
-    ensures { result ≡ true → RunFits t values.now start n }
+    ensures { IsTrue result ↔ RunFits t values.now start n }
 {
     if values.len() - start < n {
         return false;
@@ -26,7 +26,7 @@ fn run_fits(t: Ty, values: &[i64], start: usize, n: usize) -> bool
 
 /// Whether the values are those of all elements of the ports, each in range of its port's type.
 pub fn fills(ports: &Ports, values: &[i64]) -> bool
-    ensures { result ≡ true → Fills ports.now values.now }
+    ensures { IsTrue result ↔ Fills ports.now values.now }
 {
     let mut start = 0usize;
     for k in 0..ports.len() {
@@ -45,7 +45,7 @@ pub fn fills(ports: &Ports, values: &[i64]) -> bool
 
 /// Whether the values are those that go into a block: of its inputs, or for a sensor the next value of its column.
 pub fn enters(spec: &Spec, values: &[i64]) -> bool
-    ensures { result ≡ true → Fills (entering spec.now) values.now }
+    ensures { IsTrue result ↔ Fills (entering spec.now) values.now }
 {
     match spec.kind {
         Kind::Sensor => fills(&spec.outs, values),
@@ -55,16 +55,20 @@ pub fn enters(spec: &Spec, values: &[i64]) -> bool
 
 /// Whether the mask has bits for the block's activation inputs alone, and where the kind selects by it, a bit.
 pub fn masks(spec: &Spec, mask: u64) -> bool
-    ensures { result ≡ true → IsMask spec.now mask }
+    ensures { IsTrue result ↔ IsMask spec.now mask }
 {
-    if spec.evtin > 63 {
-        return false;
-    }
-    if two_to(spec.evtin) <= mask {
+    if !is_below(mask, spec.evtin) {
         return false;
     }
     match spec.kind {
         Kind::Select => mask != 0,
         _ => true,
     }
+}
+
+/// Whether a mask has no bit from bit `n` on, bits counted from 0.
+fn is_below(mask: u64, n: u32) -> bool
+    ensures { IsTrue result ↔ mask < 2 ^ n }
+{
+    n > 63 || mask < two_to(n)
 }

@@ -111,7 +111,8 @@ fn read_block(alloc: Global, v: &Value, at: &[u32], left: u32) -> Result<BlockOb
     }
 }
 
-fn child(alloc: Global, at: &[u32], position: u32) -> Result<SmallVec<u32, 8, Global>, ReadStop>
+// The place of the object at a position of the diagram at a place. It is short enough to stand in line at every level.
+fn child(alloc: Global, at: &[u32], position: u32) -> Result<SmallVec<u32, 16, Global>, ReadStop>
     ensures ok { IfOk result (λ p. p.items ≡ at.now ++ position ∷ []) }
     ensures stop { IfErr result (λ e. e ≡ ReadStop.Memory) }
 {

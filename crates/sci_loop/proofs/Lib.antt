@@ -1,4 +1,5 @@
 pub mod Places
 pub mod Walks
 pub mod Naming
+pub mod Settling
 pub mod Steps

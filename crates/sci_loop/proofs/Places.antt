@@ -63,6 +63,21 @@ one_place xs i j c rising at_i at_j =
 pub row_at : (t : DepTable) (i : ℕ) (row : Vec ℕ Global) → IsTable t → i < length t.members.items → row ≡ get_or t.needs.items i row → slice_get t.needs.items i ≡ Some row
 row_at t i row ok h is = slice_get_read t.needs.items (length t.members.items) i row (sym ok.rows) h is
 
+-- the needs of the member at a place
+pub needs_at : (t : DepTable) (i c : ℕ) (row : Vec ℕ Global) (ms ns : List ℕ) → IsTable t → i < length ms → get_or ms i 0 ≡ c → row ≡ get_or t.needs.items i row → ms ≡ t.members.items →
+    ns ≡ row.items → (b : ℕ) → (Contains ns b → Needs t c b) × (Needs t c b → Contains ns b)
+needs_at t i c row ms ns ok h holds is same_ms same_ns b =
+    let inside : i < length t.members.items = subst (λ xs. i < length xs) same_ms h in
+    let there : slice_get t.members.items i ≡ Some c =
+    subst (λ x. slice_get t.members.items i ≡ Some x) (ap (λ xs. get_or xs i 0) (sym same_ms) ∙ holds) (slice_get-get_or t.members.items i 0 inside) in
+    let here = row_at t i row ok inside is in (
+      λ has. (i, row, there, here, subst (λ xs. Contains xs b) same_ns has),
+      λ n.
+          let one = one_place t.members.items n.0 i c ok.rising n.2 there in
+          let same : n.1 ≡ row = same_Some _ _ (sym n.3 ∙ (ap (slice_get t.needs.items) one ∙ here)) in
+          subst (λ xs. Contains xs b) (sym same_ns) (subst (λ (v : Vec ℕ Global). Contains v.items b) same n.4),
+    )
+
 pub closed_at : (t : DepTable) (i : ℕ) (row : Vec ℕ Global) (ms ns : List ℕ) → IsTable t → i < length t.members.items → row ≡ get_or t.needs.items i row →
     ms ≡ t.members.items → ns ≡ row.items → All (Contains ms) ns
 closed_at t i row ms ns ok h is same_ms same_ns =

@@ -1,13 +1,15 @@
 -- What a step of the search keeps, from one state of it to the next.
-use Rattle.std.proofs.Common.{ℕ, ◌≡◌, ◌+◌, ◌-◌, ◌<◌, ◌≤◌, Bool, true, false, List, [], ◌∷◌, ◌++◌, length, get_or, set, take, drop, All, Option, None, IfNone, subst, subst₂, sym, ap, ◌∙◌, arith}
+use Rattle.std.proofs.Common.{ℕ, ◌≡◌, ◌+◌, ◌-◌, ◌<◌, ◌≤◌, Bool, true, false, List, [], ◌∷◌, ◌++◌, length, get_or, slice_index, set, map, take, drop, All, Option, None, IfNone, subst, subst₂, sym, ap, ◌∙◌, arith}
 use Rattle.std.proofs.lemmas.List.{get_or_default, get_or-take, get_or-drop, length-take, length-drop}
 use Rattle.sci_relation.specs.Rounds.{IsRound}
 use Rattle.sci_relation.specs.Loops.{HasNoLoop}
 use Rattle.sci_loop.specs.declared.table.DepTable.{DepTable}
 use Rattle.sci_loop.specs.declared.search.Search.{Search}
 use Rattle.sci_loop.specs.Table.{Needs, NeedsAt, IsTable}
-use Rattle.sci_loop.specs.Progress.{SeenTo, IsMet, IsOpenNeed, IsWalk, IsSearch, left, left_of}
+use Rattle.sci_loop.specs.Progress.{SeenTo, IsMet, IsOpenNeed, IsWalk, IsSearch, IsSettling, left, left_of}
+use Rattle.sci_loop.specs.Sorted.{IsOrder}
 use Rattle.sci_loop.proofs.Places.{open_is_need, all_settled}
+use Rattle.sci_loop.proofs.Settling.{same_settling, settling_more, settled_order}
 use Rattle.sci_loop.proofs.Walks.{walk_settled, walk_looked, walk_entered, walk_round, trail_short, falls_settled, falls_entered}
 
 module _ (t : DepTable) where
@@ -32,6 +34,14 @@ module _ (t : DepTable) where
   settled_search old new at ns ok w some is same met es el ed et =
       same_walk _ _ _ _ _ _ _ _ es el ed et
       (walk_settled t old.settled.items old.looked.items old.depths.items old.trail.items at ok w some is (subst (λ xs. IsMet t xs at) same met))
+
+  pub settled_in_order : (old new : Search) (at : ℕ) (ns : List Bool) → IsTable t → IsSearch t old → IsSettling t old.settled.items old.order.items → 0 < length old.trail.items →
+      at ≡ get_or old.trail.items (length old.trail.items - 1) 0 → ns ≡ old.settled.items → IsMet t ns at → new.settled.items ≡ set old.settled.items at true →
+      new.order.items ≡ old.order.items ++ at ∷ [] → IsSettling t new.settled.items new.order.items
+  settled_in_order old new at ns ok w s some is same met es eo =
+      let off : get_or old.settled.items at false ≡ false = subst (λ p. get_or old.settled.items p false ≡ false) (sym is) (w.off (length old.trail.items - 1) (omega (arith, some))) in
+      same_settling t _ _ _ _ es eo
+      (settling_more t old.settled.items old.order.items at ok w.settled_length (last_within old at w some is) off (subst (λ xs. IsMet t xs at) same met) s)
 
   pub settled_falls : (old new : Search) (at : ℕ) → IsSearch t old → 0 < length old.trail.items → at ≡ get_or old.trail.items (length old.trail.items - 1) 0 →
       new.settled.items ≡ set old.settled.items at true → new.trail.items ≡ take (length old.trail.items - 1) old.trail.items → left t new < left t old
@@ -90,6 +100,13 @@ module _ (t : DepTable) where
   pub none_free : (s : Search) (o : Option ℕ) → o ≡ None → IsSearch t s → IfNone o ((i : ℕ) → i < length t.members.items → get_or s.settled.items i false ≡ true) → HasNoLoop (Needs t)
   none_free s o none w done =
       all_settled t s.settled.items w.grounded (subst (λ r. IfNone r ((i : ℕ) → i < length t.members.items → get_or s.settled.items i false ≡ true)) none done)
+
+  -- and in which order
+  pub all_in_order : (s : Search) (o : Option ℕ) (ms ps xs : List ℕ) → o ≡ None → IsTable t → IsSettling t s.settled.items s.order.items →
+      IfNone o ((i : ℕ) → i < length t.members.items → get_or s.settled.items i false ≡ true) → ms ≡ t.members.items → ps ≡ s.order.items → xs ≡ map (λ i. slice_index ms i) ps → IsOrder t xs
+  all_in_order s o ms ps xs none ok order done same_ms same_ps is =
+      settled_order t s.settled.items s.order.items xs ok order (subst (λ r. IfNone r ((i : ℕ) → i < length t.members.items → get_or s.settled.items i false ≡ true)) none done)
+      (is ∙ (ap (λ ys. map (λ i. slice_index ys i) ps) same_ms ∙ ap (λ ys. map (λ i. slice_index t.members.items i) ys) same_ps))
 
   pub rest_within : (s : Search) (tr : List ℕ) (n depth : ℕ) → tr ≡ s.trail.items → IsSearch t s → All (λ i. i < length t.members.items) (take n (drop depth tr))
   rest_within s tr n depth same w k d h =

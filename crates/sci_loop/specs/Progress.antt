@@ -54,6 +54,20 @@ pub record IsWalk (t : DepTable) (settled : List Bool) (looked depths trail : Li
 abbrev pub IsSearch : DepTable → Search → Type 0
 IsSearch t s = IsWalk t s.settled.items s.looked.items s.depths.items s.trail.items
 
+-- the member b stands at one of the places before the k-th
+pub record StandsBefore (t : DepTable) (order : List ℕ) (k b : ℕ) : Type 0 where
+  pub at : ℕ
+  pub before : at < k
+  pub holds : slice_index t.members.items (slice_index order at) ≡ b
+
+-- the places of what is settled, each once and after those of all that it needs
+pub record IsSettling (t : DepTable) (settled : List Bool) (order : List ℕ) : Type 0 where
+  pub within : (k : ℕ) → k < length order → slice_index order k < length t.members.items
+  pub apart : (i j : ℕ) → i < length order → j < length order → slice_index order i ≡ slice_index order j → i ≡ j
+  pub marked : (k : ℕ) → k < length order → slice_index_or settled (slice_index order k) false ≡ true
+  pub listed : (i : ℕ) → i < length t.members.items → slice_index_or settled i false ≡ true → Contains order i
+  pub after : (k : ℕ) → k < length order → (b : ℕ) → Needs t (slice_index t.members.items (slice_index order k)) b → StandsBefore t order k b
+
 -- what was settled stays so
 abbrev pub SettledStay : Search → Search → Type 0
 SettledStay old new = (i : ℕ) → slice_index_or old.settled.items i false ≡ true → slice_index_or new.settled.items i false ≡ true

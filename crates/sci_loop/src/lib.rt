@@ -4,12 +4,14 @@
 
 ghost use Rattle.std.specs.Prelude.{◌≡◌, IfSome, IfNone, IfOk};
 ghost use Rattle.sci_loop.specs.Table.{Needs, IsTable};
+ghost use Rattle.sci_loop.specs.Sorted.{IsSorted};
 ghost use Rattle.sci_relation.specs.Loops.{IsLoop, HasNoLoop, IsFromLeast};
 
 mod listing;
 mod search;
 mod table;
 
+pub use listing::Sorted;
 use sci_base::NoMemory;
 use std::alloc::Global;
 pub use table::DepTable;
@@ -22,15 +24,27 @@ pub fn find(alloc: Global, table: &DepTable) -> Result<Option<Vec<u32>>, NoMemor
     ensures least { IfOk result (λ o. IfSome o (λ found. IsFromLeast found.items)) }
     ensures none { IfOk result (λ o. IfNone o (HasNoLoop (Needs table.now))) }
 {
-    match listing::found(alloc, table) {
-        Ok(found) => Ok(found),
+    match sort(alloc, table)? {
+        Sorted::Loop(found) => Ok(Some(found)),
+        Sorted::Order(_) => Ok(None),
+    }
+}
+
+/// The members, each once and after all that it depends on; or, exactly where the table has one, a loop from its least block. The
+/// time is that of `find`.
+pub fn sort(alloc: Global, table: &DepTable) -> Result<Sorted, NoMemory>
+    requires { IsTable table.now }
+    ensures { IfOk result (λ o. IsSorted table.now o) }
+{
+    match listing::order_or_loop(alloc, table) {
+        Ok(sorted) => Ok(sorted),
         Err(_) => Err(NoMemory),
     }
 }
 
 #[cfg(test)]
 mod tests {
-    use super::{DepTable, find};
+    use super::{DepTable, Sorted, find, sort};
     use std::alloc::{AllocError, Global};
     use std::test::Fail;
 
@@ -53,6 +67,21 @@ mod tests {
         assert!(&rt; table.is_well_formed());
         let found = find(alloc, &table);
         assert_eq!(rt; found, Ok(Some(vec![in alloc; 5, 7, 9]?)));
+        Ok(())
+    }
+
+    #[test]
+    fn each_member_stands_after_its_needs(rt: HostRuntime) -> Result<(), Fail> {
+        let alloc = rt.alloc();
+        let members = vec![in alloc; 2, 5, 7]?;
+        let needs = vec![in alloc; vec![in alloc; 7]?, vec![in alloc; 2]?, Vec::new(alloc)]?;
+        let table = DepTable { members, needs };
+        assert!(&rt; table.is_well_formed());
+        let order = match sort(alloc, &table) {
+            Ok(Sorted::Order(order)) => order,
+            _ => return Err(Fail::from("no order")),
+        };
+        assert_eq!(rt; order.as_slice(), [7, 2, 5].as_slice());
         Ok(())
     }
 }

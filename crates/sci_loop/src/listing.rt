@@ -1,8 +1,9 @@
 // The listing of a loop.
-ghost use Rattle.std.specs.Prelude.{◌≡◌, ℕ, ◌<◌, ◌≤◌, length, All, IfSome, IfNone, IfOk, slice_index, map};
+ghost use Rattle.std.specs.Prelude.{◌≡◌, ℕ, ◌<◌, ◌≤◌, length, All, IfOk, slice_index, map};
 ghost use Rattle.sci_loop.specs.Table.{Needs, NeedsAt, IsTable};
 ghost use Rattle.sci_relation.specs.Rounds.{IsRound};
-ghost use Rattle.sci_relation.specs.Loops.{IsLoop, HasNoLoop, IsFromLeast};
+ghost use Rattle.sci_relation.specs.Loops.{IsLoop, IsFromLeast};
+ghost use Rattle.sci_loop.specs.Sorted.{IsSorted};
 
 use crate::search::Search;
 use crate::table::DepTable;
@@ -46,19 +47,29 @@ fn listed(alloc: Global, table: &DepTable, places: &[usize]) -> Result<Vec<u32>,
     Ok(found)
 }
 
-/// A loop of the table from its least member, or none where there is none.
-pub fn found(alloc: Global, table: &DepTable) -> Result<Option<Vec<u32>>, AllocError>
+/// What sorting a table comes to.
+#[derive(Debug, Drop)]
+pub enum Sorted {
+    /// A loop, listed from its least member, each member depending on the one before it and the first on the last.
+    Loop(Vec<u32>),
+    /// There is no loop: all members, each after those that it depends on.
+    Order(Vec<u32>),
+}
+
+/// The members in an order, or a loop.
+pub fn order_or_loop(alloc: Global, table: &DepTable) -> Result<Sorted, AllocError>
     requires { IsTable table.now }
-    ensures some { IfOk result (λ o. IfSome o (λ v. IsLoop (Needs table.now) v.items)) }
-    ensures least { IfOk result (λ o. IfSome o (λ v. IsFromLeast v.items)) }
-    ensures none { IfOk result (λ o. IfNone o (HasNoLoop (Needs table.now))) }
+    ensures { IfOk result (λ o. IsSorted table.now o) }
 {
     let mut search = Search::new(alloc, table.members.len())?;
     match search.all(table)? {
-        None => Ok(None),
+        None => {
+            let order = names(alloc, &table.members, &search.order)?;
+            Ok(Sorted::Order(order))
+        }
         Some(depth) => {
             let found = listed(alloc, table, &search.trail[depth..])?;
-            Ok(Some(found))
+            Ok(Sorted::Loop(found))
         }
     }
 }

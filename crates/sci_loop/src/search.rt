@@ -4,7 +4,7 @@ ghost use Rattle.std.specs.Prelude.{◌≡◌, ℕ, ◌+◌, ◌-◌, ◌<◌, �
 ghost use Rattle.std.proofs.Math.ListN.{replicate};
 ghost use Rattle.std.specs.List.Sorted.{IsStrictlyIncreasing};
 ghost use Rattle.sci_loop.specs.Table.{IsTable, NeedsAt};
-ghost use Rattle.sci_loop.specs.Progress.{IsSettled, SeenBelow, SeenTo, IsMet, IsOpenNeed, IsSearch, left, SettledStay};
+ghost use Rattle.sci_loop.specs.Progress.{IsSettled, SeenBelow, SeenTo, IsMet, IsOpenNeed, IsSearch, left, SettledStay, IsSettling};
 ghost use Rattle.sci_relation.specs.Rounds.{IsRound};
 
 use crate::table::{DepTable, place_of};
@@ -28,6 +28,8 @@ pub struct Search {
     pub depths: Vec<usize>,
     /// The walk: each member needs the next.
     pub trail: Vec<usize>,
+    /// The settled members, in the order in which they were settled.
+    pub order: Vec<usize>,
 }
 
 // The first need, from the index `from` on, that isn't settled.
@@ -71,29 +73,35 @@ impl Search {
         ensures looked { IfOk result (λ s. s.looked.items ≡ replicate count 0) }
         ensures depths { IfOk result (λ s. s.depths.items ≡ replicate count 0) }
         ensures trail { IfOk result (λ s. s.trail.items ≡ []) }
+        ensures order { IfOk result (λ s. s.order.items ≡ []) }
     {
         let settled = vec![in alloc; false; count]?;
         let looked = vec![in alloc; 0; count]?;
         let depths = vec![in alloc; 0; count]?;
         let trail = Vec::new(alloc);
+        let order = Vec::new(alloc);
         Ok(Search {
             settled,
             looked,
             depths,
             trail,
+            order,
         })
     }
 
     // The trail's last member is settled, and leaves it.
-    fn settle(&mut self, at: usize)
+    fn settle(&mut self, at: usize) -> Result<(), AllocError>
         requires { at < length self.old.settled.items }
-        ensures settled { self.new.settled.items ≡ slice_set self.old.settled.items at true }
-        ensures looked { self.new.looked.items ≡ self.old.looked.items }
-        ensures depths { self.new.depths.items ≡ self.old.depths.items }
-        ensures trail { self.new.trail.items ≡ take (length self.old.trail.items - 1) self.old.trail.items }
+        ensures settled { OnOk result (self.new.settled.items ≡ slice_set self.old.settled.items at true) }
+        ensures looked { OnOk result (self.new.looked.items ≡ self.old.looked.items) }
+        ensures depths { OnOk result (self.new.depths.items ≡ self.old.depths.items) }
+        ensures trail { OnOk result (self.new.trail.items ≡ take (length self.old.trail.items - 1) self.old.trail.items) }
+        ensures order { OnOk result (self.new.order.items ≡ self.old.order.items ++ at ∷ []) }
     {
+        self.order.push(at)?;
         self.settled[at] = true;
         self.trail.pop();
+        Ok(())
     }
 
     // The needs of a member before this index are settled.
@@ -103,6 +111,7 @@ impl Search {
         ensures looked { self.new.looked.items ≡ slice_set self.old.looked.items at index }
         ensures depths { self.new.depths.items ≡ self.old.depths.items }
         ensures trail { self.new.trail.items ≡ self.old.trail.items }
+        ensures order { self.new.order.items ≡ self.old.order.items }
     {
         self.looked[at] = index;
     }
@@ -114,6 +123,7 @@ impl Search {
         ensures looked { self.new.looked.items ≡ self.old.looked.items }
         ensures depths { OnOk result (self.new.depths.items ≡ slice_set self.old.depths.items place (length self.old.trail.items)) }
         ensures trail { OnOk result (self.new.trail.items ≡ self.old.trail.items ++ place ∷ []) }
+        ensures order { self.new.order.items ≡ self.old.order.items }
     {
         self.depths[place] = self.trail.len();
         self.trail.push(place)?;
@@ -133,7 +143,9 @@ impl Search {
         requires table { IsTable table.now }
         requires search { IsSearch table.now self.old }
         requires some { 0 < length self.old.trail.items }
+        requires order { IsSettling table.now self.old.settled.items self.old.order.items }
         ensures search { IfOk result (λ o. IsSearch table.now self.new) }
+        ensures order { IfOk result (λ o. IsSettling table.now self.new.settled.items self.new.order.items) }
         ensures round { IfOk result (λ o. IfSome o (λ k. IsRound (NeedsAt table.now) (drop k self.new.trail.items))) }
         ensures falls { IfOk result (λ o. IfNone o (left table.now self.new < left table.now self.old)) }
         ensures stay { IfOk result (λ o. SettledStay self.old self.new) }
@@ -143,7 +155,7 @@ impl Search {
         let at = self.trail[self.trail.len() - 1];
         match open_need(table, &self.settled, at, self.looked[at]) {
             None => {
-                self.settle(at);
+                self.settle(at)?;
                 Ok(None)
             }
             Some(need) => {
@@ -165,7 +177,9 @@ impl Search {
         requires trail { self.old.trail.items ≡ [] }
         requires within { start < length table.now.members.items }
         requires off { slice_index_or self.old.settled.items start false ≡ false }
+        requires order { IsSettling table.now self.old.settled.items self.old.order.items }
         ensures search { IfOk result (λ o. IsSearch table.now self.new) }
+        ensures order { IfOk result (λ o. IsSettling table.now self.new.settled.items self.new.order.items) }
         ensures round { IfOk result (λ o. IfSome o (λ k. IsRound (NeedsAt table.now) (drop k self.new.trail.items))) }
         ensures trail { IfOk result (λ o. IfNone o (self.new.trail.items ≡ [])) }
         ensures stay { IfOk result (λ o. SettledStay self.old self.new) }
@@ -185,7 +199,9 @@ impl Search {
         requires table { IsTable table.now }
         requires search { IsSearch table.now self.old }
         requires trail { self.old.trail.items ≡ [] }
+        requires order { IsSettling table.now self.old.settled.items self.old.order.items }
         ensures search { IfOk result (λ o. IsSearch table.now self.new) }
+        ensures order { IfOk result (λ o. IsSettling table.now self.new.settled.items self.new.order.items) }
         ensures round { IfOk result (λ o. IfSome o (λ k. IsRound (NeedsAt table.now) (drop k self.new.trail.items))) }
         ensures done { IfOk result (λ o. IfNone o ((i : ℕ) → i < length table.now.members.items → slice_index_or self.new.settled.items i false ≡ true)) }
     {

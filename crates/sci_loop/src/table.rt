@@ -1,7 +1,7 @@
 // Tables of dependencies.
-ghost use Rattle.std.specs.Prelude.{◌≡◌, ◌<◌, ◌↔◌, length, All, Contains, IsTrue, slice_index};
+ghost use Rattle.std.specs.Prelude.{◌≡◌, ℕ, ◌<◌, ◌↔◌, length, All, Contains, IsTrue, slice_index};
 ghost use Rattle.std.specs.List.Sorted.{IsStrictlyIncreasing};
-ghost use Rattle.sci_loop.specs.Table.{IsTable, IsRow};
+ghost use Rattle.sci_loop.specs.Table.{Needs, IsTable, IsRow};
 
 /// Which blocks depend on which. A table is well formed where `members` rises strictly, `needs` has one list for each member,
 /// and each of these lists rises strictly and holds members alone.
@@ -25,6 +25,15 @@ impl DepTable {
             return false;
         }
         rows_fit(&self.members, &self.needs)
+    }
+
+    /// The members that a member depends on, by number. The table is well formed.
+    pub fn needs_of(&self, member: u32) -> &[u32]
+        requires table { IsTable self.now }
+        requires member { Contains self.now.members.items member }
+        ensures { (b : ℕ) → Contains result.now b ↔ Needs self.now member b }
+    {
+        self.needs[place_of(&self.members, member)].as_slice()
     }
 }
 

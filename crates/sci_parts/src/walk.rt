@@ -16,12 +16,12 @@ use sci_diagram::{Diagram, Obj};
 use smallvec::SmallVec;
 use std::alloc::{AllocError, Global};
 
-/// The place of the object at a position of the diagram at a place.
+/// The place of the object at a position of the diagram at a place. It is short enough to stand in line at every level.
 pub(crate) fn child(
     alloc: Global,
     at: &[u32],
     position: u32,
-) -> Result<SmallVec<u32, 8, Global>, AllocError>
+) -> Result<SmallVec<u32, 16, Global>, AllocError>
     ensures { IfOk result (λ p. p.items ≡ at.now ++ position ∷ []) }
 {
     let mut path = SmallVec::from_slice(alloc, at)?;

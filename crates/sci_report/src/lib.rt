@@ -3,7 +3,7 @@
 
 mod line;
 
-pub use line::put_refused;
+pub use line::{put_place, put_refused};
 
 #[cfg(test)]
 mod tests {

@@ -46,7 +46,8 @@ fn put_first<S: Sink>(p: u32, err: &mut S) -> Result<(), Failed>
     put_all(err, &[number.format(p).as_bytes()])
 }
 
-fn put_place<S: Sink>(path: &[u32], err: &mut S) -> Result<(), Failed>
+/// Writes a place: the positions with a slash between two, or a minus sign for the file as a whole.
+pub fn put_place<S: Sink>(path: &[u32], err: &mut S) -> Result<(), Failed>
     ensures { Writes (S.state err.old) (S.state err.new) (place_text path.now) result }
 {
     match path {

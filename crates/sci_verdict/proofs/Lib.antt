@@ -1,3 +1,4 @@
 pub mod Verdicts
 pub mod OneFlat
 pub mod Phases
+mod OnePlan

@@ -16,13 +16,19 @@ use Rattle.sci_infer.specs.declared.InferStop.{InferStop}
 use Rattle.sci_infer.specs.declared.InferStop.TheVariants.{Refused as InferRefused, Memory as InferMemory}
 use Rattle.sci_infer.specs.Answer.{IsAnswer, IsStop}
 use Rattle.sci_pending.specs.Timer.{EventDelay}
+use Rattle.sci_sched.specs.declared.stop.PlanStop.{PlanStop}
+use Rattle.sci_sched.specs.declared.stop.PlanStop.TheVariants.{Refused as PlanRefused, Memory as PlanMemory}
+use Rattle.sci_sched.specs.declared.schedule.Schedule.{Schedule}
+use Rattle.sci_sched.specs.Plain.{rows_of}
+use Rattle.sci_sched.specs.Answer.{IsPlan, IsPlanStop}
+use Rattle.sci_verdict.specs.declared.checked.Checked.{Checked}
 use Rattle.sci_timers.specs.declared.TimersStop.{TimersStop}
 use Rattle.sci_timers.specs.declared.TimersStop.TheVariants.{Refused as TimersRefused, Memory as TimersMemory}
 use Rattle.sci_timers.specs.Built.{built, IsAnswer as IsBuilt}
 use Rattle.sci_verdict.specs.declared.stop.VerdictStop.{VerdictStop}
 use Rattle.sci_verdict.specs.declared.stop.VerdictStop.TheVariants.{Refused, Memory}
-use Rattle.sci_verdict.specs.Passing.{read_stop, flat_stop, infer_stop, timers_stop}
-use Rattle.sci_verdict.specs.Verdict.{GivesFlat, GivesNet, BreaksNet, unread, not_flat, not_typed, Accepts, Breaks, no_net, unbuilt, IsTyped, IsJudged}
+use Rattle.sci_verdict.specs.Passing.{read_stop, flat_stop, infer_stop, plan_stop, timers_stop}
+use Rattle.sci_verdict.specs.Verdict.{GivesFlat, GivesNet, BreaksNet, unread, not_flat, not_typed, Plan, Accepts, Breaks, no_net, no_plan, plan_of, AcceptsTimers, BreaksTimers, no_diagram, unbuilt, IsTyped, IsChecked, IsJudged}
 use Rattle.sci_flat.proofs.Reading.{accepted_ready}
 
 -- a diagram that was read
@@ -59,22 +65,42 @@ stopped_inferring bytes n e s was given h = subst (λ q. IsTyped bytes q) (sym w
 pub inferred : (bytes : List ℕ) (m n : Parts) → GivesFlat bytes m → IsAnswer m (Ok n) → GivesNet bytes n
 inferred bytes m n given h = record { declared = m; given = given; inferred = h }
 
-net_stops : (bytes : List ℕ) (e : VerdictStop) → IsTyped bytes (Err e) → IsJudged bytes (Err e)
+net_stops : (bytes : List ℕ) (e : VerdictStop) → IsTyped bytes (Err e) → IsChecked bytes (Err e)
 net_stops bytes (Refused r) h = no_net h
 net_stops bytes Memory h = tt
 
-pub stopped_before : (bytes : List ℕ) (e : VerdictStop) (r : Result Parts VerdictStop) (s : Result (List EventDelay) VerdictStop) → r ≡ Err e → s ≡ Err e → IsTyped bytes r → IsJudged bytes s
-stopped_before bytes e r s is was h = subst (λ q. IsJudged bytes q) (sym was) (net_stops bytes e (subst (λ q. IsTyped bytes q) is h))
+pub stopped_before : (bytes : List ℕ) (e : VerdictStop) (r : Result Parts VerdictStop) (s : Result Checked VerdictStop) → r ≡ Err e → s ≡ Err e → IsTyped bytes r → IsChecked bytes s
+stopped_before bytes e r s is was h = subst (λ q. IsChecked bytes q) (sym was) (net_stops bytes e (subst (λ q. IsTyped bytes q) is h))
 
 pub net_given : (bytes : List ℕ) (n : Parts) (r : Result Parts VerdictStop) → r ≡ Ok n → IsTyped bytes r → GivesNet bytes n
 net_given bytes n r is h = subst (λ q. IsTyped bytes q) is h
 
-timers_stops : (bytes : List ℕ) (n : Parts) (e : TimersStop) → GivesNet bytes n → IsBuilt (built n) (Err e) → IsJudged bytes (Err (timers_stop e))
-timers_stops bytes n (TimersRefused r) given h = unbuilt n given h
-timers_stops bytes n TimersMemory given h = tt
+plan_stops : (bytes : List ℕ) (n : Parts) (e : PlanStop) → GivesNet bytes n → IsPlanStop n e → IsChecked bytes (Err (plan_stop e))
+plan_stops bytes n (PlanRefused r) given h = no_plan n given h
+plan_stops bytes n PlanMemory given h = tt
 
-pub stopped_building : (bytes : List ℕ) (n : Parts) (e : TimersStop) (r : Result (List EventDelay) TimersStop) (s : Result (List EventDelay) VerdictStop) → r ≡ Err e → s ≡ Err (timers_stop e) → GivesNet bytes n → IsBuilt (built n) r → IsJudged bytes s
-stopped_building bytes n e r s is was given h = subst (λ q. IsJudged bytes q) (sym was) (timers_stops bytes n e given (subst (λ q. IsBuilt (built n) q) is h))
+pub stopped_planning : (bytes : List ℕ) (n : Parts) (e : PlanStop) (s : Result Checked VerdictStop) → s ≡ Err (plan_stop e) → GivesNet bytes n → IsPlanStop n e → IsChecked bytes s
+stopped_planning bytes n e s was given h = subst (λ q. IsChecked bytes q) (sym was) (plan_stops bytes n e given h)
 
-pub accepted : (bytes : List ℕ) (n : Parts) (ts : List EventDelay) (r : Result (List EventDelay) TimersStop) → r ≡ Ok ts → GivesNet bytes n → IsBuilt (built n) r → Accepts bytes ts
-accepted bytes n ts r is given h = record { net = n; given = given; built = subst (λ q. IsBuilt (built n) q) is h }
+pub checked : (bytes : List ℕ) (c : Checked) → GivesNet bytes c.net → IsPlan c.net (rows_of c.schedule) → Accepts bytes (plan_of c)
+checked bytes c given h = record { given = given; planned = h }
+
+check_stops : (bytes : List ℕ) (e : VerdictStop) → IsChecked bytes (Err e) → IsJudged bytes (Err e)
+check_stops bytes (Refused r) h = no_diagram h
+check_stops bytes Memory h = tt
+
+pub stopped_checking : (bytes : List ℕ) (e : VerdictStop) (r : Result Checked VerdictStop) (s : Result (List EventDelay) VerdictStop) → r ≡ Err e → s ≡ Err e → IsChecked bytes r → IsJudged bytes s
+stopped_checking bytes e r s is was h = subst (λ q. IsJudged bytes q) (sym was) (check_stops bytes e (subst (λ q. IsChecked bytes q) is h))
+
+pub was_checked : (bytes : List ℕ) (c : Checked) (r : Result Checked VerdictStop) → r ≡ Ok c → IsChecked bytes r → Accepts bytes (plan_of c)
+was_checked bytes c r is h = subst (λ q. IsChecked bytes q) is h
+
+timers_stops : (bytes : List ℕ) (p : Plan) (e : TimersStop) → Accepts bytes p → IsBuilt (built p.net) (Err e) → IsJudged bytes (Err (timers_stop e))
+timers_stops bytes p (TimersRefused r) given h = unbuilt p given h
+timers_stops bytes p TimersMemory given h = tt
+
+pub stopped_building : (bytes : List ℕ) (p : Plan) (e : TimersStop) (r : Result (List EventDelay) TimersStop) (s : Result (List EventDelay) VerdictStop) → r ≡ Err e → s ≡ Err (timers_stop e) → Accepts bytes p → IsBuilt (built p.net) r → IsJudged bytes s
+stopped_building bytes p e r s is was given h = subst (λ q. IsJudged bytes q) (sym was) (timers_stops bytes p e given (subst (λ q. IsBuilt (built p.net) q) is h))
+
+pub accepted : (bytes : List ℕ) (p : Plan) (ts : List EventDelay) (r : Result (List EventDelay) TimersStop) → r ≡ Ok ts → Accepts bytes p → IsBuilt (built p.net) r → AcceptsTimers bytes ts
+accepted bytes p ts r is given h = record { plan = p; given = given; built = subst (λ q. IsBuilt (built p.net) q) is h }

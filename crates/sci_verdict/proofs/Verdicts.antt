@@ -1,6 +1,6 @@
 -- Of each diagram's file at most one verdict holds.
 use Rattle.std.proofs.Common.{◌≡◌, ◌⊎◌, inl, inr, refl, sym, ◌∙◌, ap, subst, ℕ, List, []}
-use Rattle.std.specs.Prelude.{Result, Ok, Err}
+use Rattle.std.specs.Prelude.{Result, Ok, Err, Option, Some, None}
 use Rattle.sci_base.specs.Plain.{Violation}
 use Rattle.sci_diagram.specs.Objects.{Objects}
 use Rattle.sci_diagram.specs.Reading.{Accepts as IsDiagram}
@@ -9,12 +9,24 @@ use Rattle.sci_flat.specs.Flat.{IsFlatNet}
 use Rattle.sci_flat.specs.Refused.{Breaks as IsNotFlat}
 use Rattle.sci_flat.proofs.Verdicts.{verdict, violation}
 use Rattle.sci_verdict.proofs.OneFlat.{one_flat}
-use Rattle.sci_infer.specs.Answer.{IsAnswer}
+use Rattle.sci_values.specs.declared.Verdict.{Verdict}
+use Rattle.sci_values.specs.declared.Verdict.TheVariants.{Conflict, Open, Values}
+use Rattle.sci_net.specs.Flat.{IsFlat}
+use Rattle.sci_net.specs.Net.{IsNet}
+use Rattle.sci_infer.specs.Typing.{Decides}
+use Rattle.sci_infer.specs.PortParts.{parts_in, AreTied}
+use Rattle.sci_infer.specs.Typed.{typed_parts}
+use Rattle.sci_infer.specs.Broken.{Blamed, net_broken}
+use Rattle.sci_infer.specs.Answer.{IsAnswer, judged, answered}
 use Rattle.sci_infer.proofs.Alone.{one_answer}
+use Rattle.sci_infer.proofs.TypedNet.{well_formed}
+use Rattle.sci_reaction.specs.Schedule.{Entry}
+use Rattle.sci_sched.specs.Answer.{IsPlan, IsPlanBreak}
+use Rattle.sci_verdict.proofs.OnePlan.{one_plan, one_plan_break, plan_or_not}
 use Rattle.sci_pending.specs.Timer.{EventDelay}
 use Rattle.sci_timers.specs.Built.{built}
-use Rattle.sci_verdict.specs.Verdict.{GivesFlat, GivesNet, BreaksNet, unread, not_flat, not_typed, Accepts, Breaks, no_net, unbuilt}
-use Rattle.sci_verdict.specs.Laws.{OneNet, OneViolation, NotBoth, OneVerdict}
+use Rattle.sci_verdict.specs.Verdict.{GivesFlat, GivesNet, BreaksNet, unread, not_flat, not_typed, Plan, Accepts, Breaks, no_net, no_plan, AcceptsTimers, BreaksTimers, no_diagram, unbuilt}
+use Rattle.sci_verdict.specs.Laws.{AreLoops, AreAlike, OneVerdict, OneVerdictOfTimers}
 
 same_tree : (bytes : List ℕ) (t u : Objects) → IsDiagram bytes t → IsDiagram bytes u → t ≡ u
 same_tree bytes t u h k = cc (h, k)
@@ -47,18 +59,63 @@ one_net_violation bytes v w (not_typed n given h) (unread k) = absurd (cc (given
 one_net_violation bytes v w (not_typed n given h) (not_flat t read k) = absurd (flat_not_broken bytes n t w given read k)
 one_net_violation bytes v w (not_typed m given h) (not_typed n given2 k) = let e = same_answer bytes m n (Err v) (Err w) given given2 h k in cc e
 
-pub one_net : OneNet
-one_net bytes m n h k = let e : built h.net ≡ built k.net = ap built (same_net bytes h.net k.net h.given k.given) in cc (e, h.built, k.built)
+-- ---- with its schedules
 
-pub one_violation : OneViolation
-one_violation bytes v w (no_net h) (no_net k) = one_net_violation bytes v w h k
-one_violation bytes v w (no_net h) (unbuilt n given k) = absurd (net_or_not bytes n v given h)
-one_violation bytes v w (unbuilt n given h) (no_net k) = absurd (net_or_not bytes n w given k)
-one_violation bytes v w (unbuilt m given h) (unbuilt n given2 k) = let e : built m ≡ built n = ap built (same_net bytes m n given given2) in cc (e, h, k)
+judged_ok : (n m : Parts) (b : Option Blamed) → judged n b ≡ Ok m → (b ≡ None) × (n ≡ m)
+judged_ok n m None e = (refl, cc e)
+judged_ok n m (Some x) e = absurd (cc e)
 
-pub not_both : NotBoth
-not_both bytes n v h (no_net k) = net_or_not bytes h.net v h.given k
-not_both bytes n v h (unbuilt m given k) = let e : built h.net ≡ built m = ap built (same_net bytes h.net m h.given given) in absurd (cc (e, h.built, k))
+answer_is_net : (n m : Parts) (v : Verdict) → IsFlat n → Decides (parts_in n) (AreTied n) v → answered n v ≡ Ok m → IsNet m
+answer_is_net n m (Conflict at span) flat d e = absurd (cc e)
+answer_is_net n m (Open at) flat d e = absurd (cc e)
+answer_is_net n m (Values vs) flat d e =
+    let j = judged_ok (typed_parts vs.items n) m (net_broken (typed_parts vs.items n).specs) e in
+    subst IsNet j.1 (well_formed n flat vs.items d.1 j.0)
+
+given_is_net : (bytes : List ℕ) (n : Parts) → GivesNet bytes n → IsNet n
+given_is_net bytes n h = answer_is_net h.declared n h.inferred.verdict h.given.flat.flat h.inferred.decided h.inferred.given
+
+abbrev made_plan : Parts → List (List Entry) → Plan
+made_plan n rows = record { net = n; rows = rows }
+
+one_made : (bytes : List ℕ) (p q : Plan) → Accepts bytes p → Accepts bytes q → p ≡ q
+one_made bytes p q h k =
+    let net : p.net ≡ q.net = same_net bytes p.net q.net h.given k.given in
+    let rows : p.rows ≡ q.rows = one_plan q.net p.rows q.rows (given_is_net bytes q.net k.given) (subst (λ (n : Parts). IsPlan n p.rows) net h.planned) k.planned in
+    ap (λ (n : Parts). made_plan n p.rows) net ∙ ap (made_plan q.net) rows
+
+one_break : (bytes : List ℕ) (v w : Violation) → Breaks bytes v → Breaks bytes w → AreAlike v w
+one_break bytes v w (no_net h) (no_net k) = inl (one_net_violation bytes v w h k)
+one_break bytes v w (no_net h) (no_plan n given k) = absurd (net_or_not bytes n v given h)
+one_break bytes v w (no_plan n given h) (no_net k) = absurd (net_or_not bytes n w given k)
+one_break bytes v w (no_plan m given h) (no_plan n given2 k) =
+    one_plan_break n v w (given_is_net bytes n given2) (subst (λ (x : Parts). IsPlanBreak x v) (same_net bytes m n given given2) h) k
+
+not_both : (bytes : List ℕ) (p : Plan) (v : Violation) → Accepts bytes p → Breaks bytes v → ⊥
+not_both bytes p v h (no_net k) = net_or_not bytes p.net v h.given k
+not_both bytes p v h (no_plan n given k) =
+    plan_or_not n p.rows v (given_is_net bytes n given) (subst (λ (x : Parts). IsPlan x p.rows) (same_net bytes p.net n h.given given) h.planned) k
 
 pub one_verdict : OneVerdict
-one_verdict = record { one_net = one_net; one_violation = one_violation; not_both = not_both }
+one_verdict = record { one_made = one_made; one_break = one_break; not_both = not_both }
+
+-- ---- of timers
+
+same_built : (bytes : List ℕ) (p q : Plan) → Accepts bytes p → Accepts bytes q → built p.net ≡ built q.net
+same_built bytes p q h k = ap (λ (x : Plan). built x.net) (one_made bytes p q h k)
+
+one_timers : (bytes : List ℕ) (m n : List EventDelay) → AcceptsTimers bytes m → AcceptsTimers bytes n → m ≡ n
+one_timers bytes m n h k = let e = same_built bytes h.plan k.plan h.given k.given in cc (e, h.built, k.built)
+
+one_timers_break : (bytes : List ℕ) (v w : Violation) → BreaksTimers bytes v → BreaksTimers bytes w → AreAlike v w
+one_timers_break bytes v w (no_diagram h) (no_diagram k) = one_break bytes v w h k
+one_timers_break bytes v w (no_diagram h) (unbuilt p given k) = absurd (not_both bytes p v given h)
+one_timers_break bytes v w (unbuilt p given h) (no_diagram k) = absurd (not_both bytes p w given k)
+one_timers_break bytes v w (unbuilt p given h) (unbuilt q given2 k) = let e = same_built bytes p q given given2 in inl (cc (e, h, k))
+
+timers_not_both : (bytes : List ℕ) (n : List EventDelay) (v : Violation) → AcceptsTimers bytes n → BreaksTimers bytes v → ⊥
+timers_not_both bytes n v h (no_diagram k) = not_both bytes h.plan v h.given k
+timers_not_both bytes n v h (unbuilt q given k) = let e = same_built bytes h.plan q h.given given in absurd (cc (e, h.built, k))
+
+pub one_verdict_of_timers : OneVerdictOfTimers
+one_verdict_of_timers = record { one_made = one_timers; one_break = one_timers_break; not_both = timers_not_both }

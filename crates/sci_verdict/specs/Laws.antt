@@ -1,19 +1,28 @@
--- Of each diagram's file at most one verdict holds.
-use Rattle.std.specs.Prelude.{◌≡◌, ℕ, List}
+-- Of each diagram's file at most one verdict holds, but that any loop of the least source that has one may be told.
+use Rattle.std.specs.Prelude.{◌≡◌, ◌⊎◌, ℕ, List, take}
 use Rattle.sci_base.specs.Plain.{Violation}
+use Rattle.sci_base.specs.declared.refusal.Rule.TheVariants.{AlgebraicLoop}
 use Rattle.sci_pending.specs.Timer.{EventDelay}
-use Rattle.sci_verdict.specs.Verdict.{Accepts, Breaks}
+use Rattle.sci_verdict.specs.Verdict.{Plan, Accepts, Breaks, AcceptsTimers, BreaksTimers}
 
-abbrev pub OneNet : Type 0
-OneNet = (bytes : List ℕ) (m n : List EventDelay) → Accepts bytes m → Accepts bytes n → m ≡ n
+-- both tell a loop of one source, whose block and port are the first two details
+pub record AreLoops (v w : Violation) : Type 0 where
+  pub one : v.rule ≡ AlgebraicLoop
+  pub other : w.rule ≡ AlgebraicLoop
+  pub source : take 2 v.detail ≡ take 2 w.detail
 
-abbrev pub OneViolation : Type 0
-OneViolation = (bytes : List ℕ) (v w : Violation) → Breaks bytes v → Breaks bytes w → v ≡ w
+abbrev pub AreAlike : Violation → Violation → Type 0
+AreAlike v w = (v ≡ w) ⊎ AreLoops v w
 
-abbrev pub NotBoth : Type 0
-NotBoth = (bytes : List ℕ) (n : List EventDelay) (v : Violation) → Accepts bytes n → Breaks bytes v → ⊥
+-- at most one thing is accepted, what is broken is alike, and not both
+pub record IsOneVerdict {A : Type 0} (accepts : List ℕ → A → Type 0) (breaks : List ℕ → Violation → Type 0) : Type 0 where
+  pub one_made : (bytes : List ℕ) (m n : A) → accepts bytes m → accepts bytes n → m ≡ n
+  pub one_break : (bytes : List ℕ) (v w : Violation) → breaks bytes v → breaks bytes w → AreAlike v w
+  pub not_both : (bytes : List ℕ) (m : A) (v : Violation) → accepts bytes m → breaks bytes v → ⊥
 
-pub record OneVerdict : Type 0 where
-  pub one_net : OneNet
-  pub one_violation : OneViolation
-  pub not_both : NotBoth
+abbrev pub OneVerdict : Type 0
+OneVerdict = IsOneVerdict Accepts Breaks
+
+-- the same of the timers
+abbrev pub OneVerdictOfTimers : Type 0
+OneVerdictOfTimers = IsOneVerdict AcceptsTimers BreaksTimers

@@ -5,6 +5,8 @@ use Rattle.sci_flat.specs.declared.stop.FlatStop.{FlatStop}
 use Rattle.sci_flat.specs.declared.stop.FlatStop.TheVariants.{Refused as FlatRefused, Memory as FlatMemory}
 use Rattle.sci_infer.specs.declared.InferStop.{InferStop}
 use Rattle.sci_infer.specs.declared.InferStop.TheVariants.{Refused as InferRefused, Memory as InferMemory}
+use Rattle.sci_sched.specs.declared.stop.PlanStop.{PlanStop}
+use Rattle.sci_sched.specs.declared.stop.PlanStop.TheVariants.{Refused as PlanRefused, Memory as PlanMemory}
 use Rattle.sci_timers.specs.declared.TimersStop.{TimersStop}
 use Rattle.sci_timers.specs.declared.TimersStop.TheVariants.{Refused as TimersRefused, Memory as TimersMemory}
 use Rattle.sci_verdict.specs.declared.stop.VerdictStop.{VerdictStop}
@@ -21,6 +23,10 @@ flat_stop FlatMemory = Memory
 abbrev pub infer_stop : InferStop → VerdictStop
 infer_stop (InferRefused r) = Refused r
 infer_stop InferMemory = Memory
+
+abbrev pub plan_stop : PlanStop → VerdictStop
+plan_stop (PlanRefused r) = Refused r
+plan_stop PlanMemory = Memory
 
 abbrev pub timers_stop : TimersStop → VerdictStop
 timers_stop (TimersRefused r) = Refused r

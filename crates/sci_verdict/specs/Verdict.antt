@@ -1,4 +1,4 @@
--- The verdict on a diagram's file: its net, or the first rule that it breaks.
+-- The verdict on a diagram's file: its net with its schedules, or the first rule that it breaks.
 use Rattle.std.specs.Prelude.{◌≡◌, ℕ, List, Result, Ok, Err}
 use Rattle.sci_base.specs.Plain.{Violation, violation_of}
 use Rattle.sci_diagram.specs.Objects.{Objects}
@@ -7,8 +7,12 @@ use Rattle.sci_net.specs.Parts.{Parts}
 use Rattle.sci_flat.specs.Flat.{IsFlatNet}
 use Rattle.sci_flat.specs.Refused.{Breaks as IsNotFlat}
 use Rattle.sci_infer.specs.Answer.{IsAnswer}
+use Rattle.sci_reaction.specs.Schedule.{Entry}
+use Rattle.sci_sched.specs.Plain.{rows_of}
+use Rattle.sci_sched.specs.Answer.{IsPlan, IsPlanBreak}
 use Rattle.sci_pending.specs.Timer.{EventDelay}
 use Rattle.sci_timers.specs.Built.{built}
+use Rattle.sci_verdict.specs.declared.checked.Checked.{Checked}
 use Rattle.sci_verdict.specs.declared.stop.VerdictStop.{VerdictStop}
 use Rattle.sci_verdict.specs.declared.stop.VerdictStop.TheVariants.{Refused, Memory}
 
@@ -30,16 +34,31 @@ pub data BreaksNet (bytes : List ℕ) (v : Violation) : Type 0 where
   not_flat : (t : Objects) → IsDiagram bytes t → IsNotFlat t v → BreaksNet bytes v
   not_typed : (n : Parts) → GivesFlat bytes n → IsAnswer n (Err v) → BreaksNet bytes v
 
--- the bytes are a diagram of these timers
-pub record Accepts (bytes : List ℕ) (timers : List EventDelay) : Type 0 where
+-- a typed net with its static schedules, a row for each source
+pub record Plan : Type 0 where
   pub net : Parts
-  pub given : GivesNet bytes net
-  pub built : built net ≡ Ok timers
+  pub rows : List (List Entry)
+
+-- the bytes are a diagram that keeps all rules, and gives this net with these schedules
+pub record Accepts (bytes : List ℕ) (p : Plan) : Type 0 where
+  pub given : GivesNet bytes p.net
+  pub planned : IsPlan p.net p.rows
 
 -- the first rule that the bytes break
 pub data Breaks (bytes : List ℕ) (v : Violation) : Type 0 where
   no_net : BreaksNet bytes v → Breaks bytes v
-  unbuilt : (n : Parts) → GivesNet bytes n → built n ≡ Err v → Breaks bytes v
+  no_plan : (n : Parts) → GivesNet bytes n → IsPlanBreak n v → Breaks bytes v
+
+-- the bytes are a diagram of these timers
+pub record AcceptsTimers (bytes : List ℕ) (timers : List EventDelay) : Type 0 where
+  pub plan : Plan
+  pub given : Accepts bytes plan
+  pub built : built plan.net ≡ Ok timers
+
+-- the first rule that the bytes break, or else it is not built yet
+pub data BreaksTimers (bytes : List ℕ) (v : Violation) : Type 0 where
+  no_diagram : Breaks bytes v → BreaksTimers bytes v
+  unbuilt : (p : Plan) → Accepts bytes p → built p.net ≡ Err v → BreaksTimers bytes v
 
 -- what an answer says; want of memory may come at any time
 abbrev pub IsTyped : List ℕ → Result Parts VerdictStop → Type 0
@@ -47,7 +66,15 @@ IsTyped bytes (Ok n) = GivesNet bytes n
 IsTyped bytes (Err (Refused r)) = BreaksNet bytes (violation_of r)
 IsTyped bytes (Err Memory) = Unit {0}
 
+abbrev pub plan_of : Checked → Plan
+plan_of c = record { net = c.net; rows = rows_of c.schedule }
+
+abbrev pub IsChecked : List ℕ → Result Checked VerdictStop → Type 0
+IsChecked bytes (Ok c) = Accepts bytes (plan_of c)
+IsChecked bytes (Err (Refused r)) = Breaks bytes (violation_of r)
+IsChecked bytes (Err Memory) = Unit {0}
+
 abbrev pub IsJudged : List ℕ → Result (List EventDelay) VerdictStop → Type 0
-IsJudged bytes (Ok timers) = Accepts bytes timers
-IsJudged bytes (Err (Refused r)) = Breaks bytes (violation_of r)
+IsJudged bytes (Ok timers) = AcceptsTimers bytes timers
+IsJudged bytes (Err (Refused r)) = BreaksTimers bytes (violation_of r)
 IsJudged bytes (Err Memory) = Unit {0}

@@ -1,15 +1,18 @@
-//! The verdict on a diagram's file: its net, or the first rule that it breaks.
+//! The verdict on a diagram's file: its net with its schedules, or the first rule that it breaks.
 #![tactic(auto)]
 
-ghost use Rattle.sci_verdict.specs.Laws.{OneVerdict};
+ghost use Rattle.sci_verdict.specs.Laws.{OneVerdict, OneVerdictOfTimers};
 
+mod checked;
 mod stop;
 mod verdict;
 
+pub use checked::Checked;
 pub use stop::VerdictStop;
-pub use verdict::{timer_net, typed_net};
+pub use verdict::{check, timer_net, typed_net};
 
-/// Of each file at most one verdict holds.
+/// Of each file at most one verdict holds, but that any loop of the least source that has one may be told.
 pub fn one_verdict()
-    ensures { OneVerdict }
+    ensures diagrams { OneVerdict }
+    ensures timers { OneVerdictOfTimers }
 {}

@@ -3,12 +3,13 @@ use sci_base::Refusal;
 use sci_diagram::ReadStop;
 use sci_flat::FlatStop;
 use sci_infer::InferStop;
+use sci_sched::PlanStop;
 use sci_timers::TimersStop;
 
 /// Why a file gives no net.
 #[derive(Drop)]
 pub enum VerdictStop {
-    /// It breaks this rule first: 1 to 23, or, of a net of timers, 30.
+    /// It breaks this rule first: 1 to 25, or, where timers are asked for, 30.
     Refused(Refusal),
     /// There was no memory.
     Memory,
@@ -52,6 +53,20 @@ impl From<InferStop> for VerdictStop {
         match s {
             InferStop::Refused(refusal) => VerdictStop::Refused(refusal),
             InferStop::Memory => VerdictStop::Memory,
+        }
+    }
+}
+
+impl From<PlanStop> for VerdictStop {
+    ghost use Rattle.std.specs.Prelude.{◌≡◌};
+    ghost use Rattle.sci_verdict.specs.Passing.{plan_stop};
+
+    ghost from_gives = { λ s e. e ≡ plan_stop s };
+
+    fn from(s: PlanStop) -> VerdictStop {
+        match s {
+            PlanStop::Refused(refusal) => VerdictStop::Refused(refusal),
+            PlanStop::Memory => VerdictStop::Memory,
         }
     }
 }

@@ -1,13 +1,15 @@
 // A file's verdict, phase by phase.
 ghost use Rattle.std.specs.Prelude.{◌≤◌, length};
-ghost use Rattle.sci_verdict.specs.Verdict.{IsTyped, IsJudged};
+ghost use Rattle.sci_verdict.specs.Verdict.{IsTyped, IsChecked, IsJudged};
 
+use crate::checked::Checked;
 use crate::stop::VerdictStop;
 use sci_diagram::read;
 use sci_flat::flatten;
 use sci_infer::infer;
 use sci_net::Net;
 use sci_pending::TimerNet;
+use sci_sched::plan;
 use sci_timers::timer_net as timers_of;
 use std::alloc::Global;
 
@@ -23,13 +25,24 @@ pub fn typed_net(alloc: Global, bytes: &[u8]) -> Result<Net, VerdictStop>
     Ok(net)
 }
 
-/// The net of timers of a diagram's file, or the first rule that it breaks: one of those of `typed_net`, or else rule 30, at the
+/// The typed net of a diagram's file with its static schedules, or the first rule that it breaks: one of those of `typed_net`, or
+/// else a loop at the least source that has one (24), or schedules that are too long (25).
+pub fn check(alloc: Global, bytes: &[u8]) -> Result<Checked, VerdictStop>
+    requires { length bytes.now ≤ 16777216 }
+    ensures { IsChecked bytes.now result }
+{
+    let net = typed_net(alloc, bytes)?;
+    let schedule = plan(alloc, &net)?;
+    Ok(Checked { net, schedule })
+}
+
+/// The net of timers of a diagram's file, or the first rule that it breaks: one of those of `check`, or else rule 30, at the
 /// first block that is no delayed event, or without a place where the timers have too many feeding events.
 pub fn timer_net(alloc: Global, bytes: &[u8]) -> Result<TimerNet, VerdictStop>
     requires { length bytes.now ≤ 16777216 }
     ensures { IsJudged bytes.now result }
 {
-    let net = typed_net(alloc, bytes)?;
-    let timers = timers_of(alloc, &net)?;
+    let checked = check(alloc, bytes)?;
+    let timers = timers_of(alloc, &checked.net)?;
     Ok(timers)
 }

@@ -4,3 +4,6 @@ mod Giving
 mod Coming
 mod Causes
 mod OneAnswer
+mod Delivered
+mod Silent
+mod Blamed

@@ -6,8 +6,16 @@ use Rattle.sci_io.specs.declared.sink.Failed.{Failed}
 use Rattle.sci_sim.specs.declared.ready.RunEnd.{RunEnd}
 use Rattle.sci_sim.specs.Ended.{is_stopped}
 use Rattle.sci_trace.specs.Lines.{text, stops}
-use Rattle.scicos.specs.Answer.{write_fault_line, run_status}
-use Rattle.scicos.specs.Written.{Took, Cut}
+use Rattle.scicos.specs.Answer.{write_fault_line, no_memory_line, undefined_line, no_memory, run_status}
+use Rattle.scicos.specs.Written.{Took, Cut, Written}
+use Rattle.scicos.specs.Prepare.{answer_of, MayLack}
+use Rattle.scicos.specs.declared.prepare.Prepared.{Prepared}
+use Rattle.c_mean.specs.Meaning.{Ran as Observed}
+use Rattle.c_mean.specs.Answering.{end_of}
+use Rattle.c_mean.specs.declared.start.CEnd.{CEnd}
+use Rattle.c_mean.specs.declared.start.CEnd.TheVariants as ends
+use Rattle.c_mean.specs.declared.start.RunStop.{RunStop}
+use Rattle.c_mean.specs.declared.start.RunStop.TheVariants as causes
 
 -- a text was written and flushed, or the sink failed
 abbrev pub Gives : {T E : Type 0} → SinkState → SinkState → List ℕ → Result T E → Type 0
@@ -27,3 +35,21 @@ Ran observed out out' (Err _) = Cut out out' (text observed)
 abbrev pub Finished : Result RunEnd Failed → SinkState → SinkState → ℕ → Type 0
 Finished (Ok end) err err' answer = (answer ≡ run_status (is_stopped end)) × (err' ≡ err)
 Finished (Err _) err err' answer = Said 4 write_fault_line err err' answer
+
+-- a C program was run on out; where memory lacked, out is as it was
+abbrev pub RanC : Observed → SinkState → SinkState → Result CEnd RunStop → Type 0
+RanC r out out' (Ok end) = (end ≡ end_of r.how) × Took out out' (text r.seen)
+RanC r out out' (Err causes.Failed) = Cut out out' (text r.seen)
+RanC r out out' (Err causes.Memory) = out' ≡ out
+
+-- after such a run: its status; where it has no meaning, or out failed, or memory lacked, a line put on err
+abbrev pub FinishedC : Result CEnd RunStop → SinkState → SinkState → ℕ → Type 0
+FinishedC (Ok ends.End) err err' answer = (answer ≡ 0) × (err' ≡ err)
+FinishedC (Ok ends.Stop) err err' answer = (answer ≡ 6) × (err' ≡ err)
+FinishedC (Ok (ends.Undefined statement)) err err' answer = Said 7 (undefined_line statement) err err' answer
+FinishedC (Err causes.Failed) err err' answer = Said 4 write_fault_line err err' answer
+FinishedC (Err causes.Memory) err err' answer = Said 5 no_memory_line err err' answer
+
+-- what a prepared command writes: its answer; or, where memory may lack when it begins, that it does
+abbrev pub Delivers : Prepared → SinkState → SinkState → SinkState → SinkState → ℕ → Type 0
+Delivers p out out' err err' status = Written (answer_of p) out out' err err' status ⊎ (MayLack p × Written no_memory out out' err err' status)

@@ -4,10 +4,10 @@ use Rattle.sci_io.specs.Causes.{Rose}
 use Rattle.sci_io.specs.Files.{FolderState}
 use Rattle.sci_io.specs.Taken.{SinkState}
 use Rattle.scicos.specs.Words.{Request, Spells, NoCommand, files_of}
-use Rattle.scicos.specs.Answer.{Answer}
+use Rattle.scicos.specs.Answer.{Answer, IsDone}
 use Rattle.scicos.specs.Due.{Due}
 use Rattle.scicos.specs.Reached.{ReadsFiles, AsksFront, Reaches}
-use Rattle.scicos.specs.Written.{Given, Written}
+use Rattle.scicos.specs.Written.{Given, GivenOut, Written}
 
 -- no fault rose
 abbrev pub Quiet : ℕ → ℕ → Type 0
@@ -16,7 +16,7 @@ Quiet before now = Rose before now → ⊥
 -- The answer that is due was given whole, and the names asked for are those that are read for it.
 abbrev pub GivesDue : List (List ℕ) → FolderState → FolderState → SinkState → SinkState → SinkState → SinkState → ℕ → Type 0
 GivesDue words folder folder' out out' err err' status =
-    (a : Answer) × (names : List (List ℕ)) × Due folder.files words names a × (folder'.asked ≡ folder.asked ++ names) × (status ≡ a.status) × Given out out' a.out × Given err err' a.err
+    (a : Answer) × (names : List (List ℕ)) × Due folder.files words names a × (folder'.asked ≡ folder.asked ++ names) × (status ≡ a.status) × GivenOut a out out' × Given err err' a.err
 
 -- the words are a command that reads files
 abbrev pub NamesFiles : List (List ℕ) → Type 0
@@ -36,7 +36,7 @@ pub record Meets (words : List (List ℕ)) (folder folder' : FolderState) (out o
   pub answer : (a : Answer) × Reaches words folder folder' a × Written a out out' err err' status
   -- where no fault rose, it is the one that is due, memory aside
   pub complete : Quiet folder.faults folder'.faults → Quiet out.faults out'.faults → Quiet err.faults err'.faults → GivesDue words folder folder' out out' err err' status ⊎ (status ≡ 5)
-  pub done : (status ≡ 0) ⊎ (status ≡ 6) → GivesDue words folder folder' out out' err err' status × AsksAll words folder folder'
+  pub done : IsDone status → GivesDue words folder folder' out out' err err' status × AsksAll words folder folder'
   pub refused : status ≡ 1 → GivesDue words folder folder' out out' err err' status
   pub usage : status ≡ 2 → NoCommand words
   pub no_command : NoCommand words → (status ≡ 2) ⊎ (status ≡ 4)

@@ -1,7 +1,10 @@
--- The input file. So far no block takes inputs, and it is the empty list alone.
-use Rattle.std.specs.Prelude.{ℕ, ◌≡◌, ◌⊎◌, List, codes}
+-- The second file of a run: its input file.
+use Rattle.std.specs.Prelude.{ℕ, ℤ, ◌≡◌, ◌⊎◌, List, [], Ok, Err, codes}
 use Rattle.sci_base.specs.Plain.{Violation, of_the_whole}
 use Rattle.sci_base.specs.declared.refusal.Rule.TheVariants.{Unbuilt}
+use Rattle.sci_inputs.specs.Reading.{judge}
+
+-- ---- of a simulation: so far no block takes inputs, and it is the empty list alone
 
 -- a list of no columns, which one line feed may follow
 abbrev pub HasNoColumns : List ℕ → Type 0
@@ -13,3 +16,11 @@ AcceptsInputs bytes _ = HasNoColumns bytes
 
 abbrev pub BreaksInputs : List ℕ → Violation → Type 0
 BreaksInputs bytes v = (HasNoColumns bytes → ⊥) × (v ≡ of_the_whole Unbuilt)
+
+-- ---- of a C program: any columns, since none is needed
+
+abbrev pub AcceptsColumns : List ℕ → List (List ℤ) → Type 0
+AcceptsColumns bytes columns = judge bytes [] ≡ Ok columns
+
+abbrev pub BreaksColumns : List ℕ → Violation → Type 0
+BreaksColumns bytes v = judge bytes [] ≡ Err v

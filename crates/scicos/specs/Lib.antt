@@ -1,5 +1,6 @@
 pub mod Words
 pub mod Inputs
+pub mod Program
 pub mod Host
 pub mod Answer
 pub mod Due

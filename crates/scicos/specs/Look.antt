@@ -1,14 +1,17 @@
 -- What looking at one file comes to.
-use Rattle.std.specs.Prelude.{ℕ, ◌≡◌, ◌≤◌, ◌<◌, ◌⊎◌, ◌++◌, List, [], ◌∷◌, Result, Ok, Err, length, Vec, ℤ, pos}
+use Rattle.std.specs.Prelude.{ℕ, ◌≡◌, ◌≤◌, ◌<◌, ◌⊎◌, ◌++◌, List, [], ◌∷◌, Result, Ok, Err, length, Vec, ℤ}
 use Rattle.std.specs.declared.alloc.Global.{Global}
 use Rattle.sci_base.specs.Plain.{violation_of}
-use Rattle.sci_base.specs.declared.refusal.Rule.TheVariants.{FileTooLong}
 use Rattle.sci_io.specs.Causes.{Rose}
 use Rattle.sci_io.specs.Files.{FolderState}
 use Rattle.sci_pending.specs.Timer.{EventDelay}
-use Rattle.sci_verdict.specs.Verdict.{Accepts, Breaks}
-use Rattle.scicos.specs.Inputs.{AcceptsInputs, BreaksInputs}
-use Rattle.scicos.specs.Due.{Holds, longest, Passes, Fails}
+use Rattle.c_ast.specs.declared.Program.{Program}
+use Rattle.c_ast.specs.View.{whole_of}
+use Rattle.sci_verdict.specs.Verdict.{Accepts, Breaks, AcceptsTimers, BreaksTimers, plan_of}
+use Rattle.sci_verdict.specs.declared.checked.Checked.{Checked}
+use Rattle.scicos.specs.Inputs.{AcceptsInputs, BreaksInputs, AcceptsColumns, BreaksColumns}
+use Rattle.scicos.specs.Program.{AcceptsC, BreaksC, not_c}
+use Rattle.scicos.specs.Due.{Holds, Slot, diagram_slot, inputs_slot, c_slot, too_long, Passes, Fails}
 use Rattle.scicos.specs.declared.look.FileStop.{FileStop}
 use Rattle.scicos.specs.declared.look.FileStop.TheVariants.{TooLong, Failed, Memory as NoBytes}
 use Rattle.scicos.specs.declared.look.LookStop.{LookStop}
@@ -26,26 +29,57 @@ AsksInVain old new name = (new.asked ≡ old.asked ++ name ∷ []) × Rose old.f
 abbrev pub MayAsk : FolderState → FolderState → List ℕ → Type 0
 MayAsk old new name = ((new.asked ≡ old.asked) ⊎ (new.asked ≡ old.asked ++ name ∷ [])) × (new.faults ≡ old.faults)
 
-abbrev pub IsFile : FolderState → FolderState → List ℕ → Result (Vec ℕ Global) FileStop → Type 0
-IsFile old new name (Ok bytes) = Holds old.files name bytes.items × (length bytes.items ≤ longest) × Asks old new name
-IsFile old new name (Err TooLong) = ((bytes : List ℕ) × Holds old.files name bytes × (longest < length bytes)) × Asks old new name
-IsFile old new name (Err Failed) = AsksInVain old new name
-IsFile old new name (Err NoBytes) = MayAsk old new name
+-- a file that has at most so many bytes
+abbrev pub IsFile : ℕ → FolderState → FolderState → List ℕ → Result (Vec ℕ Global) FileStop → Type 0
+IsFile most old new name (Ok bytes) = Holds old.files name bytes.items × (length bytes.items ≤ most) × Asks old new name
+IsFile most old new name (Err TooLong) = ((bytes : List ℕ) × Holds old.files name bytes × (most < length bytes)) × Asks old new name
+IsFile most old new name (Err Failed) = AsksInVain old new name
+IsFile most old new name (Err NoBytes) = MayAsk old new name
 
-abbrev pub IsDiagram : FolderState → FolderState → List ℕ → Result (List EventDelay) LookStop → Type 0
-IsDiagram old new name (Ok n) = Passes Accepts old.files name n × Asks old new name
-IsDiagram old new name (Err (Refused r)) = Fails Breaks 1 old.files name (violation_of r) × Asks old new name
+abbrev pub IsDiagram : FolderState → FolderState → List ℕ → Result Checked LookStop → Type 0
+IsDiagram old new name (Ok c) = Passes Accepts diagram_slot old.files name (plan_of c) × Asks old new name
+IsDiagram old new name (Err (Refused r)) = Fails Breaks diagram_slot old.files name (violation_of r) × Asks old new name
 IsDiagram old new name (Err Fault) = AsksInVain old new name
 IsDiagram old new name (Err Memory) = MayAsk old new name
 
+abbrev pub AreTimers : FolderState → FolderState → List ℕ → Result (List EventDelay) LookStop → Type 0
+AreTimers old new name (Ok timers) = Passes AcceptsTimers diagram_slot old.files name timers × Asks old new name
+AreTimers old new name (Err (Refused r)) = Fails BreaksTimers diagram_slot old.files name (violation_of r) × Asks old new name
+AreTimers old new name (Err Fault) = AsksInVain old new name
+AreTimers old new name (Err Memory) = MayAsk old new name
+
 abbrev pub AreInputs : FolderState → FolderState → List ℕ → Result (Unit {0}) LookStop → Type 0
-AreInputs old new name (Ok made) = Passes AcceptsInputs old.files name made × Asks old new name
-AreInputs old new name (Err (Refused r)) = Fails BreaksInputs 2 old.files name (violation_of r) × Asks old new name
+AreInputs old new name (Ok made) = Passes AcceptsInputs inputs_slot old.files name made × Asks old new name
+AreInputs old new name (Err (Refused r)) = Fails BreaksInputs inputs_slot old.files name (violation_of r) × Asks old new name
 AreInputs old new name (Err Fault) = AsksInVain old new name
 AreInputs old new name (Err Memory) = MayAsk old new name
 
+abbrev pub IsParsed : List ℕ → Result Program LookStop → Type 0
+IsParsed bytes (Ok p) = AcceptsC bytes (whole_of p)
+IsParsed bytes (Err (Refused r)) = BreaksC bytes (violation_of r)
+IsParsed bytes (Err Fault) = ⊥
+IsParsed bytes (Err Memory) = Unit {0}
+
+abbrev pub IsProgram : FolderState → FolderState → List ℕ → Result Program LookStop → Type 0
+IsProgram old new name (Ok p) = Passes AcceptsC c_slot old.files name (whole_of p) × Asks old new name
+IsProgram old new name (Err (Refused r)) = Fails BreaksC c_slot old.files name (violation_of r) × Asks old new name
+IsProgram old new name (Err Fault) = AsksInVain old new name
+IsProgram old new name (Err Memory) = MayAsk old new name
+
+abbrev pub AreColumns : FolderState → FolderState → List ℕ → Result (List (List ℤ)) LookStop → Type 0
+AreColumns old new name (Ok columns) = Passes AcceptsColumns inputs_slot old.files name columns × Asks old new name
+AreColumns old new name (Err (Refused r)) = Fails BreaksColumns inputs_slot old.files name (violation_of r) × Asks old new name
+AreColumns old new name (Err Fault) = AsksInVain old new name
+AreColumns old new name (Err Memory) = MayAsk old new name
+
 -- a refusal of a file that is too long, memory aside
-abbrev pub IsTooLong : ℤ → LookStop → Type 0
-IsTooLong which (Refused r) = violation_of r ≡ record { rule = FileTooLong; place = []; detail = which ∷ pos longest ∷ [] }
-IsTooLong which Fault = ⊥
-IsTooLong which Memory = Unit {0}
+abbrev pub IsTooLong : Slot → LookStop → Type 0
+IsTooLong slot (Refused r) = violation_of r ≡ too_long slot
+IsTooLong slot Fault = ⊥
+IsTooLong slot Memory = Unit {0}
+
+-- a refusal of a byte of the C file, memory aside
+abbrev pub IsNotC : ℕ → LookStop → Type 0
+IsNotC byte (Refused r) = violation_of r ≡ not_c byte
+IsNotC byte Fault = ⊥
+IsNotC byte Memory = Unit {0}

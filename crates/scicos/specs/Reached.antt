@@ -3,21 +3,29 @@ use Rattle.std.specs.Prelude.{ℕ, ◌≡◌, ◌⊎◌, ◌++◌, List, [], ◌
 use Rattle.sci_io.specs.Causes.{Rose}
 use Rattle.sci_io.specs.Files.{Files, FolderState}
 use Rattle.sci_pending.specs.Timer.{EventDelay}
-use Rattle.sci_verdict.specs.Verdict.{Accepts}
-use Rattle.scicos.specs.Words.{Request, simulate, host, Spells, NoCommand, files_of}
+use Rattle.sci_verdict.specs.Verdict.{AcceptsTimers}
+use Rattle.c_ast.specs.Syntax.{Whole}
+use Rattle.scicos.specs.Program.{AcceptsC}
+use Rattle.scicos.specs.Words.{Request, report, simulate, run_c, host, Spells, NoCommand, files_of}
 use Rattle.scicos.specs.Answer.{Answer, usage, read_fault, no_memory}
-use Rattle.scicos.specs.Due.{DueOf, Passes}
+use Rattle.scicos.specs.Due.{DueOf, Passes, diagram_slot, c_slot}
 
 -- a command that reads files
 abbrev pub ReadsFiles : Request → Type 0
+ReadsFiles (report r d) = Unit {0}
 ReadsFiles (simulate d i until limit) = Unit {0}
+ReadsFiles (run_c c i until limit) = Unit {0}
 ReadsFiles host = ⊥
 
 -- a later file is asked for only where the earlier one passes its rules
 abbrev pub EarlierPass : Files → Request → List (List ℕ) → Type 0
+EarlierPass files (report r d) names = Unit {0}
 EarlierPass files (simulate d i until limit) [] = Unit {0}
 EarlierPass files (simulate d i until limit) (n ∷ []) = Unit {0}
-EarlierPass files (simulate d i until limit) (n ∷ m ∷ names) = (timers : List EventDelay) × Passes Accepts files d timers
+EarlierPass files (simulate d i until limit) (n ∷ m ∷ names) = (timers : List EventDelay) × Passes AcceptsTimers diagram_slot files d timers
+EarlierPass files (run_c c i until limit) [] = Unit {0}
+EarlierPass files (run_c c i until limit) (n ∷ []) = Unit {0}
+EarlierPass files (run_c c i until limit) (n ∷ m ∷ names) = (program : Whole) × Passes AcceptsC c_slot files c program
 EarlierPass files host names = Unit {0}
 
 -- the names asked for are a front of the files of the command

@@ -1,22 +1,41 @@
 -- The words of the command line.
 use Rattle.std.specs.Prelude.{ℕ, ◌≡◌, ◌≤◌, ◌^◌, List, [], ◌∷◌, Option, Some, None, codes, decimal}
+use Rattle.scicos.specs.declared.command.Report.{Report}
+use Rattle.scicos.specs.declared.command.Report.TheVariants.{Check, Map, Schedule}
+use Rattle.scicos.specs.declared.words.Runs.{Runs}
+use Rattle.scicos.specs.declared.words.Runs.TheVariants.{Simulate as Simulating, RunC as RunningC}
 use Rattle.scicos.specs.declared.command.Command.{Command}
-use Rattle.scicos.specs.declared.command.Command.TheVariants.{Simulate, Host}
+use Rattle.scicos.specs.declared.command.Command.TheVariants.{Report as Tell, Simulate, RunC, Host}
 
--- what a command line asks for: to simulate the diagram of a file, with an input file, the last date and the most events; or
--- the host file
+-- what a command line asks for: to tell something of the diagram of a file; to simulate it, with an input file, the last date and the
+-- most events; to run a C file by the meaning of the subset, with the same; or the host file
 pub data Request : Type 0 where
+  report : Report → List ℕ → Request
   simulate : List ℕ → List ℕ → ℕ → ℕ → Request
+  run_c : List ℕ → List ℕ → ℕ → ℕ → Request
   host : Request
+
+abbrev pub report_word : Report → List ℕ
+report_word Check = codes "check"
+report_word Map = codes "map"
+report_word Schedule = codes "schedule"
+
+abbrev pub run_word : Runs → List ℕ
+run_word Simulating = codes "simulate"
+run_word RunningC = codes "crun"
 
 -- the words that spell a command; a number has its decimal digits alone
 abbrev pub spelled : Request → List (List ℕ)
+spelled (report r d) = report_word r ∷ d ∷ []
 spelled (simulate d i until limit) = codes "simulate" ∷ d ∷ i ∷ decimal until ∷ decimal limit ∷ []
+spelled (run_c c i until limit) = codes "crun" ∷ c ∷ i ∷ decimal until ∷ decimal limit ∷ []
 spelled host = codes "host" ∷ []
 
 -- its numbers are in their bounds
 abbrev pub InBounds : Request → Type 0
+InBounds (report r d) = Unit {0}
 InBounds (simulate d i until limit) = (until ≤ 2 ^ 62) × (limit ≤ 1000000)
+InBounds (run_c c i until limit) = (until ≤ 2 ^ 62) × (limit ≤ 1000000)
 InBounds host = Unit {0}
 
 -- these words are this command
@@ -29,12 +48,16 @@ NoCommand words = (c : Request) → Spells words c → ⊥
 
 -- the files that a command names, in the order in which they are read
 abbrev pub files_of : Request → List (List ℕ)
+files_of (report r d) = d ∷ []
 files_of (simulate d i until limit) = d ∷ i ∷ []
+files_of (run_c c i until limit) = c ∷ i ∷ []
 files_of host = []
 
 -- what the code's command asks for
 abbrev pub asked_by : Command → Request
+asked_by (Tell r d) = report r d.now
 asked_by (Simulate d i until limit) = simulate d.now i.now until limit
+asked_by (RunC c i until limit) = run_c c.now i.now until limit
 asked_by Host = host
 
 abbrev pub Parses : List (List ℕ) → Option Command → Type 0

@@ -1,8 +1,23 @@
+/// What is told of a diagram.
+#[derive(Clone, Copy, Debug, Drop, PartialEq, Eq)]
+pub enum Report {
+    /// How many blocks, sources, schedule entries and guards it has.
+    Check,
+    /// Its blocks, with their places, kinds, and the types and sizes of their outputs.
+    Map,
+    /// Its static schedules.
+    Schedule,
+}
+
 /// What the words ask for.
 #[derive(Clone, Copy)]
 pub enum Command<'a> {
+    /// To tell this of a diagram's file.
+    Report(Report, &'a str),
     /// The diagram's file, the input file, the last date and the most events.
     Simulate(&'a str, &'a str, u64, u64),
+    /// The C file, the input file, the last date and the most events.
+    RunC(&'a str, &'a str, u64, u64),
     /// The host file.
     Host,
 }

@@ -1,18 +1,34 @@
-ghost use Rattle.std.specs.Prelude.{◌≡◌, ◌≤◌, ◌<◌, ◌^◌, length};
+ghost use Rattle.std.specs.Prelude.{◌≡◌, ◌≢◌, false, ◌≤◌, ◌<◌, ◌^◌, IsTrue, [], length, pos};
 ghost use Rattle.sci_base.specs.Plain.{violation_of};
 ghost use Rattle.sci_report.specs.Line.{refused_line};
 ghost use Rattle.sci_pending.specs.Run.{trace};
+ghost use Rattle.sci_io.specs.Taken.{Writes};
+ghost use Rattle.sci_sched.specs.Plain.{rows_of};
+ghost use Rattle.sci_sched.specs.Answer.{IsPlan};
+ghost use Rattle.sci_verdict.specs.Verdict.{plan_of};
 ghost use Rattle.sci_sim.specs.Running.{IsAtStart};
-ghost use Rattle.scicos.specs.Answer.{prints, write_fault_line, usage_line, read_fault_line, no_memory_line};
+ghost use Rattle.c_ast.specs.View.{whole_of};
+ghost use Rattle.c_mean.specs.Meaning.{meaning};
+ghost use Rattle.scicos.specs.declared.command.Report.TheVariants.{Check};
+ghost use Rattle.scicos.specs.Answer.{prints, report_text, write_fault_line, usage_line, read_fault_line, no_memory_line, undefined_line};
 ghost use Rattle.scicos.specs.Written.{Written};
-ghost use Rattle.scicos.specs.Deliver.{Gives, Said, Ran, Finished};
+ghost use Rattle.scicos.specs.Deliver.{Gives, Said, Ran, Finished, RanC, FinishedC, Delivers};
 ghost use Rattle.scicos.specs.Prepare.{answer_of, IsPrepared};
 
+use crate::command::Report;
 use crate::prepare::Prepared;
+use c_ast::Program;
+use c_mean::{CEnd, RunStop, run};
+use itoa::Buffer;
 use sci_base::Refusal;
-use sci_io::{Failed, Sink};
+use sci_inputs::Inputs;
+use sci_io::{Failed, Sink, put_all};
+use sci_map::write_map;
 use sci_report::put_refused;
+use sci_sched::write_plan;
 use sci_sim::{Ready, RunEnd};
+use sci_verdict::Checked;
+use std::alloc::Global;
 
 const USAGE: &str =
     "usage: scicos check D | map D | schedule D | simulate D I T N | ccode D | crun C I T N | host | bulk SEED SIZE\n";
@@ -110,6 +126,77 @@ fn print<O: Sink, E: Sink>(text: &str, out: &mut O, err: &mut E) -> u8
     }
 }
 
+fn put_counts<O: Sink>(checked: &Checked, out: &mut O) -> Result<(), Failed>
+    requires { IsPlan checked.now.net (rows_of checked.now.schedule) }
+    ensures { Writes (O.state out.old) (O.state out.new) (report_text Check (plan_of checked.now)) result }
+{
+    let mut blocks = Buffer::new();
+    let mut sources = Buffer::new();
+    let mut entries = Buffer::new();
+    let mut guards = Buffer::new();
+    put_all(
+        out,
+        &[
+            "ok ".as_bytes(),
+            blocks.format(checked.net.len()).as_bytes(),
+            " ".as_bytes(),
+            sources.format(checked.net.source_count()).as_bytes(),
+            " ".as_bytes(),
+            entries.format(checked.schedule.entry_count()).as_bytes(),
+            " ".as_bytes(),
+            guards.format(checked.schedule.guard_count()).as_bytes(),
+            "\n".as_bytes(),
+        ],
+    )
+}
+
+fn put_report<O: Sink>(report: Report, checked: &Checked, out: &mut O) -> Result<(), Failed>
+    requires { IsPlan checked.now.net (rows_of checked.now.schedule) }
+    ensures { Writes (O.state out.old) (O.state out.new) (report_text report (plan_of checked.now)) result }
+{
+    match report {
+        Report::Check => put_counts(checked, out),
+        Report::Map => write_map(&checked.net, out),
+        Report::Schedule => write_plan(&checked.net, &checked.schedule, out),
+    }
+}
+
+fn give_report<O: Sink>(report: Report, checked: &Checked, out: &mut O) -> Result<(), Failed>
+    requires { IsPlan checked.now.net (rows_of checked.now.schedule) }
+    ensures { Gives (O.state out.old) (O.state out.new) (report_text report (plan_of checked.now)) result }
+{
+    put_report(report, checked, out)?;
+    out.flush()
+}
+
+// Whether nothing is told: the map of a diagram without blocks.
+fn is_silent(report: Report, checked: &Checked) -> bool
+    requires { IsPlan checked.now.net (rows_of checked.now.schedule) }
+    ensures silent { IsTrue result → report_text report (plan_of checked.now) ≡ [] }
+    ensures loud { result ≡ false → report_text report (plan_of checked.now) ≢ [] }
+{
+    match report {
+        Report::Check => false,
+        Report::Map => checked.net.len() == 0,
+        Report::Schedule => false,
+    }
+}
+
+// Prints what is told of a diagram, or tells the failure of out.
+#[tactic(auto, using(crate::proofs::Giving::silent_written, crate::proofs::Giving::told_written, crate::proofs::Giving::told_cut))]
+fn tell<O: Sink, E: Sink>(report: Report, checked: &Checked, out: &mut O, err: &mut E) -> u8
+    requires { IsPlan checked.now.net (rows_of checked.now.schedule) }
+    ensures { Written (prints (report_text report (plan_of checked.now))) (O.state out.old) (O.state out.new) (E.state err.old) (E.state err.new) result }
+{
+    if is_silent(report, checked) {
+        return 0;
+    }
+    match give_report(report, checked, out) {
+        Ok(()) => 0,
+        Err(_) => say_write_fault(err),
+    }
+}
+
 fn finish<E: Sink>(ran: Result<RunEnd, Failed>, err: &mut E) -> u8
     ensures { Finished ran (E.state err.old) (E.state err.new) result }
 {
@@ -120,11 +207,74 @@ fn finish<E: Sink>(ran: Result<RunEnd, Failed>, err: &mut E) -> u8
     }
 }
 
+// Runs a C program to the end and gives the last byte on.
+fn print_run<O: Sink>(
+    alloc: Global,
+    program: &Program,
+    inputs: &Inputs,
+    until: u64,
+    limit: u64,
+    out: &mut O,
+) -> Result<CEnd, RunStop>
+    requires until { until ≤ 2 ^ 62 }
+    requires limit { limit ≤ 1000000 }
+    ensures { RanC (meaning (whole_of program.now) inputs.now (pos until) (pos limit)) (O.state out.old) (O.state out.new) result }
+{
+    let end = run(alloc, program, inputs, until, limit, out)?;
+    match out.flush() {
+        Ok(()) => Ok(end),
+        Err(_) => Err(RunStop::Failed),
+    }
+}
+
+fn put_undefined<E: Sink>(statement: u64, err: &mut E) -> Result<(), Failed>
+    ensures { Writes (E.state err.old) (E.state err.new) (undefined_line statement) result }
+{
+    let mut number = Buffer::new();
+    put_all(
+        err,
+        &[
+            "undefined at ".as_bytes(),
+            number.format(statement).as_bytes(),
+            "\n".as_bytes(),
+        ],
+    )
+}
+
+fn give_undefined<E: Sink>(statement: u64, err: &mut E) -> Result<(), Failed>
+    ensures { Gives (E.state err.old) (E.state err.new) (undefined_line statement) result }
+{
+    put_undefined(statement, err)?;
+    err.flush()
+}
+
+#[tactic(auto, using(crate::proofs::Giving::some_statement))]
+fn say_undefined<E: Sink>(statement: u64, err: &mut E) -> u8
+    ensures { Said 7 (undefined_line statement) (E.state err.old) (E.state err.new) result }
+{
+    match give_undefined(statement, err) {
+        Ok(()) => 7,
+        Err(Failed) => 4,
+    }
+}
+
+fn finish_run<E: Sink>(ran: Result<CEnd, RunStop>, err: &mut E) -> u8
+    ensures { FinishedC ran (E.state err.old) (E.state err.new) result }
+{
+    match ran {
+        Ok(CEnd::End) => 0,
+        Ok(CEnd::Stop) => 6,
+        Ok(CEnd::Undefined(statement)) => say_undefined(statement, err),
+        Err(RunStop::Failed) => say_write_fault(err),
+        Err(RunStop::Memory) => say_no_memory(err),
+    }
+}
+
 /// Writes a prepared command, and gives its status.
-#[tactic(auto, using(crate::proofs::Giving::said_written, crate::proofs::Giving::ran_written))]
-pub fn deliver<O: Sink, E: Sink>(prepared: Prepared, out: &mut O, err: &mut E) -> u8
+#[tactic(auto, using(crate::proofs::Giving::said_written, crate::proofs::Giving::ran_written, crate::proofs::Giving::c_written))]
+pub fn deliver<O: Sink, E: Sink>(alloc: Global, prepared: Prepared, out: &mut O, err: &mut E) -> u8
     requires { IsPrepared prepared }
-    ensures { Written (answer_of prepared) (O.state out.old) (O.state out.new) (E.state err.old) (E.state err.new) result }
+    ensures { Delivers prepared (O.state out.old) (O.state out.new) (E.state err.old) (E.state err.new) result }
 {
     match prepared {
         Prepared::Usage => say_usage(err),
@@ -132,9 +282,14 @@ pub fn deliver<O: Sink, E: Sink>(prepared: Prepared, out: &mut O, err: &mut E) -
         Prepared::ReadFault => say_read_fault(err),
         Prepared::Memory => say_no_memory(err),
         Prepared::Print(text) => print(text, out, err),
+        Prepared::Report(report, checked) => tell(report, &checked, out, err),
         Prepared::Simulate(ready, until, limit) => {
             let mut ready = ready;
             finish(print_trace(&mut ready, until, limit, out), err)
         }
+        Prepared::RunC(program, inputs, until, limit) => finish_run(
+            print_run(alloc, &program, &inputs, until, limit, out),
+            err,
+        ),
     }
 }

@@ -1,15 +1,21 @@
-ghost use Rattle.std.specs.Prelude.{◌≡◌, ◌↔◌, true};
+ghost use Rattle.std.specs.Prelude.{◌≡◌, ◌↔◌, ◌<◌, ◌≤◌, ◌^◌, true, length};
 ghost use Rattle.scicos.specs.Inputs.{HasNoColumns};
-ghost use Rattle.scicos.specs.Look.{IsFile, IsDiagram, AreInputs, IsTooLong};
+ghost use Rattle.scicos.specs.Look.{IsFile, IsDiagram, AreTimers, AreInputs, IsParsed, IsProgram, AreColumns, IsTooLong, IsNotC};
 
+use c_ast::Program;
+use c_read::{ParseStop, parse};
 use sci_base::{Refusal, Rule};
+use sci_inputs::{InputStop, Inputs, read_inputs};
 use sci_io::{Folder, ReadEnd};
 use sci_pending::TimerNet;
-use sci_verdict::{VerdictStop, timer_net};
+use sci_verdict::{Checked, VerdictStop, check, timer_net};
 use std::alloc::Global;
 
 /// The limit of a diagram's and an input file, in bytes.
 const LONGEST: usize = 16_777_216;
+
+/// The limit of a C file, in bytes.
+const LONGEST_C: usize = 67_108_864;
 
 /// Why a file's bytes don't come.
 #[derive(Clone, Copy, Debug, PartialEq, Eq)]
@@ -34,13 +40,19 @@ pub enum LookStop {
 }
 
 // The bytes of a file, which keep the limit.
-fn file<F: Folder>(alloc: Global, folder: &mut F, name: &str) -> Result<Vec<u8>, FileStop>
-    ensures file { IsFile (F.state folder.old) (F.state folder.new) name.now result }
+fn file<F: Folder>(
+    alloc: Global,
+    folder: &mut F,
+    name: &str,
+    limit: usize,
+) -> Result<Vec<u8>, FileStop>
+    requires { limit ≤ 67108864 }
+    ensures file { IsFile limit (F.state folder.old) (F.state folder.new) name.now result }
     ensures kept { (F.state folder.new).files ≡ (F.state folder.old).files }
 {
-    match folder.read(alloc, name, LONGEST) {
+    match folder.read(alloc, name, limit) {
         Ok(bytes) => {
-            if bytes.len() > LONGEST {
+            if bytes.len() > limit {
                 Err(FileStop::TooLong)
             } else {
                 Ok(bytes)
@@ -51,29 +63,49 @@ fn file<F: Folder>(alloc: Global, folder: &mut F, name: &str) -> Result<Vec<u8>,
     }
 }
 
-// The refusal of a file that is too long: the first or the second of the command.
-fn file_too_long(alloc: Global, which: i64) -> LookStop
-    ensures { IsTooLong which result }
+// The refusal of a file that is too long: the first or the second of the command, and its limit.
+fn file_too_long(alloc: Global, which: u32, limit: usize) -> LookStop
+    requires { limit ≤ 67108864 }
+    ensures { IsTooLong (record { which = which; longest = limit }) result }
 {
     let mut refusal = Refusal::of_the_whole(alloc, Rule::FileTooLong);
-    if refusal.detail.push(which).is_err() || refusal.detail.push(LONGEST as i64).is_err() {
+    if refusal.detail.push(i64::from(which)).is_err()
+        || refusal.detail.push(limit as i64).is_err()
+    {
         return LookStop::Memory;
     }
     LookStop::Refused(refusal)
 }
 
-/// The net of a diagram's file.
-pub fn diagram<F: Folder>(alloc: Global, folder: &mut F, name: &str) -> Result<TimerNet, LookStop>
+/// The net of a diagram's file with its schedules.
+pub fn diagram<F: Folder>(alloc: Global, folder: &mut F, name: &str) -> Result<Checked, LookStop>
     ensures diagram { IsDiagram (F.state folder.old) (F.state folder.new) name.now result }
     ensures kept { (F.state folder.new).files ≡ (F.state folder.old).files }
 {
-    match file(alloc, folder, name) {
+    match file(alloc, folder, name, LONGEST) {
+        Ok(bytes) => match check(alloc, &bytes) {
+            Ok(checked) => Ok(checked),
+            Err(VerdictStop::Refused(refusal)) => Err(LookStop::Refused(refusal)),
+            Err(VerdictStop::Memory) => Err(LookStop::Memory),
+        },
+        Err(FileStop::TooLong) => Err(file_too_long(alloc, 1, LONGEST)),
+        Err(FileStop::Failed) => Err(LookStop::Fault),
+        Err(FileStop::Memory) => Err(LookStop::Memory),
+    }
+}
+
+/// The timers of a diagram's file.
+pub fn timers<F: Folder>(alloc: Global, folder: &mut F, name: &str) -> Result<TimerNet, LookStop>
+    ensures timers { AreTimers (F.state folder.old) (F.state folder.new) name.now result }
+    ensures kept { (F.state folder.new).files ≡ (F.state folder.old).files }
+{
+    match file(alloc, folder, name, LONGEST) {
         Ok(bytes) => match timer_net(alloc, &bytes) {
             Ok(net) => Ok(net),
             Err(VerdictStop::Refused(refusal)) => Err(LookStop::Refused(refusal)),
             Err(VerdictStop::Memory) => Err(LookStop::Memory),
         },
-        Err(FileStop::TooLong) => Err(file_too_long(alloc, 1)),
+        Err(FileStop::TooLong) => Err(file_too_long(alloc, 1, LONGEST)),
         Err(FileStop::Failed) => Err(LookStop::Fault),
         Err(FileStop::Memory) => Err(LookStop::Memory),
     }
@@ -90,7 +122,7 @@ pub fn inputs<F: Folder>(alloc: Global, folder: &mut F, name: &str) -> Result<()
     ensures inputs { AreInputs (F.state folder.old) (F.state folder.new) name.now result }
     ensures kept { (F.state folder.new).files ≡ (F.state folder.old).files }
 {
-    match file(alloc, folder, name) {
+    match file(alloc, folder, name, LONGEST) {
         Ok(bytes) => {
             if has_no_columns(&bytes) {
                 Ok(())
@@ -98,7 +130,61 @@ pub fn inputs<F: Folder>(alloc: Global, folder: &mut F, name: &str) -> Result<()
                 Err(LookStop::Refused(Refusal::of_the_whole(alloc, Rule::Unbuilt)))
             }
         }
-        Err(FileStop::TooLong) => Err(file_too_long(alloc, 2)),
+        Err(FileStop::TooLong) => Err(file_too_long(alloc, 2, LONGEST)),
+        Err(FileStop::Failed) => Err(LookStop::Fault),
+        Err(FileStop::Memory) => Err(LookStop::Memory),
+    }
+}
+
+// The refusal of a C file, of which this byte is blamed.
+fn not_c(alloc: Global, byte: usize) -> LookStop
+    requires { byte < 2 ^ 63 }
+    ensures { IsNotC byte result }
+{
+    let mut refusal = Refusal::of_the_whole(alloc, Rule::NotC);
+    if refusal.detail.push(byte as i64).is_err() {
+        return LookStop::Memory;
+    }
+    LookStop::Refused(refusal)
+}
+
+// The program that a C file's bytes spell.
+fn program_of(alloc: Global, bytes: &[u8]) -> Result<Program, LookStop>
+    requires { length bytes.now ≤ 67108864 }
+    ensures { IsParsed bytes.now result }
+{
+    match parse(alloc, bytes) {
+        Ok(program) => Ok(program),
+        Err(ParseStop::NotC(byte)) => Err(not_c(alloc, byte)),
+        Err(ParseStop::Memory) => Err(LookStop::Memory),
+    }
+}
+
+/// The program of a C file.
+pub fn program<F: Folder>(alloc: Global, folder: &mut F, name: &str) -> Result<Program, LookStop>
+    ensures program { IsProgram (F.state folder.old) (F.state folder.new) name.now result }
+    ensures kept { (F.state folder.new).files ≡ (F.state folder.old).files }
+{
+    match file(alloc, folder, name, LONGEST_C) {
+        Ok(bytes) => program_of(alloc, &bytes),
+        Err(FileStop::TooLong) => Err(file_too_long(alloc, 1, LONGEST_C)),
+        Err(FileStop::Failed) => Err(LookStop::Fault),
+        Err(FileStop::Memory) => Err(LookStop::Memory),
+    }
+}
+
+/// The columns of an input file, of which none is needed.
+pub fn columns<F: Folder>(alloc: Global, folder: &mut F, name: &str) -> Result<Inputs, LookStop>
+    ensures columns { AreColumns (F.state folder.old) (F.state folder.new) name.now result }
+    ensures kept { (F.state folder.new).files ≡ (F.state folder.old).files }
+{
+    match file(alloc, folder, name, LONGEST) {
+        Ok(bytes) => match read_inputs(alloc, &bytes, &[]) {
+            Ok(inputs) => Ok(inputs),
+            Err(InputStop::Refused(refusal)) => Err(LookStop::Refused(refusal)),
+            Err(InputStop::Memory) => Err(LookStop::Memory),
+        },
+        Err(FileStop::TooLong) => Err(file_too_long(alloc, 2, LONGEST)),
         Err(FileStop::Failed) => Err(LookStop::Fault),
         Err(FileStop::Memory) => Err(LookStop::Memory),
     }

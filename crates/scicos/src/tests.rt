@@ -114,3 +114,58 @@ fn what_is_no_run_is_told(rt: HostRuntime) -> Result<(), Fail> {
     assert_eq!(rt; usage.asked, 0);
     Ok(())
 }
+
+#[test]
+fn a_diagram_is_told(rt: HostRuntime) -> Result<(), Fail> {
+    let alloc = rt.alloc();
+    let checked = run_line(alloc, "check d", CLOCK, "", Vec::new(alloc), 200)?;
+    assert_eq!(rt; checked.status, 0);
+    assert_eq!(rt; checked.out.taken(), "ok 1 2 1 0\n".as_bytes());
+    let mapped = run_line(alloc, "map d", CLOCK, "", Vec::new(alloc), 200)?;
+    assert_eq!(rt; mapped.out.taken(), "1 1 EVTDLY_c\n".as_bytes());
+    let planned = run_line(alloc, "schedule d", CLOCK, "", Vec::new(alloc), 200)?;
+    assert_eq!(rt;
+        planned.out.taken(),
+        "source start\nsource 1.1\n1 always\n".as_bytes()
+    );
+    assert_eq!(rt; planned.asked, 1);
+    Ok(())
+}
+
+// It tells its start, and then divides by 0.
+const DIVISION: &str = concat!(
+    "#include <stdint.h>\n",
+    "extern void sci_start(void);\n",
+    "extern void sci_event(int64_t a, int64_t b, int64_t c);\n",
+    "extern void sci_val(int64_t a, int64_t b, int64_t c, int64_t d);\n",
+    "extern void sci_end(int64_t a);\n",
+    "extern void sci_stop(int64_t a, int64_t b, int64_t c);\n",
+    "extern int64_t sci_more(int64_t a);\n",
+    "extern int64_t sci_input(int64_t a);\n",
+    "extern int64_t sci_until(void);\n",
+    "extern int64_t sci_limit(void);\n",
+    "void sci_main(void) {\n",
+    "  sci_start();\n",
+    "  sci_end((INT64_C(7) / INT64_C(0)));\n",
+    "}\n",
+);
+
+#[test]
+fn a_c_program_runs(rt: HostRuntime) -> Result<(), Fail> {
+    let alloc = rt.alloc();
+    let ran = run_line(
+        alloc,
+        "crun d i 10 10",
+        DIVISION,
+        "[]",
+        Vec::new(alloc),
+        200,
+    )?;
+    assert_eq!(rt; ran.status, 7);
+    assert_eq!(rt; ran.out.taken(), "start\n".as_bytes());
+    assert_eq!(rt; ran.err.taken(), "undefined at 2\n".as_bytes());
+    let refused = run_line(alloc, "crun i i 10 10", "", "[]", Vec::new(alloc), 200)?;
+    assert_eq!(rt; refused.status, 1);
+    assert_eq!(rt; refused.err.taken(), "refused 26 NotC at - 0\n".as_bytes());
+    Ok(())
+}

@@ -8,7 +8,7 @@ use std::alloc::Global;
 
 /// Does what the words ask for, and gives the status: 0 where it was done, 1 where a rule is broken, 2 where the words are
 /// no command, 3 where a file could not be read, 4 where out or err could not be written, 5 where memory lacked, 6 where
-/// the run stopped.
+/// the run stopped, 7 where a C program has no meaning.
 pub fn top<F: Folder, O: Sink, E: Sink>(
     alloc: Global,
     words: &[String],
@@ -20,5 +20,5 @@ pub fn top<F: Folder, O: Sink, E: Sink>(
     ensures kept { (F.state folder.new).files ≡ (F.state folder.old).files }
 {
     let prepared = prepare(alloc, words, folder);
-    deliver(prepared, out, err)
+    deliver(alloc, prepared, out, err)
 }

@@ -1,7 +1,9 @@
 ghost use Rattle.std.specs.Prelude.{◌≡◌, ◌≢◌, ◌≤◌, [], ◌∷◌, ℕ, decimal, map, string_bytes, IfSome, IfNone};
-ghost use Rattle.scicos.specs.Words.{Parses};
+ghost use Rattle.scicos.specs.declared.command.Report.{Report};
+ghost use Rattle.scicos.specs.declared.words.Runs.{Runs};
+ghost use Rattle.scicos.specs.Words.{Parses, report_word, run_word};
 
-use crate::command::Command;
+use crate::command::{Command, Report};
 use itoa::Buffer;
 
 /// The number up to this most that the text spells: decimal digits with no sign and no leading zero.
@@ -25,25 +27,60 @@ fn canonical(text: &str, most: u64) -> Option<u64>
     }
 }
 
+/// What is run on two files, the last date and the most events.
+#[derive(Clone, Copy, Debug, PartialEq, Eq)]
+pub enum Runs {
+    Simulate,
+    RunC,
+}
+
+fn runs_of(name: &str) -> Option<Runs>
+    ensures some { IfSome result (λ r. name.now ≡ run_word r) }
+    ensures none { IfNone result ((r : Runs) → name.now ≢ run_word r) }
+{
+    match name {
+        "simulate" => Some(Runs::Simulate),
+        "crun" => Some(Runs::RunC),
+        _ => None,
+    }
+}
+
+#[tactic(auto, using(crate::proofs::Spoken::no_run))]
 fn of_five<'a>(
     name: &str,
-    diagram: &'a str,
+    file: &'a str,
     inputs: &'a str,
     until: &str,
     limit: &str,
 ) -> Option<Command<'a>>
-    ensures { Parses (name.now ∷ diagram.now ∷ inputs.now ∷ until.now ∷ limit.now ∷ []) result }
+    ensures { Parses (name.now ∷ file.now ∷ inputs.now ∷ until.now ∷ limit.now ∷ []) result }
 {
-    if name != "simulate" {
-        return None;
+    let runs = runs_of(name)?;
+    let until = canonical(until, 1 << 62)?;
+    let limit = canonical(limit, 1_000_000)?;
+    Some(match runs {
+        Runs::Simulate => Command::Simulate(file, inputs, until, limit),
+        Runs::RunC => Command::RunC(file, inputs, until, limit),
+    })
+}
+
+fn report_of(name: &str) -> Option<Report>
+    ensures some { IfSome result (λ r. name.now ≡ report_word r) }
+    ensures none { IfNone result ((r : Report) → name.now ≢ report_word r) }
+{
+    match name {
+        "check" => Some(Report::Check),
+        "map" => Some(Report::Map),
+        "schedule" => Some(Report::Schedule),
+        _ => None,
     }
-    match canonical(until, 1 << 62) {
-        None => None,
-        Some(until) => match canonical(limit, 1_000_000) {
-            None => None,
-            Some(limit) => Some(Command::Simulate(diagram, inputs, until, limit)),
-        },
-    }
+}
+
+fn of_two<'a>(name: &str, diagram: &'a str) -> Option<Command<'a>>
+    ensures { Parses (name.now ∷ diagram.now ∷ []) result }
+{
+    let report = report_of(name)?;
+    Some(Command::Report(report, diagram))
 }
 
 fn of_one<'a>(name: &str) -> Option<Command<'a>>
@@ -62,6 +99,7 @@ pub fn parse(words: &[String]) -> Option<Command<'_>>
 {
     match words {
         [name] => of_one(name.as_str()),
+        [name, diagram] => of_two(name.as_str(), diagram.as_str()),
         [name, diagram, inputs, until, limit] => of_five(
             name.as_str(),
             diagram.as_str(),

@@ -7,19 +7,19 @@ use Rattle.c_mean.specs.declared.machine.Routine.{Routine}
 use Rattle.c_mean.specs.declared.start.CEnd.{CEnd}
 use Rattle.c_mean.specs.declared.start.RunStop.{RunStop}
 use Rattle.c_mean.specs.Meaning.{Ran, first_slot, numbered, behind_functions, meaning}
-use Rattle.c_mean.specs.Running.{slots, left_of, numbered_of, world, Runs}
-use Rattle.c_mean.specs.Answering.{Answers, values_of}
+use Rattle.c_mean.specs.Running.{left_of, numbered_of, world, Runs}
+use Rattle.c_mean.specs.Answering.{Answers}
 use Rattle.c_mean.proofs.Wholes.{answers, run_is}
 use Rattle.c_mean.proofs.start.run.Goals as goal
 
 pub returns : goal.returns
 returns g c =
-    let functions = ap (λ (l : List Routine). map numbered_of l) c.deref-4.ensures.value ∙ c.in_ok-routines.ensures ∙ ap (λ (l : List Func). numbered 1 (map function_of l) []) c.deref-2.ensures.value in
+    let functions = ap (λ (l : List Routine). map numbered_of l) c.in_ok-functions.ensures ∙ c.in_ok-routines_of.ensures ∙ ap (λ (l : List Func). numbered 1 (map function_of l) []) c.deref-2.ensures.value in
     let number = c.number_behind-number.ensures ∙ ap (λ (l : List Func). behind_functions 1 (map function_of l)) c.deref-3.ensures.value in
-    let memory = ap slots c.deref_mut.ensures.value ∙ c.in_ok-memory.ensures ∙ ap (λ (l : List Decl). map first_slot (map declared_of l)) c.deref.ensures.value in
-    let left = ap (λ (l : List Column). map left_of l) c.deref_mut-2.ensures.value ∙ c.in_ok-left.ensures in
-    let whole = meaning (whole_of c.args.p.now) (values_of c.args.columns.now) (pos c.args.until) (pos c.args.limit) in
+    let memory = c.in_ok-memory.ensures ∙ ap (λ (l : List Decl). map first_slot (map declared_of l)) c.deref.ensures.value in
+    let left = ap (λ (l : List Column). map left_of l) c.deref_mut.ensures.value ∙ c.in_ok-left.ensures ∙ c.columns.ensures in
+    let whole = meaning (whole_of c.args.p.now) c.args.ins.now (pos c.args.until) (pos c.args.limit) in
     let last = world c.block.new.memory c.block.new.columns in
-    let same = run_is c.args.p.now (values_of c.args.columns.now) (pos c.args.until) (pos c.args.limit) c.limits_of-limits.result c.deref-4.result.now c.number_behind-number.result c.deref-5.result.now c.deref_mut.result.now c.deref_mut-2.result.now c.limits_of-limits.ensures.last c.limits_of-limits.ensures.most functions number c.deref-5.ensures.value memory left in
+    let same = run_is c.args.p.now c.args.ins.now (pos c.args.until) (pos c.args.limit) c.limits_of-limits.result c.in_ok-functions.functions.routines.items c.number_behind-number.result c.deref-4.result.now c.in_ok-memory.memory c.deref_mut.result.now c.limits_of-limits.ensures.last c.limits_of-limits.ensures.most functions number c.deref-4.ensures.value memory left in
     subst (λ (r : Result CEnd RunStop). Answers (g.S.Sink.state c.args.out.now) (g.S.Sink.state c.block.new.out) r whole) (sym c.answer.ensures)
     (answers c.block.result last whole (subst (λ (r : Ran). Runs (g.S.Sink.state c.args.out.now) (g.S.Sink.state c.block.new.out) c.block.result last r) same c.block.ensures))

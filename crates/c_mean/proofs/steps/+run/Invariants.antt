@@ -2,7 +2,7 @@ use Rattle.std.proofs.Common.{drop, ◌-◌, ◌+◌, ◌*◌}
 use Rattle.c_ast.specs.View.{statements_of}
 use Rattle.c_ast.proofs.Sizes.{size_of, sizes_of}
 use Rattle.c_mean.specs.Meaning.{run_block, one_turn, turns}
-use Rattle.c_mean.specs.Running.{world, surroundings}
+use Rattle.c_mean.specs.Running.{world, earlier, surroundings}
 use Rattle.c_mean.proofs.Progress.{Progress}
 use Rattle.c_mean.proofs.Weights.{weight_of}
 use Rattle.c_mean.proofs.steps.+run.Given as goal
@@ -10,26 +10,26 @@ use Rattle.c_mean.proofs.steps.+run.Given as goal
 abbrev pub invariant-block-loop-s : goal.invariant-block-loop-s
 invariant-block-loop-s g l =
     Progress (g.S.Sink.state l.fn.out) (g.S.Sink.state l.out)
-    (run_block (surroundings l.fn.earlier l.fn.limits) l.fn.number (statements_of l.list) (world l.fn.memory l.fn.columns))
-    (run_block (surroundings l.fn.earlier l.fn.limits) l.here (statements_of (drop l.s-index l.list)) (world l.memory l.columns))
+    (run_block (surroundings (earlier l.fn.functions l.fn.from) l.fn.limits) l.fn.number (statements_of l.list) (world l.fn.memory l.fn.columns))
+    (run_block (surroundings (earlier l.fn.functions l.fn.from) l.fn.limits) l.here (statements_of (drop l.s-index l.list)) (world l.memory l.columns))
 
 abbrev pub invariant-repeat-loop : goal.invariant-repeat-loop
 invariant-repeat-loop g l =
     Progress (g.S.Sink.state l.fn.out) (g.S.Sink.state l.out)
-    (turns l.times (one_turn (surroundings l.fn.earlier l.fn.limits) l.fn.number l.fn.x (statements_of l.body)) (world l.fn.memory l.fn.columns))
-    (turns (l.times - l.counter) (one_turn (surroundings l.fn.earlier l.fn.limits) l.fn.number l.fn.x (statements_of l.body)) (world l.memory l.columns))
+    (turns l.times (one_turn (surroundings (earlier l.fn.functions l.fn.from) l.fn.limits) l.fn.number l.fn.x (statements_of l.body)) (world l.fn.memory l.fn.columns))
+    (turns (l.times - l.counter) (one_turn (surroundings (earlier l.fn.functions l.fn.from) l.fn.limits) l.fn.number l.fn.x (statements_of l.body)) (world l.memory l.columns))
 
 abbrev pub decreases-statement : goal.decreases-statement
-decreases-statement g l = weight_of l.earlier.now + 4 * size_of l.s.now
+decreases-statement g l = weight_of (earlier l.functions.now l.from) + 4 * size_of l.s.now
 
 abbrev pub decreases-block : goal.decreases-block
-decreases-block g l = weight_of l.earlier.now + 4 * sizes_of l.list.now + 1
+decreases-block g l = weight_of (earlier l.functions.now l.from) + 4 * sizes_of l.list.now + 1
 
 abbrev pub decreases-turn : goal.decreases-turn
-decreases-turn g l = weight_of l.earlier.now + 4 * sizes_of l.body.now + 2
+decreases-turn g l = weight_of (earlier l.functions.now l.from) + 4 * sizes_of l.body.now + 2
 
 abbrev pub decreases-repeat : goal.decreases-repeat
-decreases-repeat g l = weight_of l.earlier.now + 4 * sizes_of l.body.now + 3
+decreases-repeat g l = weight_of (earlier l.functions.now l.from) + 4 * sizes_of l.body.now + 3
 
 abbrev pub decreases-call : goal.decreases-call
-decreases-call g l = weight_of l.earlier.now
+decreases-call g l = weight_of (earlier l.functions.now l.from)

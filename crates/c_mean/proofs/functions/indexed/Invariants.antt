@@ -1,0 +1,9 @@
+use Rattle.std.proofs.Common.{◌≡◌, take}
+use Rattle.std.specs.HashMap as hash
+use Rattle.c_ast.specs.declared.Name.{Name}
+use Rattle.c_mean.specs.Meaning.{same_name}
+use Rattle.c_mean.specs.Calls.{latest}
+use Rattle.c_mean.proofs.functions.indexed.Given as goal
+
+abbrev pub invariant-loop-k : goal.invariant-loop-k
+invariant-loop-k l = (f : Name) → hash.get same_name l.index f ≡ latest f 0 (take l.k l.routines.items)

@@ -1,0 +1,65 @@
+// The functions of a program, found by their names.
+
+ghost use Rattle.std.specs.Prelude.{◌≡◌, ◌<◌, IfSome, IfOk, length};
+ghost use Rattle.std.specs.HashMap as hash;
+ghost use Rattle.c_ast.specs.declared.Name.{Name};
+ghost use Rattle.c_mean.specs.Meaning.{same_name};
+ghost use Rattle.c_mean.specs.Calls.{latest};
+
+use crate::machine::Routine;
+use crate::memory::enter;
+use c_ast::Name;
+use std::alloc::{AllocError, Global};
+use std::collections::HashMap;
+
+/// Functions, the latest first, and at each name the place of the first of this name.
+#[derive(Drop)]
+pub struct Functions<'a> {
+    pub routines: Vec<Routine<'a>>,
+    pub index: HashMap<Name, usize>,
+    ghost found: { (f : Name) → hash.get same_name index f ≡ latest f 0 routines.items },
+}
+
+pub fn indexed<'a>(alloc: Global, routines: Vec<Routine<'a>>) -> Result<Functions<'a>, AllocError>
+    ensures { IfOk result (λ v. v.routines.items ≡ routines.entry.items) }
+{
+    let mut index = HashMap::new(alloc);
+    for k in 0..routines.len() {
+        enter(&mut index, routines[k].name, k)?;
+    }
+    Ok(Functions { routines, index })
+}
+
+fn same(x: Name, f: Name) -> bool
+    ensures { result ≡ same_name x f }
+{
+    x.letter == f.letter && x.number == f.number
+}
+
+/// Looks at each function from this place on.
+fn search(routines: &[Routine<'_>], from: usize, f: Name) -> Option<usize>
+    ensures value { result ≡ latest f from routines.now }
+    ensures within { IfSome result (λ k. k < length routines.now) }
+{
+    for k in from..routines.len() {
+        if same(routines[k].name, f) {
+            return Some(k);
+        }
+    }
+    None
+}
+
+/// Where the first function of this name stands from this place on. Each is looked at only where an earlier place has the name too.
+pub fn find(functions: &Functions<'_>, from: usize, f: Name) -> Option<usize>
+    ensures value { result ≡ latest f from functions.now.routines.items }
+    ensures within { IfSome result (λ k. k < length functions.now.routines.items) }
+{
+    match functions.index.get(&f).copied() {
+        None => None,
+        Some(first) => if first >= from {
+            Some(first)
+        } else {
+            search(&functions.routines, from, f)
+        },
+    }
+}

@@ -1,0 +1,63 @@
+//! Reads a whole program of the C subset, or blames the byte where the text stops being one.
+#![tactic(auto)]
+
+pub mod laws;
+mod names;
+mod reader;
+#[cfg(test)]
+mod tests;
+
+ghost use Rattle.std.specs.Prelude.{◌≡◌, ℕ, IfOk};
+ghost use Rattle.c_ast.specs.View.{whole_of};
+ghost use Rattle.c_ast.specs.Events.{program_events};
+ghost use Rattle.c_ast.specs.Rules.{blamed_event};
+ghost use Rattle.c_ast.specs.Syntax.{Whole};
+ghost use Rattle.c_read.specs.Answers.{Answers, IsAccepted, IsRefused, Accepts, Blames};
+
+use c_ast::events::program;
+use c_ast::{Program, first_fault};
+use reader::read;
+use std::alloc::{AllocError, Global};
+
+/// Why a text is no program.
+#[derive(Debug, PartialEq, Eq, Drop)]
+pub enum ParseStop {
+    /// This byte is blamed, by how many bytes stand before it, from 0 to the length of the text: where no program within the bounds
+    /// spells the text, the first byte of the first line that doesn't go on as some program; where one does, the first byte of the
+    /// first name that the static rules blame.
+    NotC(usize),
+    Memory,
+}
+
+impl From<AllocError> for ParseStop {
+    ghost use Rattle.c_read.specs.declared.ParseStop.TheVariants.{Memory};
+
+    ghost from_gives = { λ _ e. e ≡ Memory };
+
+    fn from(_e: AllocError) -> ParseStop {
+        ParseStop::Memory
+    }
+}
+
+/// The event by which the static rules blame a program first.
+fn fault(alloc: Global, p: &Program) -> Result<Option<usize>, AllocError>
+    ensures { IfOk result (λ found. found ≡ blamed_event (program_events (whole_of p.now))) }
+{
+    let events = program(alloc, p)?;
+    first_fault(alloc, &events)
+}
+
+/// The program that the text spells, exactly where one within the bounds does and keeps the static rules; else the byte that is blamed.
+pub fn parse(alloc: Global, bytes: &[u8]) -> Result<Program, ParseStop>
+    ensures answer { Answers bytes.now result }
+
+    // Each text for which a program or a byte is due gets that answer, and no other.
+    ensures program { (p : Whole) → IsAccepted bytes.now p → Accepts result p }
+    ensures byte { (n : ℕ) → IsRefused bytes.now n → Blames result n }
+{
+    let read = read(alloc, bytes)?;
+    match fault(alloc, &read.program)? {
+        None => Ok(read.program),
+        Some(event) => Err(ParseStop::NotC(read.places[event])),
+    }
+}

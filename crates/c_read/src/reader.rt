@@ -1,0 +1,145 @@
+// The lines of a text, one by one.
+
+ghost use Rattle.std.specs.Prelude.{◌≡◌, ◌+◌, ◌<◌, ◌^◌, ◌++◌, [], false, length, IfSome, IfNone, IfOk, IfErr};
+ghost use Rattle.std.specs.List.{position};
+ghost use Rattle.c_ast.specs.View.{whole_of};
+ghost use Rattle.c_ast.specs.Syntax.{Whole};
+ghost use Rattle.c_parse.specs.Reading.{Gives};
+ghost use Rattle.c_parse.specs.LineReading.{row_at};
+ghost use Rattle.c_parse.specs.Machine as machine;
+ghost use Rattle.c_parse.specs.MachineView.{state_of};
+ghost use Rattle.c_parse.specs.Blame.{has_lf, with_lf};
+ghost use Rattle.c_read.specs.Lines.{is_lf, row_led, read_places, next_places, blame_of, Reads};
+
+use crate::{ParseStop, names};
+use c_ast::Program;
+use c_parse::line::row;
+use c_parse::parser::{Parser, begin, heading, step};
+use c_parse::stop::Stop;
+use std::alloc::Global;
+
+/// What was read so far, and the first byte of each of its names.
+#[derive(Drop)]
+pub struct Reader {
+    pub parser: Parser,
+    pub places: Vec<usize>,
+}
+
+fn line_end(bytes: &[u8]) -> Option<usize>
+    ensures { result ≡ position is_lf bytes.now }
+{
+    bytes.iter().position(|byte| *byte == b'\n')
+}
+
+/// The first line, without its LF, and what stands behind it.
+#[tactic(auto, using(crate::proofs::Ends::line_within, crate::proofs::Ends::line_clear, crate::proofs::Ends::line_split, crate::proofs::Ends::no_line))]
+fn split_line(bytes: &[u8]) -> Option<(&[u8], &[u8])>
+    ensures clear { IfSome result (λ x. has_lf x.0.now ≡ false) }
+    ensures split { IfSome result (λ x. bytes.now ≡ with_lf x.0.now ++ x.1.now) }
+    ensures none { IfNone result (has_lf bytes.now ≡ false) }
+{
+    let end = line_end(bytes)?;
+    Some((&bytes[..end], &bytes[end + 1..]))
+}
+
+/// A line behind the header that begins at this byte.
+fn pass_row(
+    alloc: Global,
+    parser: Parser,
+    mut places: Vec<usize>,
+    at: usize,
+    line: &[u8],
+) -> Result<Reader, Stop>
+    requires { at + length line.now < 2 ^ 64 }
+    ensures passes { Gives (λ r. state_of r.parser) result (row_led line.now (state_of parser)) }
+    ensures noted { IfOk result (λ r. r.places.items ≡ places.items ++ read_places at (row_at line.now)) }
+{
+    let row = row(alloc, line)?;
+    names::row(&mut places, at, &row)?;
+    let parser = step(alloc, row, parser)?;
+    Ok(Reader { parser, places })
+}
+
+/// A line that begins at this byte, without its LF.
+fn pass(alloc: Global, reader: Reader, at: usize, line: &[u8]) -> Result<Reader, Stop>
+    requires { at + length line.now < 2 ^ 64 }
+    ensures passes { Gives (λ r. state_of r.parser) result (machine.pass line.now (state_of reader.parser)) }
+    ensures noted { IfOk result (λ r. r.places.items ≡ reader.places.items ++ next_places (state_of reader.parser) at line.now) }
+{
+    let Reader { parser, places } = reader;
+    match parser {
+        Parser::Heading(text) => {
+            let parser = heading(alloc, text, line)?;
+            Ok(Reader { parser, places })
+        }
+        Parser::Outside(decls, funcs) => {
+            pass_row(alloc, Parser::Outside(decls, funcs), places, at, line)
+        }
+        Parser::Body(decls, funcs, owner, stack) => {
+            pass_row(
+                alloc,
+                Parser::Body(decls, funcs, owner, stack),
+                places,
+                at,
+                line,
+            )
+        }
+        Parser::Over(_) => Err(Stop::Other),
+    }
+}
+
+fn blame(stop: Stop, at: usize) -> ParseStop
+    ensures { result ≡ blame_of stop at }
+{
+    match stop {
+        Stop::Memory => ParseStop::Memory,
+        Stop::Other => ParseStop::NotC(at),
+    }
+}
+
+/// A program and the first byte of each of its names, in the order of its events.
+#[derive(Drop)]
+pub struct Placed {
+    pub program: Program,
+    pub places: Vec<usize>,
+}
+
+/// What was read, where nothing is missing and nothing is left.
+fn finish(reader: Reader, at: usize, rest: &[u8]) -> Result<Placed, ParseStop>
+    ensures none { IfOk result (λ x. rest.now ≡ []) }
+    ensures over { IfOk result (λ x. state_of reader.parser ≡ machine.over (whole_of x.program)) }
+    ensures places { IfOk result (λ x. x.places.items ≡ reader.places.items) }
+    ensures blamed { IfErr result (λ e. e ≡ ParseStop.NotC at) }
+    ensures missing { IfErr result (λ e. (p : Whole) → rest.now ≡ [] → state_of reader.parser ≡ machine.over p → ⊥) }
+{
+    let Reader { parser, places } = reader;
+    if !rest.is_empty() {
+        return Err(ParseStop::NotC(at));
+    }
+    match parser {
+        Parser::Over(program) => Ok(Placed { program, places }),
+        Parser::Heading(_) => Err(ParseStop::NotC(at)),
+        Parser::Outside(_, _) => Err(ParseStop::NotC(at)),
+        Parser::Body(_, _, _, _) => Err(ParseStop::NotC(at)),
+    }
+}
+
+/// Reads all lines of a text.
+pub fn read(alloc: Global, bytes: &[u8]) -> Result<Placed, ParseStop>
+    ensures { Reads bytes.now result }
+{
+    let mut reader = Reader {
+        parser: begin(),
+        places: Vec::new(alloc),
+    };
+    let mut rest = bytes;
+    while let Some((line, more)) = split_line(rest) {
+        let at = bytes.len() - rest.len();
+        reader = match pass(alloc, reader, at, line) {
+            Ok(reader) => reader,
+            Err(stop) => return Err(blame(stop, at)),
+        };
+        rest = more;
+    }
+    finish(reader, bytes.len() - rest.len(), rest)
+}

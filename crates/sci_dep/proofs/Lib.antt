@@ -1,0 +1,3 @@
+pub mod Waited
+pub mod Marked
+pub mod Tabled

@@ -1,0 +1,103 @@
+// What each block waits for, whatever the source is.
+ghost use Rattle.std.specs.Prelude.{◌≡◌, ◌≤◌, [], length, IfOk, OnOk};
+ghost use Rattle.sci_net.specs.Parts.{numbered, spec_of};
+ghost use Rattle.sci_reaction.specs.Links.{SuppliesThrough};
+ghost use Rattle.sci_inherit.specs.Origins.{AreOrigins};
+ghost use Rattle.sci_dep.specs.Tables.{AreWaits};
+ghost use Rattle.sci_dep.specs.Building.{Puts, SuppliesBelow, AreBlocksOf, IsWaitsOf};
+
+use sci_inherit::Reach;
+use sci_net::{Feed, Net};
+use std::alloc::{AllocError, Global};
+use std::marker::Model;
+
+/// By block, the blocks that it waits for, whatever the source is: the source blocks of its inputs with feedthrough, and the synchronous
+/// blocks with a branch that reaches it.
+#[derive(Drop)]
+pub struct Waits {
+    lists: Vec<Vec<u32>>,
+}
+
+impl Model for Waits {
+    ghost use Rattle.std.specs.Prelude.{List, ℕ};
+    ghost use Rattle.sci_walk.specs.Lists.{plain};
+
+    ghost Value = { List (List ℕ) };
+
+    ghost view = { λ w. plain w.lists.items };
+}
+
+impl Waits {
+    /// The blocks that a block waits for, by number, without repeats.
+    pub fn of(&self, block: u32) -> &[u32]
+        requires least { 1 ≤ block }
+        requires most { block ≤ length self.now }
+        ensures { result.now ≡ numbered [] self.now block }
+    {
+        self.lists[block as usize - 1].as_slice()
+    }
+}
+
+// Puts the source blocks of a block's inputs.
+fn push_sources(blocks: &mut Vec<u32>, net: &Net, block: u32) -> Result<(), AllocError>
+    requires least { 1 ≤ block }
+    requires most { block ≤ length net.now.specs }
+    ensures { OnOk result (Puts (SuppliesBelow net.now block (length (spec_of net.now block).ins)) blocks.old.items blocks.new.items) }
+{
+    net.well_formed();
+    for at in 0..net.spec(block).ins.len() {
+        let wire = net.wire(block, at as u32 + 1);
+        blocks.push(wire.block)?;
+    }
+    Ok(())
+}
+
+// The same of a block with feedthrough.
+fn push_through(blocks: &mut Vec<u32>, net: &Net, block: u32) -> Result<(), AllocError>
+    requires least { 1 ≤ block }
+    requires most { block ≤ length net.now.specs }
+    ensures { OnOk result (Puts (λ b. SuppliesThrough net.now b block) blocks.old.items blocks.new.items) }
+{
+    if net.spec(block).feed {
+        push_sources(blocks, net, block)
+    } else {
+        Ok(())
+    }
+}
+
+// The blocks of some branches.
+fn blocks_of(alloc: Global, branches: &[Feed]) -> Result<Vec<u32>, AllocError>
+    ensures { IfOk result (λ v. AreBlocksOf branches.now v.items) }
+{
+    let mut blocks = Vec::new(alloc);
+    for branch in branches {
+        blocks.push(branch.block)?;
+    }
+    Ok(blocks)
+}
+
+// The blocks that a block waits for.
+fn waits_of(alloc: Global, net: &Net, reach: &Reach, block: u32) -> Result<Vec<u32>, AllocError>
+    requires least { 1 ≤ block }
+    requires most { block ≤ length net.now.specs }
+    requires origins { AreOrigins net.now reach.now }
+    ensures { IfOk result (λ v. IsWaitsOf net.now block v.items) }
+{
+    let mut blocks = blocks_of(alloc, reach.branches(block))?;
+    push_through(&mut blocks, net, block)?;
+    blocks.sort_unstable();
+    blocks.dedup();
+    Ok(blocks)
+}
+
+/// What each block waits for.
+pub fn made(alloc: Global, net: &Net, reach: &Reach) -> Result<Waits, AllocError>
+    requires { AreOrigins net.now reach.now }
+    ensures { IfOk result (λ w. AreWaits net.now w) }
+{
+    let mut lists = Vec::new(alloc);
+    for at in 0..net.len() {
+        lists.push(waits_of(alloc, net, reach, at + 1)?)?;
+    }
+    Ok(Waits { lists })
+}

@@ -1,0 +1,5 @@
+pub mod Giving
+pub mod Linked
+pub mod Ordered
+pub mod Gathering
+pub mod Viewed

@@ -1,0 +1,10 @@
+use Rattle.std.proofs.Common.{◌≡◌, ◌+◌, [], length, vec_len, replicate}
+use Rattle.sci_walk.specs.Lists.{plain, Adds}
+use Rattle.sci_inherit.specs.Links.{Upto, FedGiven}
+use Rattle.sci_inherit.proofs.links.fed_blocks.Given as goal
+
+abbrev pub invariant-loop-at : goal.invariant-loop-at
+invariant-loop-at l = record {
+  len : vec_len l.fed ≡ length l.net.specs + 1;
+  adds : Adds (Upto (FedGiven l.net) l.at) (replicate (length l.net.specs + 1) []) (plain l.fed.items);
+}

@@ -1,0 +1,7 @@
+use Rattle.sci_loop.proofs.Places.{needs_at}
+use Rattle.sci_loop.proofs.table.DepTable.needs_of.Goals as goal
+
+pub returns : goal.returns
+returns c =
+    needs_at c.args.self.now c.place_of.result c.args.member c.index.result.now c.deref.result.now c.as_slice.result.now c.requires.table c.place_of.ensures.within c.place_of.ensures.found
+    c.index.ensures c.deref.ensures.value c.as_slice.ensures.value

@@ -1,0 +1,14 @@
+pub mod Counts
+pub mod Ports
+pub mod Distinct
+pub mod Deep
+pub mod Ranked
+pub mod MaskBits
+pub mod Steps
+pub mod Members
+pub mod Guarded
+pub mod Outlining
+pub mod Ranking
+pub mod Sized
+pub mod Planned
+pub mod Building

@@ -1,0 +1,118 @@
+-- What the table of a source tells of the source.
+use Rattle.std.proofs.Common.{◌≡◌, ℕ, ◌+◌, ◌<◌, ◌↔◌, List, [], ◌∷◌, length, get_or, Contains, AllPairs, All, Vec, subst, arith}
+use Rattle.std.specs.Prelude.{Result, Ok, Err, IfOk}
+use Rattle.std.specs.declared.alloc.Global.{Global}
+use Rattle.std.proofs.lemmas.List.{get_or_default}
+use Rattle.sci_relation.specs.Loops.{IsLoop, HasNoLoop, IsFromLeast}
+use Rattle.sci_loop.specs.declared.table.DepTable.{DepTable}
+use Rattle.sci_loop.specs.Table.{Needs}
+use Rattle.sci_loop.specs.Sorted.{IsOrder, IsSorted}
+use Rattle.sci_loop.specs.declared.listing.Sorted.{Sorted}
+use Rattle.sci_loop.specs.declared.listing.Sorted.TheVariants.{Loop, Order}
+use Rattle.sci_net.specs.declared.Source.{Source}
+use Rattle.sci_net.specs.Parts.{Parts, IsBlock, IsWired}
+use Rattle.sci_net.specs.Sources.{sources_of, source_of}
+use Rattle.sci_reaction.specs.Active.{Possible}
+use Rattle.sci_reaction.specs.Depends.{Depends, IsLoopFree, Precedes}
+use Rattle.sci_reaction.proofs.Alike.{loop_alike, no_loop_alike, depth_alike}
+use Rattle.sci_reaction.proofs.Spreading.{Spread-block}
+use Rattle.sci_dep.specs.Tables.{MarkPossible, IsTableOf}
+use Rattle.sci_base.specs.Plain.{violation_of}
+use Rattle.sci_sched.specs.declared.outline.Outline.{Outline}
+use Rattle.sci_sched.specs.declared.stop.PlanStop.{PlanStop}
+use Rattle.sci_sched.specs.declared.stop.PlanStop.TheVariants.{Refused, Memory}
+use Rattle.sci_sched.specs.Depths.{HaveDepths, IsBefore, Outranks}
+use Rattle.sci_sched.specs.Outlines.{IsOutline}
+use Rattle.sci_sched.specs.Answer.{AreLoopFree, loop_violation, TellsLoop, IsLoopStop, IsFirstLoopStop, Tells}
+
+-- blocks in the order of their depths
+pub ranked_members : (t : DepTable) (depths vs : List ℕ) → HaveDepths t depths → ((b : ℕ) → Contains vs b → Contains t.members.items b) → AllPairs (IsBefore depths) vs → AllPairs (Outranks (Needs t)) vs
+ranked_members t depths vs have members before i j d l h =
+    let wi : i < length vs = omega (arith, l, h) in
+    let a = get_or vs i d in let b = get_or vs j d in
+    record {
+      depth = get_or depths a 0;
+      later_depth = get_or depths b 0;
+      has = have a (members a (i, wi, get_or_default vs i a d wi));
+      later_has = have b (members b (j, h, get_or_default vs j b d h));
+      less = before i j d l h;
+    }
+
+module _ (n : Parts) (s : Source) (t : DepTable) (needs : (c b : ℕ) → Needs t c b ↔ Depends n s c b) where
+  to : (c b : ℕ) → Needs t c b → Depends n s c b
+  to c b h = (needs c b).0 h
+
+  from : (c b : ℕ) → Depends n s c b → Needs t c b
+  from c b h = (needs c b).1 h
+
+  pub free_source : HasNoLoop (Needs t) → IsLoopFree n s
+  free_source free = no_loop_alike (Depends n s) (Needs t) from free
+
+  pub loop_source : (xs : List ℕ) → IsLoop (Needs t) xs → IsLoop (Depends n s) xs
+  loop_source xs h = loop_alike (Needs t) (Depends n s) to xs h
+
+  pub ranked_precede : (vs : List ℕ) → AllPairs (Outranks (Needs t)) vs → AllPairs (Precedes n s) vs
+  ranked_precede vs h i j d l w =
+      let r = h i j d l w in
+      record {
+        depth = r.depth;
+        later_depth = r.later_depth;
+        has = depth_alike (Needs t) (Depends n s) to from (get_or vs i d) r.depth r.has;
+        later_has = depth_alike (Needs t) (Depends n s) to from (get_or vs j d) r.later_depth r.later_has;
+        less = r.less;
+      }
+
+loop_possible : (n : Parts) (s : Source) (xs : List ℕ) → IsLoop (Depends n s) xs → (0 < length xs) × Possible n s (get_or xs 0 0)
+loop_possible n s [] h = absurd h
+loop_possible n s (x ∷ []) h = (omega arith, h.1.possible)
+loop_possible n s (x ∷ y ∷ ys) h = (omega arith, h.1.0.on_possible)
+
+-- the first of a loop is a block
+pub loop_block : (n : Parts) (s : Source) (xs : List ℕ) → IsLoop (Depends n s) xs → IsBlock n (get_or xs 0 0)
+loop_block n s xs h = Spread-block n s _ (loop_possible n s xs h).1
+
+-- ---- stops
+
+pub loop_told : (n : Parts) (s : Source) (xs : List ℕ) (e : PlanStop) → IsLoop (Depends n s) xs → IsFromLeast xs → Tells (loop_violation n s xs) e → IsLoopStop n s e
+loop_told n s xs (Refused r) h least told = record { found = xs; is_loop = h; from_least = least; told = told }
+loop_told n s xs Memory h least told = tt
+
+pub first_told : (n : Parts) (s : Source) (at : ℕ) (e : PlanStop) → at < length (sources_of n) → AreLoopFree n at → s ≡ source_of n at → IsLoopStop n s e → IsFirstLoopStop n e
+first_told n s at (Refused r) within before is told = record { at = at; within = within; before = before; tells = subst (λ v. TellsLoop n v (violation_of r)) is told }
+first_told n s at Memory within before is told = tt
+
+-- ---- a table without a loop
+
+pub below_size : (t : DepTable) (n : Parts) (s : Source) (size : ℕ) → ((b : ℕ) → Contains t.members.items b ↔ Possible n s b) → IsWired n → size ≡ length n.specs + 1 → All (λ b. b < size) t.members.items
+below_size t n s size members wired is k d h =
+    let b = get_or t.members.items k d in
+    let inside = Spread-block n s _ ((members b).0 (k, h, get_or_default t.members.items k b d h)) in
+    let most = inside.most in omega (arith, most, is)
+
+module _ {E : Type 0} (t : DepTable) (ms : List ℕ) (r : Result (Vec ℕ Global) E) (same : ms ≡ t.members.items) (exactly : IfOk r (λ v. (b : ℕ) → Contains v.items b ↔ Contains ms b)) where
+  pub members_kept : IfOk r (λ v. (b : ℕ) → Contains v.items b ↔ Contains t.members.items b)
+  members_kept = subst (λ xs. IfOk r (λ v. (b : ℕ) → Contains v.items b ↔ Contains xs b)) same exactly
+
+  pub members_ranked : (depths ds : List ℕ) → HaveDepths t depths → ds ≡ depths → IfOk r (λ v. AllPairs (IsBefore ds) v.items) → IfOk r (λ v. AllPairs (Outranks (Needs t)) v.items)
+  members_ranked depths ds have is ordered = by r members_kept (subst (λ xs. IfOk r (λ v. AllPairs (IsBefore xs) v.items)) is ordered)
+    where
+      by : (q : Result (Vec ℕ Global) E) → IfOk q (λ v. (b : ℕ) → Contains v.items b ↔ Contains t.members.items b) → IfOk q (λ v. AllPairs (IsBefore depths) v.items) → IfOk q (λ v. AllPairs (Outranks (Needs t)) v.items)
+      by (Ok v) kept before = ranked_members t depths v.items have (λ b h. (kept b).0 h) before
+      by (Err e) kept before = tt
+
+-- the outline of a source
+pub outline_is : (n : Parts) (s : Source) (t : DepTable) (o : Outline) → IsTableOf n s t → HasNoLoop (Needs t) → MarkPossible n s o.possible.items → ((b : ℕ) → Contains o.blocks.items b ↔ Contains t.members.items b) →
+    AllPairs (Outranks (Needs t)) o.blocks.items → IsOutline n s o
+outline_is n s t o is free mark kept ranked =
+    record {
+      free = free_source n s t is.needs free;
+      possible = mark;
+      exactly = λ b. (λ h. (is.members b).0 ((kept b).0 h), λ h. (kept b).1 ((is.members b).1 h));
+      ordered = ranked_precede n s t is.needs o.blocks.items ranked;
+    }
+
+pub sorted_loop : (t : DepTable) (o : Sorted) (v : Vec ℕ Global) → o ≡ Loop v → IsSorted t o → IsLoop (Needs t) v.items × IsFromLeast v.items
+sorted_loop t o v is h = subst (IsSorted t) is h
+
+pub sorted_order : (t : DepTable) (o : Sorted) (v : Vec ℕ Global) → o ≡ Order v → IsSorted t o → HasNoLoop (Needs t) × IsOrder t v.items
+sorted_order t o v is h = subst (IsSorted t) is h

@@ -1,0 +1,173 @@
+-- How long the rows of a net are, from what is found before they are built.
+use Rattle.std.proofs.Common.{◌≡◌, ℕ, zero, suc, ◌+◌, ◌-◌, ◌*◌, ◌^◌, ◌<◌, ◌≤◌, ⊎_elim, List, [], ◌∷◌, length, get_or, map, Contains, All, AllPairs, refl, sym, ap, ap₂, subst, ◌∙◌, arith}
+use Rattle.std.specs.List.{sum_by}
+use Rattle.std.proofs.lemmas.Bool.{cases_order, cases_lt}
+use Rattle.std.proofs.lemmas.List.{get_or_default, length-map, get_or-map}
+use Rattle.std.proofs.lemmas.List.Elements.{All-contains}
+use Rattle.std.proofs.lemmas.List.Sums.{sum_by-cons, sum_by-le, count_by-le-length}
+use Rattle.std.proofs.lemmas.Map.Steps.{length-le_from_distinct_below}
+use Rattle.sci_relation.proofs.Rounds.{distinct_by_places}
+use Rattle.sci_net.specs.declared.Feed.{Feed}
+use Rattle.sci_net.specs.declared.Source.{Source}
+use Rattle.sci_net.specs.Parts.{Parts, numbered, spec_of, IsBlock, IsActivationOutput, AreRising}
+use Rattle.sci_net.specs.Net.{IsNet}
+use Rattle.sci_net.specs.Sources.{sources_of, source_of}
+use Rattle.sci_reaction.specs.Active.{Reaches, seeded, passed}
+use Rattle.sci_reaction.specs.Depends.{Precedes}
+use Rattle.sci_reaction.specs.Schedule.{Entry as PlainEntry, blocks_of, IsEntry, IsRow, IsSchedule}
+use Rattle.sci_reaction.proofs.Spreading.{Spread-block}
+use Rattle.sci_reaction.proofs.OneResult.{precedes_trans, irreflexive}
+use Rattle.sci_reaction.proofs.OneRow.{same_lists}
+use Rattle.sci_reaction.proofs.Rows.{block_in, has-Contains}
+use Rattle.sci_inherit.specs.Origins.{Origins, AreOrigins}
+use Rattle.sci_sched.specs.declared.outline.Outline.{Outline}
+use Rattle.sci_sched.specs.Guards.{is_possible}
+use Rattle.sci_sched.specs.Size.{guards_in, size_of}
+use Rattle.sci_sched.specs.Outlines.{IsOutline, AreOutlines, guards_at, outline_size, IsCounted}
+use Rattle.sci_sched.proofs.Guarded.{before_of, guards_counted}
+use Rattle.sci_sched.proofs.Members.{pairs_map, head_in}
+use Rattle.sci_sched.proofs.Ports.{evtout_few}
+use Rattle.sci_reaction.proofs.Lists.{cons-Contains}
+
+-- ---- sums
+
+sum_by-members : {X Y : Type 0} (f : X → ℕ) (g : Y → ℕ) (h : X → Y) (xs : List X) → ((x : X) → Contains xs x → f x ≡ g (h x)) → sum_by f xs ≡ sum_by g (map h xs)
+sum_by-members f g h [] same = refl
+sum_by-members f g h (x ∷ xs) same =
+    sum_by-cons f x xs
+    ∙ (ap₂ (λ a b. a + b) (same x (head_in x xs)) (sum_by-members f g h xs (λ y has. same y (cons-Contains x xs y has)))
+    ∙ sym (sum_by-cons g (h x) (map h xs)))
+
+-- place by place
+sum_by-places : {X Y : Type 0} (f : X → ℕ) (g : Y → ℕ) (xs : List X) (ys : List Y) → length xs ≡ length ys → ((i : ℕ) (d : X) (e : Y) → i < length xs → f (get_or xs i d) ≡ g (get_or ys i e)) → sum_by f xs ≡ sum_by g ys
+sum_by-places f g [] [] long same = refl
+sum_by-places f g [] (y ∷ ys) long same = absurd (omega (arith, long))
+sum_by-places f g (x ∷ xs) [] long same = absurd (omega (arith, long))
+sum_by-places f g (x ∷ xs) (y ∷ ys) long same =
+    sum_by-cons f x xs
+    ∙ (ap₂ (λ a b. a + b) (same 0 x y (omega arith)) (sum_by-places f g xs ys (omega (arith, long)) (λ i d e h. same (suc i) d e (omega (arith, h))))
+    ∙ sym (sum_by-cons g y ys))
+
+sum_by-plus : {X : Type 0} (f g : X → ℕ) (xs : List X) → sum_by f xs + sum_by g xs ≡ sum_by (λ x. f x + g x) xs
+sum_by-plus f g [] = refl
+sum_by-plus f g (x ∷ xs) =
+    let a = sum_by-cons f x xs in let b = sum_by-cons g x xs in let c = sum_by-cons (λ y. f y + g y) x xs in let rest = sum_by-plus f g xs in
+    omega (arith, a, b, c, rest)
+
+-- ---- few
+
+-- numbers that rise are at least their places
+at_least : (xs : List ℕ) → AllPairs (λ a b. a < b) xs → (k : ℕ) → k < length xs → k ≤ get_or xs k 0
+at_least xs h zero l = omega arith
+at_least xs h (suc k) l = let before = at_least xs h k (omega (arith, l)) in let less = h k (suc k) 0 (omega arith) l in omega (arith, before, less)
+
+rising_short : (xs : List ℕ) (m : ℕ) → AllPairs (λ a b. a < b) xs → ((k : ℕ) → k < length xs → get_or xs k 0 < m) → length xs ≤ m
+rising_short xs m h below =
+    ⊎_elim
+    (λ some. let last : length xs - 1 < length xs = omega (arith, some) in let a = at_least xs h (length xs - 1) last in let b = below (length xs - 1) last in omega (arith, a, b, some))
+    (λ none. omega (arith, none))
+    (cases_lt 0 (length xs))
+
+abbrev code : Feed → ℕ
+code q = q.block * 65 + q.port
+
+-- the activation outputs of a net are few
+rising_feeds : (n : Parts) → IsNet n → (fs : List Feed) → AreRising fs → ((q : Feed) → Contains fs q → IsActivationOutput n q.block q.port) → length fs ≤ 133185
+rising_feeds n net fs rise lead =
+    let long = length-map fs code in
+    let port : (k : ℕ) (d : Feed) → k < length fs → (get_or fs k d).port ≤ 64 = λ k d h.
+    let o = lead (get_or fs k d) (k, h, get_or_default fs k (get_or fs k d) d h) in
+    let few = evtout_few (spec_of n (get_or fs k d).block) (net.typed_specs (get_or fs k d).block o.block) in let most = o.most in omega (arith, few, most) in
+    let none : Feed = record { block = 0; port = 0 } in
+    let short : length (map code fs) ≤ 133185 =
+    rising_short (map code fs) 133185
+    (pairs_map (λ a b. a < b) code fs (λ i j d l h.
+    let p = port i d (omega (arith, l, h)) in
+    ⊎_elim (λ less. omega (arith, less, p)) (λ same. omega (arith, same.0, same.1)) (before_of (get_or fs i d) (get_or fs j d) (rise i j d l h))))
+    (λ k h.
+    let l : k < length fs = omega (arith, long, h) in
+    let o = lead (get_or fs k none) (k, l, get_or_default fs k (get_or fs k none) none l) in
+    let most = o.block.most in let few = net.wired.few in let p = port k none l in
+    let e : get_or (map code fs) k 0 ≡ code (get_or fs k none) = get_or-map code fs k none 0 l in
+    omega (arith, most, few, p, e)) in
+    omega (arith, short, long)
+
+-- what reaches a block is an activation output
+reach_output : (n : Parts) → IsNet n → (q : Feed) {b : ℕ} → Reaches n q b → IsActivationOutput n q.block q.port
+reach_output n net q (seeded b f) = net.wired.feeds_lead b f.input q f.within f.fed
+reach_output n net q (passed a b h i u) = reach_output n net q h
+
+module _ (n : Parts) (net : IsNet n) (r : Origins) (origins : AreOrigins n r) where
+  pub branch_output : (b : ℕ) (q : Feed) → Contains (numbered [] r.branches b) q → IsActivationOutput n q.block q.port
+  branch_output b q has = reach_output n net q ((origins.branches_are b q).0 has).1
+
+  module _ (s : Source) (o : Outline) (is : IsOutline n s o) where
+    block_of : (b : ℕ) → Contains o.blocks.items b → IsBlock n b
+    block_of b has = Spread-block n s _ ((is.exactly b).0 has)
+
+    few_blocks : length o.blocks.items ≤ 2049
+    few_blocks =
+        let bs = o.blocks.items in
+        length-le_from_distinct_below bs 2049
+        (distinct_by_places bs (λ i j hi hj e.
+        ⊎_elim (λ same. same)
+        (λ apart. absurd (⊎_elim
+        (λ less. irreflexive n s is.free (get_or bs i 0) (subst (Precedes n s (get_or bs i 0)) (sym e) (is.ordered i j 0 less hj)))
+        (λ more. irreflexive n s is.free (get_or bs j 0) (subst (Precedes n s (get_or bs j 0)) e (is.ordered j i 0 more hi)))
+        apart))
+        (cases_order i j)))
+        (λ q has. let b = block_of q (has-Contains bs q has) in let most = b.most in let few = net.wired.few in omega (arith, most, few))
+
+    guards_few : (b : ℕ) → guards_at r o.possible.items b ≤ 133185
+    guards_few b =
+        let short = rising_feeds n net (numbered [] r.branches b) (origins.branches_rise b) (branch_output b) in
+        let fewer = count_by-le-length (is_possible o.possible.items) (numbered [] r.branches b) in
+        omega (arith, short, fewer)
+
+    pub size_small : outline_size r o ≤ 2 ^ 29
+    size_small =
+        let all = sum_by-le (guards_at r o.possible.items) 133185 o.blocks.items (λ k d h. guards_few (get_or o.blocks.items k d)) in
+        let few = few_blocks in
+        omega (arith, all, few)
+
+    pub is_counted : IsCounted r o
+    is_counted = record {
+      within = λ b has. let k = block_of b has in let e = origins.enough in let most = k.most in (k.least, omega (arith, most, e));
+      known = λ b q has. let k = branch_output b q has in let most = k.block.most in let e = is.possible.long in omega (arith, most, e);
+      small = let s = size_small in omega (arith, s);
+    }
+
+    -- the size of the row
+    pub row_sized : (row : List PlainEntry) → IsRow n s row → length row + guards_in row ≡ outline_size r o
+    row_sized row ok =
+        let same : blocks_of row ≡ o.blocks.items =
+        same_lists (Precedes n s) (irreflexive n s is.free) (precedes_trans n s is.free) (blocks_of row) o.blocks.items
+        (pairs_map (Precedes n s) (λ (e : PlainEntry). e.block) row ok.ordered) is.ordered
+        (λ b. (λ h. (is.exactly b).1 ((ok.exactly b).0 h), λ h. (ok.exactly b).1 ((is.exactly b).0 h))) in
+        let long : length row ≡ length o.blocks.items = sym (length-map row (λ (e : PlainEntry). e.block)) ∙ ap length same in
+        let guards : guards_in row ≡ sum_by (guards_at r o.possible.items) o.blocks.items =
+        sum_by-members (λ (e : PlainEntry). length e.guards) (guards_at r o.possible.items) (λ (e : PlainEntry). e.block) row
+        (λ e has.
+        guards_counted n s e.block o.possible.items (numbered [] r.branches e.block) (origins.branches_rise e.block) (origins.branches_are e.block) is.possible.exactly net.wired
+        (block_of e.block (subst (λ bs. Contains bs e.block) same (block_in row e has))) e refl (All-contains (IsEntry n s) row e ok.entries has))
+        ∙ ap (λ bs. sum_by (guards_at r o.possible.items) bs) same in
+        ap₂ (λ a b. a + b) long guards
+
+  -- the size of the schedule
+  pub schedule_sized : (os : List Outline) (rows : List (List PlainEntry)) → AreOutlines n (length (sources_of n)) os → IsSchedule n rows → size_of rows ≡ sum_by (outline_size r) os
+  schedule_sized os rows are ok =
+      let long : length rows ≡ length os = ok.enough ∙ sym are.long in
+      sum_by-plus (λ (row : List PlainEntry). length row) guards_in rows
+      ∙ sum_by-places (λ (row : List PlainEntry). length row + guards_in row) (outline_size r) rows os long
+      (λ i d e h.
+      let inside : i < length (sources_of n) = omega (arith, ok.enough, h) in
+      row_sized (source_of n i) (get_or os i e) (are.each i e inside) (get_or rows i d) (subst (IsRow n (source_of n i)) (get_or_default rows i [] d h) (ok.each i h)))
+
+  pub all_counted : (os : List Outline) → AreOutlines n (length (sources_of n)) os → All (IsCounted r) os
+  all_counted os are k d h = is_counted (source_of n k) (get_or os k d) (are.each k d (let e = are.long in omega (arith, e, h)))
+
+  pub total_small : (os : List Outline) → AreOutlines n (length (sources_of n)) os → length (sources_of n) < 2 ^ 32 → sum_by (outline_size r) os < 2 ^ 63
+  total_small os are few =
+      let all = sum_by-le (outline_size r) (2 ^ 29) os (λ k d h. size_small (source_of n k) (get_or os k d) (are.each k d (let e = are.long in omega (arith, e, h)))) in
+      let e = are.long in
+      omega (arith, all, few, e)

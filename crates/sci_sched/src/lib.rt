@@ -1,0 +1,20 @@
+//! The static schedules of a net, and the algebraic loop that forbids them. For each source of activation, a schedule has the blocks that
+//! the source may activate, each after those that it depends on, and says when they are active.
+#![tactic(auto)]
+
+mod depth;
+mod masks;
+mod outline;
+mod planning;
+mod ranks;
+mod refusals;
+mod rows;
+mod schedule;
+mod sizes;
+mod stop;
+mod write;
+
+pub use planning::plan;
+pub use schedule::{Entry, Guard, Schedule};
+pub use stop::PlanStop;
+pub use write::write_plan;
