@@ -5,9 +5,9 @@ use Rattle.std.specs.List.{flat_map}
 use Rattle.c_ast.specs.declared.Name.{Name}
 use Rattle.c_ast.specs.declared.events.Event.{Event}
 use Rattle.c_ast.specs.declared.events.Event.TheVariants as events
-use Rattle.c_ast.specs.Syntax.{Exp, Statement, set, ask, choice, loop, call, tell, Block, done, next, Declared, Function, Whole}
-use Rattle.c_ast.specs.Spelling.{Row, at_depth, if_line, else_line, for_line, close_line, set_line, ask_line, call_line, tell_line, statement_rows, block_rows, else_rows, header_row, header_lines, declared_line, declared_row, function_rows, main_rows, program_rows}
-use Rattle.c_ast.specs.Events.{exp_events, bound_events, statement_events, block_events, declared_event, function_events, main_events, program_events, line_events, rows_events}
+use Rattle.c_ast.specs.Syntax.{Statement, set, ask, choice, loop, call, tell, Block, done, next, Declared, Function, Whole}
+use Rattle.c_ast.specs.Spelling.{Row, at_depth, if_line, for_line, close_line, statement_rows, block_rows, else_rows, declared_line, declared_row, function_rows, main_rows, program_rows}
+use Rattle.c_ast.specs.Events.{exp_events, statement_events, block_events, declared_event, function_events, program_events, line_events, rows_events}
 
 pub rows_events-append : (a b : List Row) → rows_events (a ++ b) ≡ rows_events a ++ rows_events b
 rows_events-append [] b = refl

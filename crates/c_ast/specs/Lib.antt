@@ -4,4 +4,6 @@ pub mod Spelling
 pub mod Bounds
 pub mod Events
 pub mod Rules
+pub mod Assigning
+pub mod Bodies
 pub mod Knowing

@@ -4,6 +4,7 @@
 //! What a program is spelled as stands in `specs/Spelling.antt`, which programs are in the subset in `specs/Bounds.antt`.
 #![tactic(auto)]
 
+mod bodies;
 pub mod events;
 mod rules;
 

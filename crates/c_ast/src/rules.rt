@@ -1,18 +1,19 @@
 // The static rules.
 
-ghost use Rattle.std.specs.Prelude.{◌≡◌, IsTrue, ◌↔◌, ℕ, ◌≤◌, ◌<◌, ◌^◌, ◌∷◌, [], ◌++◌, OnOk, IfOk, ◌||◌, not, length, take, nat_le, Bool};
+ghost use Rattle.std.specs.Prelude.{◌≡◌, IsTrue, ◌↔◌, ℕ, ◌≤◌, ◌<◌, ◌^◌, ◌∷◌, [], ◌++◌, OnOk, IfOk, ◌||◌, not, length, take, nat_le, Bool, Some};
 ghost use Rattle.std.specs.List.{list_any};
 ghost use Rattle.c_ast.specs.declared.Name.{Name};
+ghost use Rattle.c_ast.specs.declared.rules.Past.{Past};
 ghost use Rattle.c_ast.specs.Rules.{is_scalar, is_array, is_used_well, is_bound, is_hit, is_guarded, same_name, is_too_large, elements_of, kind_of, earlier, blamed_event, KeepsRules};
 ghost use Rattle.c_ast.specs.View.{whole_of};
 ghost use Rattle.std.specs.HashMap as map;
-ghost use Rattle.std.specs.HashSet as set;
 
+use crate::bodies::Bodies;
 use crate::events::{Event, Kind, Opened, program};
 use crate::{Bound, Name, Program};
 use sci_base::NoMemory;
 use std::alloc::{AllocError, Global};
-use std::collections::{HashMap, HashSet};
+use std::collections::HashMap;
 
 fn same(x: Name, y: Name) -> bool
     ensures { result ≡ same_name x y }
@@ -76,38 +77,6 @@ fn guarded(blocks: &[Opened], x: Name) -> bool
     blocks.iter().any(|opened| guarding(x, *opened))
 }
 
-fn among(names: &HashSet<Name>, x: Name) -> bool
-    ensures { result ≡ set.contains same_name names.now x }
-{
-    names.contains(&x)
-}
-
-fn hit(names: &HashSet<Name>, opened: Opened) -> bool
-    ensures { result ≡ is_hit (set.contains same_name names.now) opened }
-{
-    match opened {
-        Opened::Branch => false,
-        Opened::Turn(counter, Bound::Num(_)) => among(names, counter),
-        Opened::Turn(counter, Bound::Var(y)) => among(names, counter) || among(names, y),
-    }
-}
-
-fn hits(names: &HashSet<Name>, blocks: &[Opened]) -> bool
-    ensures { result ≡ list_any (is_hit (set.contains same_name names.now)) blocks.now }
-{
-    blocks.iter().any(|opened| hit(names, *opened))
-}
-
-/// The names of both.
-fn join(names: &mut HashSet<Name>, more: &HashSet<Name>) -> Result<(), AllocError>
-    ensures { (q : Name) → OnOk result (set.contains same_name names.new q ≡ (set.contains same_name more.now q || set.contains same_name names.old q)) }
-{
-    for x in more {
-        names.insert(*x)?;
-    }
-    Ok(())
-}
-
 fn kind_at(kinds: &HashMap<Name, Kind>, x: Name) -> Option<Kind>
     ensures { result ≡ map.get same_name kinds.now x }
 {
@@ -143,10 +112,10 @@ fn earliest(a: Option<usize>, b: Option<usize>) -> Option<usize>
     }
 }
 
-/// What a function assigns that has ended, itself or by others, and how deep its calls are, 65 at most.
-#[derive(Drop)]
+/// A function that has ended: the number of its body, and how deep its calls are, 65 at most.
+#[derive(Clone, Copy)]
 struct Past {
-    assigns: HashSet<Name>,
+    body: u32,
     depth: u8,
 }
 
@@ -158,8 +127,9 @@ struct Knowledge {
     routines: HashMap<Name, Past>,
     blocks: Vec<Opened>,
     owner: Option<(Name, usize)>,
-    assigns: HashSet<Name>,
     depth: u8,
+    bodies: Bodies,
+    ghost earlier: { (q : Name) (past : Past) → map.get same_name routines q ≡ Some past → past.body < bodies.last },
 }
 
 const MOST_ELEMENTS: u64 = 16_777_216;
@@ -168,18 +138,19 @@ impl Knowledge {
     ghost use Rattle.c_ast.specs.Rules.{Scope, outset, behind, blamed_at, breaks_loop, routine_in, closing, is_blamed, opens_body, ended};
     ghost use Rattle.c_ast.specs.Knowing.{Agrees};
 
-    fn new(alloc: Global) -> Knowledge
-        ensures { Agrees result outset }
+    fn new(alloc: Global) -> Result<Knowledge, AllocError>
+        ensures { IfOk result (λ k. Agrees k outset) }
     {
-        Knowledge {
+        let bodies = Bodies::new(alloc)?;
+        Ok(Knowledge {
             kinds: HashMap::new(alloc),
             elements: 0,
             routines: HashMap::new(alloc),
             blocks: Vec::new(alloc),
             owner: None,
-            assigns: HashSet::new(alloc),
             depth: 1,
-        }
+            bodies,
+        })
     }
 
     fn too_large(&self, size: Option<u32>) -> bool
@@ -191,12 +162,13 @@ impl Knowledge {
         }
     }
 
-    fn breaks(&self, f: Name) -> bool
-        ensures { (s : Scope) → Agrees self.now s → result ≡ breaks_loop s.blocks (routine_in s.routines f) }
+    fn breaks(&mut self, f: Name) -> Result<bool, AllocError>
+        ensures same { (s : Scope) → Agrees self.old s → Agrees self.new s }
+        ensures value { (s : Scope) → Agrees self.old s → IfOk result (λ wrong. wrong ≡ breaks_loop s.blocks (routine_in s.routines f)) }
     {
-        match self.routines.get(&f) {
-            None => true,
-            Some(past) => hits(&past.assigns, &self.blocks),
+        match self.routines.get(&f).copied() {
+            None => Ok(true),
+            Some(past) => self.bodies.hits(past.body, &self.blocks),
         }
     }
 
@@ -209,32 +181,40 @@ impl Knowledge {
         }
     }
 
-    fn is_wrong(&self, event: Event) -> bool
-        ensures { (s : Scope) → Agrees self.now s → result ≡ is_blamed s event }
+    fn is_wrong(&mut self, event: Event) -> Result<bool, AllocError>
+        ensures same { (s : Scope) → Agrees self.old s → Agrees self.new s }
+        ensures value { (s : Scope) → Agrees self.old s → IfOk result (λ wrong. wrong ≡ is_blamed s event) }
     {
         match event {
-            Event::Declare(x, size) => kind_at(&self.kinds, x).is_some() || self.too_large(size),
-            Event::Function(f) => kind_at(&self.kinds, f).is_some(),
-            Event::Read(x, kind) => !used_well(kind, kind_at(&self.kinds, x)),
-            Event::Assign(x, kind) => !used_well(kind, kind_at(&self.kinds, x))
-                || guarded(&self.blocks, x),
-            Event::Loop(x, bound) => !scalar(kind_at(&self.kinds, x))
-                || guarded(&self.blocks, x)
-                || bound_is(x, bound),
+            Event::Declare(x, size) => {
+                Ok(kind_at(&self.kinds, x).is_some() || self.too_large(size))
+            }
+            Event::Function(f) => Ok(kind_at(&self.kinds, f).is_some()),
+            Event::Read(x, kind) => Ok(!used_well(kind, kind_at(&self.kinds, x))),
+            Event::Assign(x, kind) => Ok(
+                !used_well(kind, kind_at(&self.kinds, x)) || guarded(&self.blocks, x),
+            ),
+            Event::Loop(x, bound) => Ok(
+                !scalar(kind_at(&self.kinds, x)) || guarded(&self.blocks, x) || bound_is(x, bound),
+            ),
             Event::Call(f) => self.breaks(f),
-            Event::Main => false,
-            Event::If => false,
-            Event::Close => false,
+            Event::Main => Ok(false),
+            Event::If => Ok(false),
+            Event::Close => Ok(false),
         }
     }
 
     /// The event that the rules blame at event i.
-    fn fault(&self, i: usize, event: Event) -> Option<usize>
-        ensures { (s : Scope) → Agrees self.now s → result ≡ blamed_at i s event }
+    fn fault(&mut self, i: usize, event: Event) -> Result<Option<usize>, AllocError>
+        ensures same { (s : Scope) → Agrees self.old s → Agrees self.new s }
+        ensures value { (s : Scope) → Agrees self.old s → IfOk result (λ blamed. blamed ≡ blamed_at i s event) }
     {
         match event {
-            Event::Close => self.closing_fault(),
-            event => if self.is_wrong(event) { Some(i) } else { None },
+            Event::Close => Ok(self.closing_fault()),
+            event => {
+                let wrong = self.is_wrong(event)?;
+                Ok(if wrong { Some(i) } else { None })
+            }
         }
     }
 
@@ -250,9 +230,9 @@ impl Knowledge {
     fn begin_body(&mut self, alloc: Global, owner: Option<(Name, usize)>) -> Result<(), AllocError>
         ensures { (s : Scope) → Agrees self.old s → OnOk result (Agrees self.new (opens_body s owner)) }
     {
+        self.bodies.begin(alloc)?;
         self.blocks.push(Opened::Branch)?;
         self.owner = owner;
-        self.assigns = HashSet::new(alloc);
         self.depth = 1;
         Ok(())
     }
@@ -264,17 +244,16 @@ impl Knowledge {
         self.begin_body(alloc, Some((f, i)))
     }
 
-    fn assign(&mut self, x: Name) -> Result<(), AllocError>
+    fn assign(&mut self, alloc: Global, x: Name) -> Result<(), AllocError>
         ensures { (i : ℕ) → (k : Kind) → (s : Scope) → Agrees self.old s → OnOk result (Agrees self.new (behind i s (Event.Assign x k))) }
     {
-        self.assigns.insert(x)?;
-        Ok(())
+        self.bodies.assign(alloc, x)
     }
 
-    fn begin_loop(&mut self, x: Name, bound: Bound) -> Result<(), AllocError>
+    fn begin_loop(&mut self, alloc: Global, x: Name, bound: Bound) -> Result<(), AllocError>
         ensures { (i : ℕ) → (s : Scope) → Agrees self.old s → OnOk result (Agrees self.new (behind i s (Event.Loop x bound))) }
     {
-        self.assigns.insert(x)?;
+        self.bodies.assign(alloc, x)?;
         self.blocks.push(Opened::Turn(x, bound))?;
         Ok(())
     }
@@ -282,15 +261,14 @@ impl Knowledge {
     fn call(&mut self, f: Name) -> Result<(), AllocError>
         ensures { (i : ℕ) → (s : Scope) → Agrees self.old s → OnOk result (Agrees self.new (behind i s (Event.Call f))) }
     {
-        match self.routines.get(&f) {
+        match self.routines.get(&f).copied() {
             None => {
                 self.depth = self.depth.max(1);
                 Ok(())
             }
             Some(past) => {
-                join(&mut self.assigns, &past.assigns)?;
                 self.depth = self.depth.max(past.depth.saturating_add(1).min(65));
-                Ok(())
+                self.bodies.call(past.body)
             }
         }
     }
@@ -305,10 +283,11 @@ impl Knowledge {
     fn end_body(&mut self, alloc: Global) -> Result<(), AllocError>
         ensures { (s : Scope) → Agrees self.old s → OnOk result (Agrees self.new (record s { routines = ended s s.owner; assigns = [] })) }
     {
-        let assigns = std::mem::replace(&mut self.assigns, HashSet::new(alloc));
+        let body = self.bodies.last;
+        self.bodies.begin(alloc)?;
         if let Some((f, _)) = self.owner {
             let depth = self.depth;
-            self.routines.insert(f, Past { assigns, depth })?;
+            self.routines.insert(f, Past { body, depth })?;
         }
         Ok(())
     }
@@ -316,11 +295,13 @@ impl Knowledge {
     fn close(&mut self, alloc: Global) -> Result<(), AllocError>
         ensures { (i : ℕ) → (s : Scope) → Agrees self.old s → OnOk result (Agrees self.new (behind i s Event.Close)) }
     {
-        if self.blocks.len() <= 1 {
-            self.end_body(alloc)?;
-        }
+        let is_last = self.blocks.len() <= 1;
         let _ = self.blocks.pop();
-        Ok(())
+        if is_last {
+            self.end_body(alloc)
+        } else {
+            Ok(())
+        }
     }
 
     /// Goes on behind event i.
@@ -332,8 +313,8 @@ impl Knowledge {
             Event::Function(f) => self.begin_function(alloc, i, f),
             Event::Main => self.begin_body(alloc, None),
             Event::Read(_, _) => Ok(()),
-            Event::Assign(x, _) => self.assign(x),
-            Event::Loop(x, bound) => self.begin_loop(x, bound),
+            Event::Assign(x, _) => self.assign(alloc, x),
+            Event::Loop(x, bound) => self.begin_loop(alloc, x, bound),
             Event::Call(f) => self.call(f),
             Event::If => self.begin_branch(),
             Event::Close => self.close(alloc),
@@ -345,10 +326,11 @@ impl Knowledge {
 pub fn first_fault(alloc: Global, events: &[Event]) -> Result<Option<usize>, AllocError>
     ensures { IfOk result (λ found. found ≡ blamed_event events.now) }
 {
-    let mut knowledge = Knowledge::new(alloc);
+    let mut knowledge = Knowledge::new(alloc)?;
     let mut found = None;
     for (i, event) in events.iter().enumerate() {
-        found = earliest(found, knowledge.fault(i, *event));
+        let fault = knowledge.fault(i, *event)?;
+        found = earliest(found, fault);
         knowledge.pass(alloc, i, *event)?;
     }
     Ok(found)
@@ -372,5 +354,43 @@ pub fn static_rules(alloc: Global, p: &Program) -> Result<bool, NoMemory>
     match is_kept(alloc, p) {
         Ok(kept) => Ok(kept),
         Err(_) => Err(NoMemory),
+    }
+}
+
+#[cfg(test)]
+mod tests {
+    use super::first_fault;
+    use crate::events::{Event, Kind};
+    use crate::{Bound, Name};
+    use std::test::Fail;
+
+    // f0 assigns i0, g0 calls f0, and h0 calls none. A loop of i0 calls h0, and then g0.
+    #[test]
+    fn a_call_leads_to_the_counter(rt: HostRuntime) -> Result<(), Fail> {
+        let counter = Name {
+            letter: b'i',
+            number: 0,
+        };
+        let [f, g, h] = [b'f', b'g', b'h'].map(|letter| Name { letter, number: 0 });
+        let events = [
+            Event::Declare(counter, None),
+            Event::Function(f),
+            Event::Assign(counter, Kind::Scalar),
+            Event::Close,
+            Event::Function(g),
+            Event::Call(f),
+            Event::Close,
+            Event::Function(h),
+            Event::Close,
+            Event::Main,
+            Event::Loop(counter, Bound::Num(2)),
+            Event::Call(h),
+            Event::Call(g),
+            Event::Close,
+            Event::Close,
+        ];
+        assert_eq!(rt; first_fault(rt.alloc(), &events)?, Some(12));
+        assert_eq!(rt; first_fault(rt.alloc(), &events[..12])?, None);
+        Ok(())
     }
 }

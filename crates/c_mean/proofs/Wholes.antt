@@ -12,16 +12,17 @@ use Rattle.c_mean.specs.declared.machine.Column.{Column}
 use Rattle.c_mean.specs.declared.machine.Routine.{Routine}
 use Rattle.c_mean.specs.declared.machine.Limits.{Limits}
 use Rattle.c_mean.specs.Meaning.{Slot, World, Ran, Numbered, run_block, around, calls_of, numbered, behind_functions, first_slot, meaning}
-use Rattle.c_mean.specs.Running.{Runs, numbered_of, left_of, world, surroundings}
+use Rattle.c_mean.specs.Running.{RunsFrom, numbered_of, left_of, world, surroundings}
 use Rattle.c_mean.specs.Layout.{slots}
 use Rattle.c_mean.specs.Answering.{Answers, answer_of, end_of}
 
-pub answers : {old new : SinkState} (r : Result Flow Failed) (w : World) (ran : Ran) → Runs old new r w ran → Answers old new (answer_of r) ran
-answers (Ok flows.Going) w ran h = record { by = (h.by.0, sym (ap end_of h.by.1)) }
-answers (Ok (flows.Undefined n)) w ran h = record { by = (h.by.0, sym (ap end_of h.by.1)) }
-answers (Ok flows.Over) w ran h = record { by = (h.by.0, sym (ap end_of h.by.1)) }
-answers (Ok flows.Halted) w ran h = record { by = (h.by.0, sym (ap end_of h.by.1)) }
-answers (Err e) w ran h = record { by = h.by }
+pub answers : {old new : SinkState} (n : ℕ) (r : Result Flow Failed) (w : World) (ran : Ran) → RunsFrom n old new r w ran → Answers old new (answer_of n r) ran
+answers n (Ok flows.Going) w ran h = record { by = (h.by.0, sym (ap end_of h.by.1)) }
+answers n (Ok (flows.Undefined k)) w ran h = record { by = (h.by.0, sym (ap end_of h.by.1)) }
+answers n (Ok (flows.UndefinedInCall k)) w ran h = record { by = (h.by.0, sym (ap end_of h.by.1)) }
+answers n (Ok flows.Over) w ran h = record { by = (h.by.0, sym (ap end_of h.by.1)) }
+answers n (Ok flows.Halted) w ran h = record { by = (h.by.0, sym (ap end_of h.by.1)) }
+answers n (Err e) w ran h = record { by = h.by }
 
 pub run_is : (p : Program) (columns : List (List ℤ)) (u l : ℤ) (limits : Limits) (gs : List Routine) (n : ℕ) (list : List Stmt) (vs : Memory) (cs : List Column) → limits.until ≡ u → limits.limit ≡ l
     → map numbered_of gs ≡ numbered 1 (map function_of p.funcs.items) []

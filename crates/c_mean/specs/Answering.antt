@@ -1,5 +1,5 @@
 -- What the run of a whole program answers.
-use Rattle.std.specs.Prelude.{◌≡◌, Result, Ok, Err}
+use Rattle.std.specs.Prelude.{◌≡◌, ℕ, Result, Ok, Err}
 use Rattle.sci_io.specs.declared.sink.Failed.{Failed}
 use Rattle.sci_io.specs.Taken.{SinkState, Writes}
 use Rattle.sci_trace.specs.Lines.{text}
@@ -9,7 +9,7 @@ use Rattle.c_mean.specs.declared.start.CEnd.{CEnd}
 use Rattle.c_mean.specs.declared.start.CEnd.TheVariants as ends
 use Rattle.c_mean.specs.declared.start.RunStop.{RunStop}
 use Rattle.c_mean.specs.declared.start.RunStop.TheVariants as causes
-use Rattle.c_mean.specs.Meaning.{How, going, undefined, over, halted, Ran}
+use Rattle.c_mean.specs.Meaning.{How, going, undefined, over, halted, Ran, later}
 
 -- reaching the end of sci_main ends a run like an end that is told
 abbrev pub end_of : How → CEnd
@@ -28,9 +28,11 @@ AnswersBy old new (Err causes.Memory) ran = new ≡ old
 pub record Answers (old new : SinkState) (result : Result CEnd RunStop) (ran : Ran) : Type 0 where
   pub by : AnswersBy old new result ran
 
-abbrev pub answer_of : Result Flow Failed → Result CEnd RunStop
-answer_of (Ok flows.Going) = Ok ends.End
-answer_of (Ok (flows.Undefined n)) = Ok (ends.Undefined n)
-answer_of (Ok flows.Over) = Ok ends.End
-answer_of (Ok flows.Halted) = Ok ends.Stop
-answer_of (Err e) = Err causes.Failed
+-- the answer of statements that were left so, the first of which has number n
+abbrev pub answer_of : ℕ → Result Flow Failed → Result CEnd RunStop
+answer_of n (Ok flows.Going) = Ok ends.End
+answer_of n (Ok (flows.Undefined k)) = Ok (ends.Undefined (later n k))
+answer_of n (Ok (flows.UndefinedInCall m)) = Ok (ends.Undefined m)
+answer_of n (Ok flows.Over) = Ok ends.End
+answer_of n (Ok flows.Halted) = Ok ends.Stop
+answer_of n (Err e) = Err causes.Failed

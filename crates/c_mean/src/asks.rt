@@ -1,27 +1,32 @@
 // Questions to the surroundings.
 
-ghost use Rattle.std.specs.Prelude.{◌≡◌, Some, None, map, if◌then◌else◌};
+ghost use Rattle.std.specs.Prelude.{◌≡◌, ℕ, Some, None, map, if◌then◌else◌};
 ghost use Rattle.c_ast.specs.View.{exp_of, place_of, asked_of};
-ghost use Rattle.c_mean.specs.Meaning.{assign, has_left, column, column_place, told_more, received, asked, quietly};
-ghost use Rattle.c_mean.specs.Running.{left_of, world, how_of};
+ghost use Rattle.c_mean.specs.Meaning.{has_left, column, column_place, told_more, received, asked, quietly, going, undefined};
+ghost use Rattle.c_mean.specs.Running.{left_of, world};
 ghost use Rattle.c_mean.specs.Layout.{slots};
 
 use crate::effects::give;
-use crate::machine::{Column, Flow, Limits};
+use crate::machine::{Column, Limits};
 use crate::memory::Memory;
 use crate::values::eval;
 use c_ast::{Ask, Expr, Target};
 
-fn place(k: i64) -> Option<usize>
-    ensures { result ≡ column_place k }
+/// The place of a column among all: columns are counted from 1.
+fn place(number: i64) -> Option<usize>
+    ensures { result ≡ column_place number }
 {
-    if k < 1 { None } else { Some((k - 1) as usize) }
+    if number < 1 {
+        None
+    } else {
+        Some((number - 1) as usize)
+    }
 }
 
-fn has_value(columns: &[Column<'_>], k: i64) -> bool
-    ensures { result ≡ has_left (column (map left_of columns.now) k) }
+fn has_value(columns: &[Column<'_>], number: i64) -> bool
+    ensures { result ≡ has_left (column (map left_of columns.now) number) }
 {
-    let Some(i) = place(k) else {
+    let Some(i) = place(number) else {
         return false;
     };
     if i < columns.len() {
@@ -31,78 +36,61 @@ fn has_value(columns: &[Column<'_>], k: i64) -> bool
     false
 }
 
-fn more(memory: &mut Memory<'_>, columns: &[Column<'_>], target: &Target, e: &Expr) -> bool
-    ensures { (if result then Some (slots memory.new) else None) ≡ told_more (place_of target.now) (exp_of e.now) (world memory.old columns.now) }
+/// Tells the target whether the column has a value left.
+fn more(memory: &mut Memory<'_>, columns: &[Column<'_>], target: &Target, column: &Expr) -> bool
+    ensures { (if result then Some (slots memory.new) else None) ≡ told_more (place_of target.now) (exp_of column.now) (world memory.old columns.now) }
 {
-    let Some(k) = eval(memory, e) else {
+    let Some(number) = eval(memory, column) else {
         return false;
     };
-    let answer = if has_value(columns, k) { 1 } else { 0 };
+    let answer = i64::from(has_value(columns, number));
     give(memory, target, answer)
 }
 
-fn receive(memory: &mut Memory<'_>, columns: &mut [Column<'_>], target: &Target, e: &Expr) -> bool
-    ensures { (if result then Some (world memory.new columns.new) else None) ≡ received (place_of target.now) (exp_of e.now) (world memory.old columns.old) }
+/// Takes the column's next value for the target.
+fn receive(
+    memory: &mut Memory<'_>,
+    columns: &mut [Column<'_>],
+    target: &Target,
+    column: &Expr,
+) -> bool
+    ensures { (if result then Some (world memory.new columns.new) else None) ≡ received (place_of target.now) (exp_of column.now) (world memory.old columns.old) }
 {
-    let Some(k) = eval(memory, e) else {
+    let Some(number) = eval(memory, column) else {
         return false;
     };
-    let Some(i) = place(k) else {
+    let Some(i) = place(number) else {
         return false;
     };
     if i >= columns.len() {
         return false;
     }
     let left = columns[i].left;
-    let Some((v, rest)) = left.split_first() else {
+    let Some((value, rest)) = left.split_first() else {
         return false;
     };
-    if !give(memory, target, *v) {
+    if !give(memory, target, *value) {
         return false;
     }
     columns[i] = Column { left: rest };
     true
 }
 
-/// Asks, in the statement of this number.
+/// Asks, and gives the target the answer. False where the statement is undefined: where the target has no place or the column's number is
+/// undefined, and where an input is asked of a column that isn't there or has no value left.
 pub fn ask(
     memory: &mut Memory<'_>,
     columns: &mut [Column<'_>],
     limits: Limits,
-    number: u64,
     target: &Target,
     ask: &Ask,
-) -> Flow
-    ensures { asked limits.until limits.limit number (place_of target.now) (asked_of ask.now) (world memory.old columns.old) ≡ quietly (how_of result (world memory.new columns.new)) }
+) -> bool
+    ensures { (n : ℕ) → asked limits.until limits.limit n (place_of target.now) (asked_of ask.now) (world memory.old columns.old) ≡ quietly (if result then going (world memory.new columns.new) else undefined n) }
 {
     match ask {
-        Ask::More(e) => {
-            if more(memory, columns, target, e) {
-                Flow::Going
-            } else {
-                Flow::Undefined(number)
-            }
-        }
-        Ask::Input(e) => {
-            if receive(memory, columns, target, e) {
-                Flow::Going
-            } else {
-                Flow::Undefined(number)
-            }
-        }
-        Ask::Until => {
-            if give(memory, target, limits.until) {
-                Flow::Going
-            } else {
-                Flow::Undefined(number)
-            }
-        }
-        Ask::Limit => {
-            if give(memory, target, limits.limit) {
-                Flow::Going
-            } else {
-                Flow::Undefined(number)
-            }
-        }
+        Ask::More(column) => more(memory, columns, target, column),
+        Ask::Input(column) => receive(memory, columns, target, column),
+        Ask::Until => give(memory, target, limits.until),
+        Ask::Limit => give(memory, target, limits.limit),
     }
 }

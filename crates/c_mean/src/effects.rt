@@ -1,62 +1,83 @@
 // What single statements do to the variables and columns, and what they let be observed.
 
-ghost use Rattle.std.specs.Prelude.{◌≡◌, Some, None, if◌then◌else◌};
+ghost use Rattle.std.specs.Prelude.{◌≡◌, Some, None, option_map, if◌then◌else◌};
 ghost use Rattle.c_ast.specs.View.{exp_of, place_of, told_of};
 ghost use Rattle.c_mean.specs.Meaning.{assign, set_to, counted, told, end_word, stop_word, bound_value, turn_count, is_zero};
+ghost use Rattle.c_mean.specs.Running.{begun};
 ghost use Rattle.c_mean.specs.Layout.{slots};
 
-use crate::machine::{Column, Flow};
 use crate::memory::Memory;
 use crate::values::{eval, look, put};
 use c_ast::{Bound, Expr, Name, Target, Tell};
 use sci_base::{EndWord, Obs, StopWord};
 
-/// Gives the target this value: false where its index is none.
-pub fn give(memory: &mut Memory<'_>, target: &Target, v: i64) -> bool
-    ensures { (if result then Some (slots memory.new) else None) ≡ assign (place_of target.now) v (slots memory.old) }
+/// Gives the target this value. False where it has no place: where its index is undefined or outside its array, or its name is not declared.
+pub fn give(memory: &mut Memory<'_>, target: &Target, value: i64) -> bool
+    ensures { (if result then Some (slots memory.new) else None) ≡ assign (place_of target.now) value (slots memory.old) }
 {
     match target {
-        Target::Var(x) => put(memory, *x, 0, v),
-        Target::At(x, place) => {
-            let Some(i) = eval(memory, place) else {
+        Target::Var(name) => put(memory, *name, 0, value),
+        Target::At(name, place) => {
+            let Some(index) = eval(memory, place) else {
                 return false;
             };
-            if i < 0 {
+            if index < 0 {
                 return false;
             }
-            put(memory, *x, i as usize, v)
+            put(memory, *name, index as usize, value)
         }
     }
 }
 
-pub fn set(memory: &mut Memory<'_>, target: &Target, e: &Expr) -> bool
-    ensures { (if result then Some (slots memory.new) else None) ≡ set_to (place_of target.now) (exp_of e.now) (slots memory.old) }
+/// Gives the target the value of an expression. False where the value is undefined, or the target has no place.
+pub fn set(memory: &mut Memory<'_>, target: &Target, expression: &Expr) -> bool
+    ensures { (if result then Some (slots memory.new) else None) ≡ set_to (place_of target.now) (exp_of expression.now) (slots memory.old) }
 {
-    match eval(memory, e) {
+    match eval(memory, expression) {
         None => false,
-        Some(v) => give(memory, target, v),
+        Some(value) => give(memory, target, value),
     }
 }
 
-/// The counter's next value.
-pub fn up(memory: &mut Memory<'_>, x: Name) -> bool
-    ensures { (if result then Some (slots memory.new) else None) ≡ counted x (slots memory.old) }
+/// Gives the counter its next value. False where the counter is not declared, or stands at the last value of an `int64_t`.
+pub fn up(memory: &mut Memory<'_>, counter: Name) -> bool
+    ensures { (if result then Some (slots memory.new) else None) ≡ counted counter (slots memory.old) }
 {
-    let Some(v) = look(memory, x, 0) else {
+    let Some(value) = look(memory, counter, 0) else {
         return false;
     };
-    match v.checked_add(1) {
+    match value.checked_add(1) {
         None => false,
-        Some(u) => put(memory, x, 0, u),
+        Some(next) => put(memory, counter, 0, next),
     }
 }
 
-pub fn bound(memory: &Memory<'_>, bound: &Bound) -> Option<i64>
+fn bound_of(memory: &Memory<'_>, bound: &Bound) -> Option<i64>
     ensures { result ≡ bound_value bound.now (slots memory.now) }
 {
     match bound {
-        Bound::Num(n) => Some(*n),
-        Bound::Var(x) => look(memory, *x, 0),
+        Bound::Num(value) => Some(*value),
+        Bound::Var(name) => look(memory, *name, 0),
+    }
+}
+
+/// How many turns a bound stands for: none where it is negative.
+fn turns_of(bound: i64) -> u64
+    ensures { result ≡ turn_count bound }
+{
+    if bound < 0 { 0 } else { bound as u64 }
+}
+
+/// Begins a For: puts its counter at 0, and answers how many turns follow, 0 up to 2^63 - 1. None where the bound or the counter is not
+/// declared.
+pub fn begin(memory: &mut Memory<'_>, counter: Name, bound: &Bound) -> Option<u64>
+    ensures { option_map (λ turns. (slots memory.new, turns)) result ≡ begun counter bound.now (slots memory.old) }
+{
+    let end = bound_of(memory, bound)?;
+    if put(memory, counter, 0, 0) {
+        Some(turns_of(end))
+    } else {
+        None
     }
 }
 
@@ -84,7 +105,7 @@ fn stop_of(n: i64) -> Option<StopWord>
     }
 }
 
-/// What is observed, where all its numbers are defined.
+/// What is observed. None where one of its values is undefined, or the number of its word is that of none.
 pub fn observation(memory: &Memory<'_>, tell: &Tell) -> Option<Obs>
     ensures { result ≡ told (told_of tell.now) (slots memory.now) }
 {
@@ -100,8 +121,8 @@ pub fn observation(memory: &Memory<'_>, tell: &Tell) -> Option<Obs>
             let x = eval(memory, a)?;
             let y = eval(memory, b)?;
             let z = eval(memory, c)?;
-            let v = eval(memory, d)?;
-            Some(Obs::Val(x, y, z, v))
+            let value = eval(memory, d)?;
+            Some(Obs::Val(x, y, z, value))
         }
         Tell::End(a) => {
             let word = end_of(eval(memory, a)?)?;
@@ -116,14 +137,9 @@ pub fn observation(memory: &Memory<'_>, tell: &Tell) -> Option<Obs>
     }
 }
 
-pub fn zero(v: i64) -> bool
-    ensures { result ≡ is_zero v }
+/// Whether a value counts as false.
+pub fn is_false(value: i64) -> bool
+    ensures { result ≡ is_zero value }
 {
-    v == 0
-}
-
-pub fn turns_of(limit: i64) -> u64
-    ensures { result ≡ turn_count limit }
-{
-    if limit < 0 { 0 } else { limit as u64 }
+    value == 0
 }

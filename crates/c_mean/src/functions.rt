@@ -20,6 +20,7 @@ pub struct Functions<'a> {
     ghost found: { (f : Name) → hash.get same_name index f ≡ latest f 0 routines.items },
 }
 
+/// The functions with their index. The only error is want of memory.
 pub fn indexed<'a>(alloc: Global, routines: Vec<Routine<'a>>) -> Result<Functions<'a>, AllocError>
     ensures { IfOk result (λ v. v.routines.items ≡ routines.entry.items) }
 {
@@ -30,36 +31,37 @@ pub fn indexed<'a>(alloc: Global, routines: Vec<Routine<'a>>) -> Result<Function
     Ok(Functions { routines, index })
 }
 
-fn same(x: Name, f: Name) -> bool
-    ensures { result ≡ same_name x f }
+fn same(left: Name, right: Name) -> bool
+    ensures { result ≡ same_name left right }
 {
-    x.letter == f.letter && x.number == f.number
+    left.letter == right.letter && left.number == right.number
 }
 
 /// Looks at each function from this place on.
-fn search(routines: &[Routine<'_>], from: usize, f: Name) -> Option<usize>
-    ensures value { result ≡ latest f from routines.now }
+fn search(routines: &[Routine<'_>], from: usize, name: Name) -> Option<usize>
+    ensures value { result ≡ latest name from routines.now }
     ensures within { IfSome result (λ k. k < length routines.now) }
 {
     for k in from..routines.len() {
-        if same(routines[k].name, f) {
+        if same(routines[k].name, name) {
             return Some(k);
         }
     }
     None
 }
 
-/// Where the first function of this name stands from this place on. Each is looked at only where an earlier place has the name too.
-pub fn find(functions: &Functions<'_>, from: usize, f: Name) -> Option<usize>
-    ensures value { result ≡ latest f from functions.now.routines.items }
+/// Where the first function of this name stands from this place on; none where none has it. Each is looked at only where an earlier place
+/// has the name too.
+pub fn find(functions: &Functions<'_>, from: usize, name: Name) -> Option<usize>
+    ensures value { result ≡ latest name from functions.now.routines.items }
     ensures within { IfSome result (λ k. k < length functions.now.routines.items) }
 {
-    match functions.index.get(&f).copied() {
+    match functions.index.get(&name).copied() {
         None => None,
         Some(first) => if first >= from {
             Some(first)
         } else {
-            search(&functions.routines, from, f)
+            search(&functions.routines, from, name)
         },
     }
 }

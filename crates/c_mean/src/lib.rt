@@ -15,7 +15,7 @@ pub use start::{CEnd, RunStop, run};
 #[cfg(test)]
 mod tests {
     use super::*;
-    use c_ast::{Decl, Expr, Name, Op, Program, Stmt, Target, Tell};
+    use c_ast::{Bound, Decl, Expr, Name, Op, Program, Stmt, Target, Tell};
     use sci_inputs::Inputs;
     use sci_io::MemSink;
     use std::alloc::{AllocError, Global};
@@ -63,6 +63,37 @@ mod tests {
         })
     }
 
+    fn zeroed(name: Name) -> Stmt {
+        Stmt::Set(Target::Var(name), Expr::Num(0))
+    }
+
+    // for (k1 = 0; k1 < 3; k1 = k1 + 1) { if (0) { v1 = 0; v1 = 0; } else { v1 = 0; v1 = 1 / 0; } }
+    fn division_by_zero(alloc: Global) -> Result<Program, AllocError> {
+        let name = Name {
+            letter: b'v',
+            number: 1,
+        };
+        let counter = Name {
+            letter: b'k',
+            number: 1,
+        };
+        let quotient = both(alloc, Op::Div, Expr::Num(1), Expr::Num(0))?;
+        let yes = vec![in alloc; zeroed(name), zeroed(name)]?;
+        let no = vec![in alloc; zeroed(name), Stmt::Set(Target::Var(name), quotient)]?;
+        let body = vec![in alloc; Stmt::If(Expr::Num(0), yes, no)]?;
+        Ok(Program {
+            decls: vec![in alloc;
+                Decl { name, size: None },
+                Decl {
+                    name: counter,
+                    size: None
+                },
+            ]?,
+            funcs: Vec::new(alloc),
+            main: vec![in alloc; Stmt::For(counter, Bound::Num(3), body)]?,
+        })
+    }
+
     #[test]
     fn a_quotient_is_cut_toward_zero(rt: HostRuntime) -> Result<(), Fail> {
         let alloc = rt.alloc();
@@ -79,6 +110,23 @@ mod tests {
         let mut out = MemSink::new(alloc, Vec::new(alloc), 100)?;
         let end = run(alloc, &overflow(alloc)?, &none(alloc), 10, 10, &mut out);
         assert_eq!(rt; end, Ok(CEnd::Undefined(2)));
+        assert_eq!(rt; out.taken(), "".as_bytes());
+        Ok(())
+    }
+
+    #[test]
+    fn a_number_counts_the_list_that_is_skipped(rt: HostRuntime) -> Result<(), Fail> {
+        let alloc = rt.alloc();
+        let mut out = MemSink::new(alloc, Vec::new(alloc), 100)?;
+        let end = run(
+            alloc,
+            &division_by_zero(alloc)?,
+            &none(alloc),
+            10,
+            10,
+            &mut out,
+        );
+        assert_eq!(rt; end, Ok(CEnd::Undefined(6)));
         assert_eq!(rt; out.taken(), "".as_bytes());
         Ok(())
     }

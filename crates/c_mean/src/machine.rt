@@ -15,7 +15,7 @@ pub struct Column<'a> {
     pub left: &'a [i64],
 }
 
-/// A function, with the number of its first statement.
+/// A function, with the number of its first statement, counted as in `CEnd`.
 #[derive(Clone, Copy)]
 pub struct Routine<'a> {
     pub name: Name,
@@ -30,13 +30,16 @@ pub struct Limits {
     pub limit: i64,
 }
 
-/// How a statement was left.
+/// How statements were left.
 #[derive(Clone, Copy)]
 pub enum Flow {
     /// The next statement follows.
     Going,
-    /// The statement of this number is undefined.
+    /// A statement is undefined: the one that stands so many statements behind the statement that was run, or behind the first of the list
+    /// that was run, in the order of the text and through all lists. A count past 2^64 - 1 stands still there.
     Undefined(u64),
+    /// A statement of a called function is undefined: the one of this number in the program, counted as in `CEnd`.
+    UndefinedInCall(u64),
     /// The run has ended.
     Over,
     /// The run has stopped.

@@ -22,12 +22,12 @@ pub struct Memory<'a> {
     ghost found: { (x : Name) → hash.get same_name spans x ≡ span_of (map declared_of decls.now) x },
 }
 
-/// Adds a value at a name, unless there is one.
-pub fn enter<V: Copy>(map: &mut HashMap<Name, V>, x: Name, v: V) -> Result<(), AllocError>
-    ensures { (q : Name) → OnOk result (hash.get same_name map.new q ≡ first_of (hash.get same_name map.old q) (if same_name x q then Some v else None)) }
+/// Adds a value at a name, unless there is one. The only error is want of memory.
+pub fn enter<V: Copy>(map: &mut HashMap<Name, V>, name: Name, value: V) -> Result<(), AllocError>
+    ensures { (q : Name) → OnOk result (hash.get same_name map.new q ≡ first_of (hash.get same_name map.old q) (if same_name name q then Some value else None)) }
 {
-    if !map.contains_key(&x) {
-        map.insert(x, v)?;
+    if !map.contains_key(&name) {
+        map.insert(name, value)?;
     }
     Ok(())
 }

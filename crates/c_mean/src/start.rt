@@ -129,12 +129,14 @@ fn limits_of(until: u64, limit: u64) -> Limits
     }
 }
 
-fn answer(left: Result<Flow, Failed>) -> Result<CEnd, RunStop>
-    ensures { result ≡ answer_of left }
+/// How a run ended whose statements were left so, the first of which has this number.
+fn answer(left: Result<Flow, Failed>, first: u64) -> Result<CEnd, RunStop>
+    ensures { result ≡ answer_of first left }
 {
     match left {
         Ok(Flow::Going) => Ok(CEnd::End),
-        Ok(Flow::Undefined(number)) => Ok(CEnd::Undefined(number)),
+        Ok(Flow::Undefined(before)) => Ok(CEnd::Undefined(first.saturating_add(before))),
+        Ok(Flow::UndefinedInCall(number)) => Ok(CEnd::Undefined(number)),
         Ok(Flow::Over) => Ok(CEnd::End),
         Ok(Flow::Halted) => Ok(CEnd::Stop),
         Err(_) => Err(RunStop::Failed),
@@ -143,32 +145,33 @@ fn answer(left: Result<Flow, Failed>) -> Result<CEnd, RunStop>
 
 /// Runs a program on input columns: what its meaning observes is written to the sink, a line for each observation, and the answer says how
 /// the run ended. All memory is taken before the first observation. `until` is what the program is told as its last date, `limit` as its
-/// bound on events; both are below 2^63. It returns after as many turns as the program's own loops count.
+/// bound on events; both are below 2^63. It returns after as many turns as the program's own loops count. `RunStop::Memory` says that
+/// there was no memory and nothing was observed, `RunStop::Failed` that the sink failed.
 pub fn run<S: Sink>(
     alloc: Global,
-    p: &Program,
-    ins: &Inputs,
+    program: &Program,
+    inputs: &Inputs,
     until: u64,
     limit: u64,
     out: &mut S,
 ) -> Result<CEnd, RunStop>
     requires until_fits { until < 2 ^ 63 }
     requires limit_fits { limit < 2 ^ 63 }
-    ensures { Answers (S.state out.old) (S.state out.new) result (meaning (whole_of p.now) ins.now (pos until) (pos limit)) }
+    ensures { Answers (S.state out.old) (S.state out.new) result (meaning (whole_of program.now) inputs.now (pos until) (pos limit)) }
 {
-    let mut memory = memory_of(alloc, &p.decls)?;
-    let mut left = columns_of(alloc, ins.columns())?;
-    let functions = indexed(alloc, routines_of(alloc, &p.funcs)?)?;
+    let mut memory = memory_of(alloc, &program.decls)?;
+    let mut columns = columns_of(alloc, inputs.columns())?;
+    let functions = indexed(alloc, routines_of(alloc, &program.funcs)?)?;
     let limits = limits_of(until, limit);
-    let number = number_behind(&p.funcs);
-    answer(block(
+    let first = number_behind(&program.funcs);
+    let left = block(
         &mut memory,
-        &mut left,
+        &mut columns,
         limits,
         &functions,
         0,
-        number,
-        &p.main,
+        &program.main,
         out,
-    ))
+    );
+    answer(left, first)
 }

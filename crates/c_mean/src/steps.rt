@@ -1,28 +1,28 @@
 // Runs statements.
 
-ghost use Rattle.std.specs.Prelude.{◌≡◌, ℤ, List, Bool};
-ghost use Rattle.c_ast.specs.View.{statement_of, statements_of, told_of};
+ghost use Rattle.std.specs.Prelude.{◌≡◌, ℕ, ℤ, List, Bool};
+ghost use Rattle.c_ast.specs.View.{exp_of, statement_of, statements_of, told_of};
 ghost use Rattle.c_mean.specs.Meaning.{World, run_statement, run_block, statement_count, block_count, turns, one_turn, calling, telling, how_after};
-ghost use Rattle.c_mean.specs.Running.{world, earlier, surroundings, how_of, Runs};
+ghost use Rattle.c_mean.specs.Running.{world, earlier, surroundings, how_of, moved, called, choosing, Runs};
 ghost use Rattle.c_mean.specs.Layout.{slots};
 
 use crate::asks::ask;
-use crate::effects::{bound, observation, set, turns_of, up, zero};
+use crate::effects::{begin, is_false, observation, set, up};
 use crate::functions::{Functions, find};
-use crate::machine::{Column, Flow, Limits};
+use crate::machine::{Column, Flow, Limits, Routine};
 use crate::memory::Memory;
-use crate::values::{eval, put};
-use c_ast::{Name, Stmt, Tell};
+use crate::values::eval;
+use c_ast::{Expr, Name, Stmt, Tell};
 use sci_base::Obs;
 use sci_io::{Failed, Sink};
 use sci_trace::write_obs;
 
-/// How many statements, through all lists.
+/// How many statements a statement is, with those of its lists.
 #[cycle(count)]
-fn count(s: &Stmt) -> u64
-    ensures { result ≡ statement_count (statement_of s.now) }
+fn count(statement: &Stmt) -> u64
+    ensures { result ≡ statement_count (statement_of statement.now) }
 {
-    match s {
+    match statement {
         Stmt::If(_, yes, no) => 1u64
             .saturating_add(count_all(yes))
             .saturating_add(count_all(no)),
@@ -31,6 +31,7 @@ fn count(s: &Stmt) -> u64
     }
 }
 
+/// How many statements there are, through all lists; a count past 2^64 - 1 stands still there.
 #[cycle(count)]
 pub fn count_all(list: &[Stmt]) -> u64
     ensures { result ≡ block_count (statements_of list.now) }
@@ -53,101 +54,127 @@ fn goes_on(left: Result<Flow, Failed>) -> bool
     }
 }
 
-fn defined(number: u64, done: bool) -> Flow
+/// How a list was left whose part behind these statements was left so. They are counted only where the number is wanted.
+fn behind(left: Result<Flow, Failed>, before: &[Stmt]) -> Result<Flow, Failed>
+    ensures { result ≡ moved (block_count (statements_of before.now)) left }
+{
+    match left {
+        Ok(Flow::Undefined(k)) => Ok(Flow::Undefined(count_all(before).saturating_add(k))),
+        _ => left,
+    }
+}
+
+/// How an If or a For was left whose list, right behind its head, was left so.
+fn inside(left: Result<Flow, Failed>) -> Result<Flow, Failed>
+    ensures { result ≡ moved 1 left }
+{
+    match left {
+        Ok(Flow::Undefined(k)) => Ok(Flow::Undefined(1u64.saturating_add(k))),
+        _ => left,
+    }
+}
+
+/// How a call was left whose function was left so. The function's first statement has this number.
+fn back(left: Result<Flow, Failed>, first: u64) -> Result<Flow, Failed>
+    ensures { result ≡ called first left }
+{
+    match left {
+        Ok(Flow::Undefined(k)) => Ok(Flow::UndefinedInCall(first.saturating_add(k))),
+        _ => left,
+    }
+}
+
+fn defined(done: bool) -> Flow
     ensures yes { done ≡ Bool.true → result ≡ Flow.Going }
-    ensures no { done ≡ Bool.false → result ≡ Flow.Undefined number }
+    ensures no { done ≡ Bool.false → result ≡ Flow.Undefined 0 }
 {
     if done {
         Flow::Going
     } else {
-        Flow::Undefined(number)
+        Flow::Undefined(0)
     }
 }
 
-fn flow_after(o: Obs) -> Flow
-    ensures { (w : World) → how_after o w ≡ how_of result w }
+fn flow_after(observation: Obs) -> Flow
+    ensures { (n : ℕ) → (w : World) → how_after observation w ≡ how_of n result w }
 {
-    match o {
+    match observation {
         Obs::Start | Obs::Event(_, _, _) | Obs::Val(_, _, _, _) => Flow::Going,
         Obs::End(_) => Flow::Over,
         Obs::Stop(_, _, _) => Flow::Halted,
     }
 }
 
-/// An observation, in the statement of this number.
-fn tell<S: Sink>(memory: &Memory<'_>, number: u64, t: &Tell, out: &mut S) -> Result<Flow, Failed>
-    ensures { (left : List (List ℤ)) → Runs (S.state out.old) (S.state out.new) result (record { slots = slots memory.now; left = left }) (telling number (told_of t.now) (record { slots = slots memory.now; left = left })) }
+/// Makes an observation and writes its line. The only error is that of the sink.
+fn tell<S: Sink>(memory: &Memory<'_>, tell: &Tell, out: &mut S) -> Result<Flow, Failed>
+    ensures { (left : List (List ℤ)) → Runs (S.state out.old) (S.state out.new) result (record { slots = slots memory.now; left = left }) (λ n. telling n (told_of tell.now) (record { slots = slots memory.now; left = left })) }
 {
-    let Some(o) = observation(memory, t) else {
-        return Ok(Flow::Undefined(number));
+    let Some(observed) = observation(memory, tell) else {
+        return Ok(Flow::Undefined(0));
     };
-    write_obs(&o, out)?;
-    Ok(flow_after(o))
+    write_obs(&observed, out)?;
+    Ok(flow_after(observed))
 }
 
-/// A statement, whose number this is. It may call the functions from this place on.
+/// Runs a statement, which may call the functions from this place on. The only error is that of the sink.
 #[cycle(run)]
-pub fn statement<S: Sink>(
+fn statement<S: Sink>(
     memory: &mut Memory<'_>,
     columns: &mut [Column<'_>],
     limits: Limits,
     functions: &Functions<'_>,
     from: usize,
-    number: u64,
-    s: &Stmt,
+    statement: &Stmt,
     out: &mut S,
 ) -> Result<Flow, Failed>
-    ensures { Runs (S.state out.old) (S.state out.new) result (world memory.new columns.new) (run_statement (surroundings (earlier functions.now from) limits) number (statement_of s.now) (world memory.old columns.old)) }
+    ensures { Runs (S.state out.old) (S.state out.new) result (world memory.new columns.new) (λ n. run_statement (surroundings (earlier functions.now from) limits) n (statement_of statement.now) (world memory.old columns.old)) }
 {
-    match s {
-        Stmt::Set(target, e) => Ok(defined(number, set(memory, target, e))),
-        Stmt::Ask(target, question) => Ok(ask(memory, columns, limits, number, target, question)),
-        Stmt::If(e, yes, no) => {
-            let Some(v) = eval(memory, e) else {
-                return Ok(Flow::Undefined(number));
-            };
-            let first = number.saturating_add(1);
-            if zero(v) {
-                block(
-                    memory,
-                    columns,
-                    limits,
-                    functions,
-                    from,
-                    first.saturating_add(count_all(yes)),
-                    no,
-                    out,
-                )
-            } else {
-                block(memory, columns, limits, functions, from, first, yes, out)
-            }
+    match statement {
+        Stmt::Set(target, value) => Ok(defined(set(memory, target, value))),
+        Stmt::Ask(target, question) => {
+            Ok(defined(ask(memory, columns, limits, target, question)))
         }
-        Stmt::For(x, limit, body) => {
-            let Some(end) = bound(memory, limit) else {
-                return Ok(Flow::Undefined(number));
-            };
-            if !put(memory, *x, 0, 0) {
-                return Ok(Flow::Undefined(number));
-            }
-            repeat(
-                memory,
-                columns,
-                limits,
-                functions,
-                from,
-                number,
-                *x,
-                turns_of(end),
-                body,
-                out,
-            )
-        }
-        Stmt::Call(f) => call(memory, columns, limits, functions, from, number, *f, out),
-        Stmt::Tell(t) => tell(memory, number, t, out),
+        Stmt::If(condition, yes, no) => choose(
+            memory, columns, limits, functions, from, condition, yes, no, out,
+        ),
+        Stmt::For(counter, bound, body) => match begin(memory, *counter, bound) {
+            None => Ok(Flow::Undefined(0)),
+            Some(times) => repeat(
+                memory, columns, limits, functions, from, *counter, times, body, out,
+            ),
+        },
+        Stmt::Call(name) => call(memory, columns, limits, functions, from, *name, out),
+        Stmt::Tell(observed) => tell(memory, observed, out),
     }
 }
 
-/// Statements in a row, the first of which has this number.
+/// One of two lists, by the condition.
+#[cycle(run)]
+fn choose<S: Sink>(
+    memory: &mut Memory<'_>,
+    columns: &mut [Column<'_>],
+    limits: Limits,
+    functions: &Functions<'_>,
+    from: usize,
+    condition: &Expr,
+    yes: &[Stmt],
+    no: &[Stmt],
+    out: &mut S,
+) -> Result<Flow, Failed>
+    ensures { Runs (S.state out.old) (S.state out.new) result (world memory.new columns.new) (choosing (surroundings (earlier functions.now from) limits) (exp_of condition.now) (statements_of yes.now) (statements_of no.now) (world memory.old columns.old)) }
+{
+    let Some(value) = eval(memory, condition) else {
+        return Ok(Flow::Undefined(0));
+    };
+    if is_false(value) {
+        let left = block(memory, columns, limits, functions, from, no, out);
+        inside(behind(left, yes))
+    } else {
+        inside(block(memory, columns, limits, functions, from, yes, out))
+    }
+}
+
+/// Runs statements in a row, which may call the functions from this place on. The only error is that of the sink.
 #[cycle(run)]
 pub fn block<S: Sink>(
     memory: &mut Memory<'_>,
@@ -155,19 +182,15 @@ pub fn block<S: Sink>(
     limits: Limits,
     functions: &Functions<'_>,
     from: usize,
-    number: u64,
     list: &[Stmt],
     out: &mut S,
 ) -> Result<Flow, Failed>
-    ensures { Runs (S.state out.old) (S.state out.new) result (world memory.new columns.new) (run_block (surroundings (earlier functions.now from) limits) number (statements_of list.now) (world memory.old columns.old)) }
+    ensures { Runs (S.state out.old) (S.state out.new) result (world memory.new columns.new) (λ n. run_block (surroundings (earlier functions.now from) limits) n (statements_of list.now) (world memory.old columns.old)) }
 {
-    let mut here = number;
-    for s in list {
-        let left = statement(memory, columns, limits, functions, from, here, s, out);
-        if goes_on(left) {
-            here = here.saturating_add(count(s));
-        } else {
-            return left;
+    for (i, next) in list.iter().enumerate() {
+        let left = statement(memory, columns, limits, functions, from, next, out);
+        if !goes_on(left) {
+            return behind(left, &list[..i]);
         }
     }
     Ok(Flow::Going)
@@ -181,27 +204,17 @@ fn turn<S: Sink>(
     limits: Limits,
     functions: &Functions<'_>,
     from: usize,
-    number: u64,
-    x: Name,
+    counter: Name,
     body: &[Stmt],
     out: &mut S,
 ) -> Result<Flow, Failed>
-    ensures { Runs (S.state out.old) (S.state out.new) result (world memory.new columns.new) (one_turn (surroundings (earlier functions.now from) limits) number x (statements_of body.now) (world memory.old columns.old)) }
+    ensures { Runs (S.state out.old) (S.state out.new) result (world memory.new columns.new) (λ n. one_turn (surroundings (earlier functions.now from) limits) n counter (statements_of body.now) (world memory.old columns.old)) }
 {
-    let left = block(
-        memory,
-        columns,
-        limits,
-        functions,
-        from,
-        number.saturating_add(1),
-        body,
-        out,
-    );
+    let left = block(memory, columns, limits, functions, from, body, out);
     if goes_on(left) {
-        Ok(defined(number, up(memory, x)))
+        Ok(defined(up(memory, counter)))
     } else {
-        left
+        inside(left)
     }
 }
 
@@ -213,22 +226,18 @@ fn repeat<S: Sink>(
     limits: Limits,
     functions: &Functions<'_>,
     from: usize,
-    number: u64,
-    x: Name,
+    counter: Name,
     times: u64,
     body: &[Stmt],
     out: &mut S,
 ) -> Result<Flow, Failed>
-    ensures { Runs (S.state out.old) (S.state out.new) result (world memory.new columns.new) (turns times (one_turn (surroundings (earlier functions.now from) limits) number x (statements_of body.now)) (world memory.old columns.old)) }
+    ensures { Runs (S.state out.old) (S.state out.new) result (world memory.new columns.new) (λ n. turns times (one_turn (surroundings (earlier functions.now from) limits) n counter (statements_of body.now)) (world memory.old columns.old)) }
 {
     for _ in 0..times {
-        let left = turn(
-            memory, columns, limits, functions, from, number, x, body, out,
-        );
-        if goes_on(left) {
-            continue;
+        let left = turn(memory, columns, limits, functions, from, counter, body, out);
+        if !goes_on(left) {
+            return left;
         }
-        return left;
     }
     Ok(Flow::Going)
 }
@@ -241,24 +250,15 @@ fn call<S: Sink>(
     limits: Limits,
     functions: &Functions<'_>,
     from: usize,
-    number: u64,
-    f: Name,
+    name: Name,
     out: &mut S,
 ) -> Result<Flow, Failed>
-    ensures { Runs (S.state out.old) (S.state out.new) result (world memory.new columns.new) (calling (surroundings (earlier functions.now from) limits) number f (world memory.old columns.old)) }
+    ensures { Runs (S.state out.old) (S.state out.new) result (world memory.new columns.new) (λ n. calling (surroundings (earlier functions.now from) limits) n name (world memory.old columns.old)) }
 {
-    let Some(k) = find(functions, from, f) else {
-        return Ok(Flow::Undefined(number));
+    let Some(k) = find(functions, from, name) else {
+        return Ok(Flow::Undefined(0));
     };
-    let g = functions.routines[k];
-    block(
-        memory,
-        columns,
-        limits,
-        functions,
-        k + 1,
-        g.first,
-        g.body,
-        out,
-    )
+    let Routine { first, body, .. } = functions.routines[k];
+    let left = block(memory, columns, limits, functions, k + 1, body, out);
+    back(left, first)
 }

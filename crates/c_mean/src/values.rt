@@ -9,16 +9,16 @@ ghost use Rattle.c_mean.specs.Spans.{element_at};
 use crate::memory::Memory;
 use c_ast::{Expr, Name, Op};
 
-/// Where element i of a name stands among all elements, if there is such.
-fn place(memory: &Memory<'_>, x: Name, i: usize) -> Option<usize>
-    ensures value { result ≡ element_at (length memory.now.cells.items) (map declared_of memory.now.decls.now) x i }
+/// Where the element of this index stands among all elements, if the variable has such.
+fn place(memory: &Memory<'_>, name: Name, index: usize) -> Option<usize>
+    ensures value { result ≡ element_at (length memory.now.cells.items) (map declared_of memory.now.decls.now) name index }
     ensures within { IfSome result (λ k. k < length memory.now.cells.items) }
 {
-    let span = memory.spans.get(&x)?;
-    if i >= span.size {
+    let span = memory.spans.get(&name)?;
+    if index >= span.size {
         return None;
     }
-    let k = span.first.checked_add(i)?;
+    let k = span.first.checked_add(index)?;
     if k < memory.cells.len() {
         Some(k)
     } else {
@@ -26,22 +26,24 @@ fn place(memory: &Memory<'_>, x: Name, i: usize) -> Option<usize>
     }
 }
 
-pub fn look(memory: &Memory<'_>, x: Name, i: usize) -> Option<i64>
-    ensures { result ≡ lookup (slots memory.now) x i }
+/// The value of a variable's element; a scalar's has index 0. None where the name is not declared, or has no element of this index.
+pub fn look(memory: &Memory<'_>, name: Name, index: usize) -> Option<i64>
+    ensures { result ≡ lookup (slots memory.now) name index }
 {
-    match place(memory, x, i) {
+    match place(memory, name, index) {
         None => None,
         Some(k) => Some(memory.cells[k]),
     }
 }
 
-pub fn put(memory: &mut Memory<'_>, x: Name, i: usize, v: i64) -> bool
-    ensures { (if result then Some (slots memory.new) else None) ≡ store (slots memory.old) x i v }
+/// Gives a variable's element this value. False where the name is not declared, or has no element of this index.
+pub fn put(memory: &mut Memory<'_>, name: Name, index: usize, value: i64) -> bool
+    ensures { (if result then Some (slots memory.new) else None) ≡ store (slots memory.old) name index value }
 {
-    match place(memory, x, i) {
+    match place(memory, name, index) {
         None => false,
         Some(k) => {
-            memory.cells[k] = v;
+            memory.cells[k] = value;
             true
         }
     }
@@ -67,18 +69,20 @@ fn strict_op(op: Op, a: i64, b: i64) -> Option<i64>
     }
 }
 
-pub fn eval(memory: &Memory<'_>, e: &Expr) -> Option<i64>
-    ensures { result ≡ evaluate (exp_of e.now) (slots memory.now) }
+/// The value of an expression. None where it is undefined: where a name is not declared, an index is outside its array, a divisor is 0, or a
+/// value is outside the range of `int64_t`.
+pub fn eval(memory: &Memory<'_>, expression: &Expr) -> Option<i64>
+    ensures { result ≡ evaluate (exp_of expression.now) (slots memory.now) }
 {
-    match e {
-        Expr::Num(n) => Some(*n),
-        Expr::Var(x) => look(memory, *x, 0),
-        Expr::At(x, place) => {
-            let v = eval(memory, place)?;
-            if v < 0 {
+    match expression {
+        Expr::Num(value) => Some(*value),
+        Expr::Var(name) => look(memory, *name, 0),
+        Expr::At(name, place) => {
+            let index = eval(memory, place)?;
+            if index < 0 {
                 None
             } else {
-                look(memory, *x, v as usize)
+                look(memory, *name, index as usize)
             }
         }
         Expr::Neg(a) => eval(memory, a)?.checked_neg(),

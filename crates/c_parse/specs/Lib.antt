@@ -1,6 +1,5 @@
 pub mod Reading
 pub mod LineReading
-pub mod Places
 pub mod LineBounds
 pub mod LineView
 pub mod Machine

@@ -1,3 +1,3 @@
 pub mod Waited
-pub mod Marked
+pub mod Walked
 pub mod Tabled

@@ -1,43 +1,26 @@
 -- The table of a source.
-use Rattle.std.proofs.Common.{◌≡◌, ◌<◌, ◌≤◌, ◌+◌, ◌-◌, ◌↔◌, ◌∙◌, ℕ, zero, suc, Bool, true, false, cond, List, ◌∷◌, [], ◌++◌, inl, inr, ⊎_elim, sym, ap, subst, arith, length, get_or, map, length-append, true≢false, Vec}
-use Rattle.std.specs.Prelude.{Contains, All, filter, Some, slice_get}
+use Rattle.std.proofs.Common.{◌≡◌, ◌<◌, ◌≤◌, ◌+◌, ◌↔◌, ◌∙◌, ℕ, List, ◌∷◌, [], ◌++◌, inl, inr, ⊎_elim, sym, ap, subst, arith, length, get_or, take, length-append, Vec}
+use Rattle.std.specs.Prelude.{Contains, All, Some, slice_get}
 use Rattle.std.specs.List.Sorted.{IsStrictlyIncreasing}
 use Rattle.std.specs.declared.alloc.Global.{Global}
 use Rattle.std.proofs.lemmas.Bool.{cases_eq}
-use Rattle.std.proofs.lemmas.List.{map-append, length-map, get_or-map, get_or_append_left, get_or_push}
-use Rattle.std.proofs.lemmas.List.Elements.{Contains-append_left, Contains-push, Contains-push_cases, Contains-get_or, All-contains, All-contains_itself, All-filter, filter_passes}
-use Rattle.std.proofs.lemmas.List.Kept.{IsStrictlyIncreasing-filter}
+use Rattle.std.proofs.lemmas.Grind.{get_or_default_zero}
+use Rattle.std.proofs.lemmas.List.{get_or-take, length-take-le, take_more, length-map, get_or-map, get_or_append_left, get_or_push}
+use Rattle.std.proofs.lemmas.List.Elements.{Contains-append_left, Contains-push, Contains-push_cases, Contains-get_or}
+use Rattle.std.proofs.lemmas.List.Kept.{AllPairs-from_increasing}
 use Rattle.std.proofs.lemmas.Option.{slice_get-get_or, slice_get_within, slice_get_cases, get_or_from_slice_get}
-use Rattle.sci_walk.specs.Lists.{plain}
+use Rattle.sci_walk.specs.Lists.{plain, list_at}
 use Rattle.sci_loop.specs.declared.table.DepTable.{DepTable}
 use Rattle.sci_loop.specs.Table.{Needs, IsRow}
 use Rattle.sci_net.specs.declared.Source.{Source}
-use Rattle.sci_net.specs.Parts.{Parts, numbered}
+use Rattle.sci_net.specs.Parts.{Parts, IsBlock, numbered}
 use Rattle.sci_net.specs.Net.{IsNet}
 use Rattle.sci_reaction.specs.Active.{Possible}
 use Rattle.sci_reaction.specs.Depends.{Depends}
 use Rattle.sci_reaction.proofs.Spreading.{Spread-block}
 use Rattle.sci_inherit.proofs.Gathering.{reaches_output}
-use Rattle.sci_dep.specs.Tables.{AreWaits, MarkPossible, IsTableOf}
-use Rattle.sci_dep.specs.Building.{is_marked, needs_in, IsTableTo}
-
--- ---- filters
-
-cons_if : {X : Type 0} (b : Bool) (x : X) (l : List X) (y : X) → Contains l y → Contains (cond b (x ∷ l) l) y
-cons_if true x l y (k, h, e) = (suc k, omega arith, e)
-cons_if false x l y h = h
-
-filter_has : {X : Type 0} (p : X → Bool) (xs : List X) (y : X) → Contains xs y → p y ≡ true → Contains (filter p xs) y
-filter_has p [] y (k, h, e) t = absurd (omega arith)
-filter_has p (x ∷ xs) y (zero, h, e) t =
-    let is : p x ≡ true = ap p e ∙ t in subst (λ (b : Bool). Contains (cond b (x ∷ filter p xs) (filter p xs)) y) (sym is) (0, omega arith, e)
-filter_has p (x ∷ xs) y (suc k, h, e) t = cons_if (p x) x (filter p xs) y (filter_has p xs y (k, omega arith, e) t)
-
-filter_is : {X : Type 0} (p : X → Bool) (xs : List X) (y : X) → Contains (filter p xs) y ↔ ((p y ≡ true) × Contains xs y)
-filter_is p xs y = (
-  (λ h. (All-contains (λ x. p x ≡ true) (filter p xs) y (filter_passes p xs) h, All-contains (Contains xs) (filter p xs) y (All-filter p (Contains xs) xs (All-contains_itself xs)) h)),
-  λ h. filter_has p xs y h.1 h.0,
-)
+use Rattle.sci_dep.specs.Tables.{AreWaits, ArePossible, IsTableOf}
+use Rattle.sci_dep.specs.Building.{KeepsFound, NeedsTo, AreNeeds}
 
 -- ---- numbers that rise
 
@@ -50,49 +33,76 @@ rise_push xs b rising below k h = ⊎_elim
     (subst (λ (j : ℕ). j < get_or xs (k + 1) 0) (sym (get_or_append_left xs (b ∷ []) 0 k (omega (arith, inside)))) (rising k inside)))
     (cases_eq (k + 1) (length xs))
 
--- ---- the table so far
+-- ---- those of some numbers that are found
 
-pub table_none : (w : List (List ℕ)) (marks : List Bool) (t : DepTable) → t.members.items ≡ [] → t.needs.items ≡ [] → IsTableTo w marks 0 t
-table_none w marks t no_members no_needs = record {
-  rising = subst IsStrictlyIncreasing (sym no_members) (λ k h. absurd (omega (arith, h)));
-  members = λ b. (
-    (λ h. let none = subst (λ (l : List ℕ). Contains l b) no_members h in let l = none.1 in absurd (omega (arith, l))),
-    λ h. let l = h.0 in let m = h.1 in absurd (omega (arith, l, m)),
-  );
-  needs = ap plain no_needs ∙ ap (map (needs_in w marks)) (sym no_members);
+-- the first numbers of a list that rises are less than the next
+less_than_next : (xs : List ℕ) (i : ℕ) → IsStrictlyIncreasing xs → i < length xs → (x : ℕ) → Contains (take i xs) x → x < get_or xs i 0
+less_than_next xs i rising h x (k, l, e) =
+    let long = length-take-le i xs (omega (arith, h)) in
+    let below : k < i = omega (arith, l, long) in
+    subst (λ (y : ℕ). y < get_or xs i 0) (sym (get_or-take i xs k x below) ∙ e) (subst (λ (y : ℕ). y < get_or xs i 0) (sym (get_or_default_zero xs k x (omega (arith, below, h)))) (AllPairs-from_increasing xs rising k i 0 below h))
+
+pub keeps_more : (found numbers old new : List ℕ) (i : ℕ) → IsStrictlyIncreasing numbers → i < length numbers → Contains found (get_or numbers i 0) → new ≡ old ++ get_or numbers i 0 ∷ []
+    → KeepsFound found (take i numbers) old → KeepsFound found (take (i + 1) numbers) new
+keeps_more found numbers old new i rising h here e before = record {
+  rising = subst IsStrictlyIncreasing (sym e) (rise_push old x before.rising (λ y o. less_than_next numbers i rising h y ((before.exactly y).0 o).1));
+  exactly = λ b. (to b, from b);
 }
+  where
+    x : ℕ
+    x = get_or numbers i 0
 
-pub table_more : (w : List (List ℕ)) (marks : List Bool) (b : ℕ) (old new : DepTable) (v : Vec ℕ Global) → 1 ≤ b → is_marked marks b ≡ true → v.items ≡ needs_in w marks b
-    → new.members.items ≡ old.members.items ++ b ∷ [] → new.needs.items ≡ old.needs.items ++ v ∷ [] → IsTableTo w marks (b - 1) old → IsTableTo w marks b new
-table_more w marks b old new v least marked is e f before = record {
-  rising = subst IsStrictlyIncreasing (sym e) (rise_push old.members.items b before.rising (λ x h. let l = ((before.members x).0 h).0 in omega (arith, l, least)));
-  members = λ x. (
-    (λ h. elim (Contains-push_cases old.members.items b x (subst (λ (l : List ℕ). Contains l x) e h)) [
-      | inl o ↦ let t = (before.members x).0 o in let l = t.0 in (omega (arith, l, least), t.1, t.2)
-      | inr s ↦ (omega (arith, s), subst (λ (y : ℕ). 1 ≤ y) s least, subst (λ (y : ℕ). is_marked marks y ≡ true) s marked)
-    ]),
-    λ h. subst (λ (l : List ℕ). Contains l x) (sym e) (⊎_elim
-        (λ s. subst (Contains (old.members.items ++ b ∷ [])) (sym s) (Contains-push old.members.items b))
-        (λ d. Contains-append_left old.members.items (b ∷ []) x ((before.members x).1 (let l = h.0 in omega (arith, l, d, least), h.1, h.2)))
-        (cases_eq x b)),
-  );
-  needs = ap plain f ∙ (map-append (λ (u : Vec ℕ Global). u.items) old.needs.items (v ∷ []) ∙ (ap (λ (l : List (List ℕ)). l ++ v.items ∷ []) before.needs
-      ∙ (ap (λ (l : List ℕ). map (needs_in w marks) old.members.items ++ l ∷ []) is
-      ∙ (sym (map-append (needs_in w marks) old.members.items (b ∷ [])) ∙ ap (map (needs_in w marks)) (sym e)))));
-}
+    more : take (i + 1) numbers ≡ take i numbers ++ x ∷ []
+    more = take_more numbers i 0 h
 
-pub table_other : (w : List (List ℕ)) (marks : List Bool) (b : ℕ) (t : DepTable) → 1 ≤ b → is_marked marks b ≡ false → IsTableTo w marks (b - 1) t → IsTableTo w marks b t
-table_other w marks b t least other before = record {
+    to : (b : ℕ) → Contains new b → Contains found b × Contains (take (i + 1) numbers) b
+    to b k = elim (Contains-push_cases old x b (subst (λ (l : List ℕ). Contains l b) e k)) [
+      | inl o ↦ let p = (before.exactly b).0 o in (p.0, subst (λ (l : List ℕ). Contains l b) (sym more) (Contains-append_left (take i numbers) (x ∷ []) b p.1))
+      | inr s ↦ (subst (Contains found) s here, subst (λ (l : List ℕ). Contains l b) (sym more) (subst (Contains (take i numbers ++ x ∷ [])) s (Contains-push (take i numbers) x)))
+    ]
+
+    from : (b : ℕ) → Contains found b × Contains (take (i + 1) numbers) b → Contains new b
+    from b k = subst (λ (l : List ℕ). Contains l b) (sym e) (elim (Contains-push_cases (take i numbers) x b (subst (λ (l : List ℕ). Contains l b) more k.1)) [
+      | inl t ↦ Contains-append_left old (x ∷ []) b ((before.exactly b).1 (k.0, t))
+      | inr s ↦ subst (Contains (old ++ x ∷ [])) s (Contains-push old x)
+    ])
+
+pub keeps_other : (found numbers kept : List ℕ) (i : ℕ) → i < length numbers → (Contains found (get_or numbers i 0) → ⊥) → KeepsFound found (take i numbers) kept
+    → KeepsFound found (take (i + 1) numbers) kept
+keeps_other found numbers kept i h other before = record {
   rising = before.rising;
-  members = λ x. (
-    (λ h. let m = (before.members x).0 h in let l = m.0 in (omega (arith, l, least), m.1, m.2)),
-    λ h. ⊎_elim
-        (λ s. absurd (true≢false (sym (subst (λ (y : ℕ). is_marked marks y ≡ true) s h.2) ∙ other)))
-        (λ d. (before.members x).1 (let l = h.0 in omega (arith, l, d, least), h.1, h.2))
-        (cases_eq x b),
-  );
-  needs = before.needs;
+  exactly = λ b. (to b, from b);
 }
+  where
+    x : ℕ
+    x = get_or numbers i 0
+
+    more : take (i + 1) numbers ≡ take i numbers ++ x ∷ []
+    more = take_more numbers i 0 h
+
+    to : (b : ℕ) → Contains kept b → Contains found b × Contains (take (i + 1) numbers) b
+    to b k = let p = (before.exactly b).0 k in (p.0, subst (λ (l : List ℕ). Contains l b) (sym more) (Contains-append_left (take i numbers) (x ∷ []) b p.1))
+
+    from : (b : ℕ) → Contains found b × Contains (take (i + 1) numbers) b → Contains kept b
+    from b k = elim (Contains-push_cases (take i numbers) x b (subst (λ (l : List ℕ). Contains l b) more k.1)) [
+      | inl t ↦ (before.exactly b).1 (k.0, t)
+      | inr s ↦ absurd (other (subst (Contains found) (sym s) k.0))
+    ]
+
+-- ---- the needs of all members
+
+pub needs_next : (w : List (List ℕ)) (found members : List ℕ) (k : ℕ) (old new : List (List ℕ)) (xs : List ℕ) → new ≡ old ++ xs ∷ [] → KeepsFound found (numbered [] w (get_or members k 0)) xs
+    → NeedsTo w found members k old → NeedsTo w found members (k + 1) new
+needs_next w found members k old new xs e here before = record {
+  long = ap length e ∙ (length-append old (xs ∷ []) ∙ ap (λ (m : ℕ). m + 1) before.long);
+  each = λ i h. ⊎_elim
+      (λ s. subst (Is i) (sym (ap (λ (l : List (List ℕ)). list_at l i) e ∙ get_or_push old xs [] i (before.long ∙ sym s))) (subst (λ (j : ℕ). Is j xs) (sym s) here))
+      (λ d. subst (Is i) (sym (ap (λ (l : List (List ℕ)). list_at l i) e ∙ get_or_append_left old (xs ∷ []) [] i (let l = before.long in omega (arith, h, d, l)))) (before.each i (omega (arith, h, d))))
+      (cases_eq i k);
+}
+  where
+    Is : ℕ → List ℕ → Type 0
+    Is i ys = KeepsFound found (numbered [] w (get_or members i 0)) ys
 
 -- ---- what a block waits for are blocks
 
@@ -107,66 +117,64 @@ waits_inside n w c m xs waits net is count j d h =
       | inr k ↦ let l = (reaches_output n (record { block = b; port = k.branch }) net k.reaches).block.most in omega (arith, l, count)
     ]
 
+-- what is found are blocks
+pub found_blocks : (n : Parts) (s : Source) (found members : List ℕ) → ArePossible n s found → ((b : ℕ) → Contains members b ↔ Contains found b) → All (IsBlock n) members
+found_blocks n s found members possible exactly j d h =
+    let b : ℕ = get_or members j d in
+    Spread-block n s _ ((possible b).0 ((exactly b).0 (Contains-get_or members j d h)))
+
 -- ---- the whole table
 
-module _ (n : Parts) (s : Source) (w : List (List ℕ)) (marks : List Bool) (k : ℕ) (t : DepTable) (waits : AreWaits n w) (mark : MarkPossible n s marks) (all : k ≡ length n.specs)
-    (table : IsTableTo w marks k t) where
-  is_member : (b : ℕ) → Possible n s b → Contains t.members.items b
-  is_member b p = let i = Spread-block n s _ p in let m = i.most in (table.members b).1 (omega (arith, m, all), i.least, (mark.exactly b).1 p)
-
+module _ (n : Parts) (s : Source) (w : List (List ℕ)) (found : List ℕ) (t : DepTable) (waits : AreWaits n w) (possible : ArePossible n s found) (rising : IsStrictlyIncreasing t.members.items)
+    (exactly : (b : ℕ) → Contains t.members.items b ↔ Contains found b) (needs : AreNeeds w found t.members.items (plain t.needs.items)) where
   members : (b : ℕ) → Contains t.members.items b ↔ Possible n s b
-  members b = ((λ h. (mark.exactly b).0 ((table.members b).0 h).2), is_member b)
+  members b = ((λ h. (possible b).0 ((exactly b).0 h)), λ p. (exactly b).1 ((possible b).1 p))
 
   long : length t.needs.items ≡ length t.members.items
-  long = sym (length-map t.needs.items (λ (v : Vec ℕ Global). v.items)) ∙ (ap length table.needs ∙ length-map t.members.items (needs_in w marks))
+  long = sym (length-map t.needs.items (λ (v : Vec ℕ Global). v.items)) ∙ needs.long
 
   -- the needs of the member at a place
-  row_at : (i : ℕ) (d : Vec ℕ Global) → i < length t.needs.items → (get_or t.needs.items i d).items ≡ needs_in w marks (get_or t.members.items i 0)
+  row_at : (i : ℕ) (d : Vec ℕ Global) → i < length t.needs.items → KeepsFound found (numbered [] w (get_or t.members.items i 0)) (get_or t.needs.items i d).items
   row_at i d h =
-      sym (get_or-map (λ (v : Vec ℕ Global). v.items) t.needs.items i d [] h)
-      ∙ (ap (λ (l : List (List ℕ)). get_or l i []) table.needs ∙ get_or-map (needs_in w marks) t.members.items i 0 [] (omega (arith, h, long)))
+      subst (KeepsFound found (numbered [] w (get_or t.members.items i 0))) (get_or-map (λ (v : Vec ℕ Global). v.items) t.needs.items i d [] h) (needs.each i (omega (arith, h, long)))
 
-  row : (i c : ℕ) (v : Vec ℕ Global) → slice_get t.members.items i ≡ Some c → slice_get t.needs.items i ≡ Some v → v.items ≡ needs_in w marks c
+  row : (i c : ℕ) (v : Vec ℕ Global) → slice_get t.members.items i ≡ Some c → slice_get t.needs.items i ≡ Some v → KeepsFound found (numbered [] w c) v.items
   row i c v hm hn =
-      ap (λ (u : Vec ℕ Global). u.items) (sym (get_or_from_slice_get t.needs.items i v v hn))
-      ∙ (row_at i v (slice_get_within t.needs.items i v hn) ∙ ap (needs_in w marks) (get_or_from_slice_get t.members.items i c 0 hm))
+      subst (λ (j : ℕ). KeepsFound found (numbered [] w j) v.items) (get_or_from_slice_get t.members.items i c 0 hm)
+      (subst (λ (u : Vec ℕ Global). KeepsFound found (numbered [] w (get_or t.members.items i 0)) u.items) (get_or_from_slice_get t.needs.items i v v hn)
+      (row_at i v (slice_get_within t.needs.items i v hn)))
 
   each : All (IsRow t.members.items) t.needs.items
   each i d h =
-      let e : (get_or t.needs.items i d).items ≡ needs_in w marks (get_or t.members.items i 0) = row_at i d h in
-      let c : ℕ = get_or t.members.items i 0 in
+      let k = row_at i d h in
+      let xs : List ℕ = (get_or t.needs.items i d).items in
       record {
-        rising = subst IsStrictlyIncreasing (sym e) (IsStrictlyIncreasing-filter (is_marked marks) (numbered [] w c) (waits.rising c));
-        closed = subst (All (Contains t.members.items)) (sym e)
-            (λ j f g. is_member (get_or (needs_in w marks c) j f)
-            ((mark.exactly (get_or (needs_in w marks c) j f)).0 ((filter_is (is_marked marks) (numbered [] w c) (get_or (needs_in w marks c) j f)).0 (Contains-get_or (needs_in w marks c) j f g)).0));
+        rising = k.rising;
+        closed = λ j f g. (exactly (get_or xs j f)).1 ((k.exactly (get_or xs j f)).0 (Contains-get_or xs j f g)).0;
       }
 
   needs_to : (c b : ℕ) → Needs t c b → Depends n s c b
   needs_to c b (i, v, hm, hn, has) =
-      let e : v.items ≡ needs_in w marks c = row i c v hm hn in
-      let both = (filter_is (is_marked marks) (numbered [] w c) b).0 (subst (λ (l : List ℕ). Contains l b) e has) in
+      let both = ((row i c v hm hn).exactly b).0 has in
       let at : get_or t.members.items i c ≡ c = get_or_from_slice_get t.members.items i c c hm in
       let within = slice_get_within t.members.items i c hm in
-      record { possible = (members c).0 (i, within, at); on_possible = (mark.exactly b).0 both.0; waits = (waits.exactly c b).0 both.1 }
+      record { possible = (members c).0 (i, within, at); on_possible = (possible b).0 both.0; waits = (waits.exactly c b).0 both.1 }
 
   needs_at : (c b i : ℕ) → Depends n s c b → slice_get t.members.items i ≡ Some c → i < length t.needs.items → Needs t c b
   needs_at c b i d hm inside = elim (slice_get_cases t.needs.items i).1 [
-    | inl r ↦
-        let has : Contains (needs_in w marks c) b = (filter_is (is_marked marks) (numbered [] w c) b).1 ((mark.exactly b).1 d.on_possible, (waits.exactly c b).1 d.waits) in
-        (i, r.0, hm, r.2, subst (λ (l : List ℕ). Contains l b) (sym (row i c r.0 hm r.2)) has)
+    | inl r ↦ (i, r.0, hm, r.2, ((row i c r.0 hm r.2).exactly b).1 ((possible b).1 d.on_possible, (waits.exactly c b).1 d.waits))
     | inr p ↦ let l = p.0 in absurd (omega (arith, l, inside))
   ]
 
   needs_from : (c b : ℕ) → Depends n s c b → Needs t c b
   needs_from c b d =
-      let place = is_member c d.possible in
+      let place = (members c).1 d.possible in
       let l = place.1 in
       needs_at c b place.0 d (slice_get-get_or t.members.items place.0 c place.1 ∙ ap Some place.2) (omega (arith, l, long))
 
   pub table_is : IsTableOf n s t
   table_is = record {
-    well_formed = record { rising = table.rising; rows = long; each = each };
+    well_formed = record { rising = rising; rows = long; each = each };
     members = members;
     needs = λ c b. (needs_to c b, needs_from c b);
   }

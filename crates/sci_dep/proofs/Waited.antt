@@ -75,9 +75,9 @@ puts_nothing n b xs not_fed = record { exactly = λ x. ((λ h. inl h), λ h. eli
 pub blocks_none : (fs : List Feed) → AreBlocksOf (take 0 fs) []
 blocks_none fs = record { exactly = λ x. ((λ (k, h, e). absurd (omega arith)), λ h. let l = h.has.1 in absurd (omega (arith, l))) }
 
-pub blocks_next : (fs : List Feed) (i : ℕ) (d : Feed) (old new : List ℕ) → i < length fs → new ≡ old ++ (get_or fs i d).block ∷ [] → AreBlocksOf (take i fs) old
+pub blocks_next : (fs : List Feed) (i : ℕ) (d : Feed) (old new : List ℕ) → i < length fs → Puts (λ b. (get_or fs i d).block ≡ b) old new → AreBlocksOf (take i fs) old
     → AreBlocksOf (take (i + 1) fs) new
-blocks_next fs i d old new within e before = record { exactly = λ x. (to x, from x) }
+blocks_next fs i d old new within puts before = record { exactly = λ x. (to x, from x) }
   where
     q : Feed
     q = get_or fs i d
@@ -89,7 +89,7 @@ blocks_next fs i d old new within e before = record { exactly = λ x. (to x, fro
     more = take_more fs i d within
 
     to : (x : ℕ) → Contains new x → IsBlockOf (take (i + 1) fs) x
-    to x h = elim (Contains-push_cases old q.block x (subst (λ (l : List ℕ). Contains l x) e h)) [
+    to x h = elim ((puts.exactly x).0 h) [
       | inl o ↦
           let b = (before.exactly x).0 o in
           record { port = b.port; has = subst (λ (l : List Feed). Contains l (mk x b.port)) (sym more) (Contains-append_left (take i fs) (q ∷ []) (mk x b.port) b.has) }
@@ -100,9 +100,9 @@ blocks_next fs i d old new within e before = record { exactly = λ x. (to x, fro
     ]
 
     from : (x : ℕ) → IsBlockOf (take (i + 1) fs) x → Contains new x
-    from x b = subst (λ (l : List ℕ). Contains l x) (sym e) (elim (Contains-push_cases (take i fs) q (mk x b.port) (subst (λ (l : List Feed). Contains l (mk x b.port)) more b.has)) [
-      | inl h ↦ Contains-append_left old (q.block ∷ []) x ((before.exactly x).1 (record { port = b.port; has = h }))
-      | inr s ↦ subst (Contains (old ++ q.block ∷ [])) (ap (λ (r : Feed). r.block) s) (Contains-push old q.block)
+    from x b = (puts.exactly x).1 (elim (Contains-push_cases (take i fs) q (mk x b.port) (subst (λ (l : List Feed). Contains l (mk x b.port)) more b.has)) [
+      | inl h ↦ inl ((before.exactly x).1 (record { port = b.port; has = h }))
+      | inr s ↦ inr (ap (λ (r : Feed). r.block) s)
     ])
 
 pub blocks_all : (fs : List Feed) (i : ℕ) (xs : List ℕ) → length fs ≤ i → AreBlocksOf (take i fs) xs → AreBlocksOf fs xs

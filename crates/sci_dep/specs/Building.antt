@@ -1,8 +1,7 @@
--- Waits, possible blocks and tables, as they are built.
-use Rattle.std.specs.Prelude.{◌≡◌, ℕ, ◌+◌, ◌<◌, ◌≤◌, ◌⊎◌, ◌↔◌, Bool, true, false, List, [], length, filter, map, Contains, slice_index_or}
+-- Waits and tables, as they are built.
+use Rattle.std.specs.Prelude.{◌≡◌, ℕ, ◌+◌, ◌<◌, ◌⊎◌, ◌↔◌, List, [], length, Contains, slice_index}
 use Rattle.std.specs.List.Sorted.{IsStrictlyIncreasing}
-use Rattle.sci_walk.specs.Lists.{plain, list_at}
-use Rattle.sci_loop.specs.declared.table.DepTable.{DepTable}
+use Rattle.sci_walk.specs.Lists.{list_at}
 use Rattle.sci_net.specs.declared.Feed.{Feed}
 use Rattle.sci_net.specs.Parts.{Parts, numbered, wire_of}
 use Rattle.sci_reaction.specs.Links.{SuppliesThrough}
@@ -37,19 +36,16 @@ pub record WaitsTo (n : Parts) (k : ℕ) (ls : List (List ℕ)) : Type 0 where
   pub long : length ls ≡ k
   pub each : (p : ℕ) → p < k → IsWaitsOf n (p + 1) (list_at ls p)
 
--- those of the first k numbers of which it holds
-pub record AreThose (holds : ℕ → Type 0) (k : ℕ) (bs : List ℕ) : Type 0 where
-  pub exactly : (b : ℕ) → Contains bs b ↔ ((b < k + 1) × holds b)
+-- those of some numbers that are found, in order
+pub record KeepsFound (found numbers kept : List ℕ) : Type 0 where
+  pub rising : IsStrictlyIncreasing kept
+  pub exactly : (b : ℕ) → Contains kept b ↔ (Contains found b × Contains numbers b)
 
-abbrev pub is_marked : List Bool → ℕ → Bool
-is_marked marks b = slice_index_or marks b false
+-- by place, what each of the first k blocks of a list waits for among what is found
+pub record NeedsTo (w : List (List ℕ)) (found members : List ℕ) (k : ℕ) (needs : List (List ℕ)) : Type 0 where
+  pub long : length needs ≡ k
+  pub each : (i : ℕ) → i < k → KeepsFound found (numbered [] w (slice_index members i)) (list_at needs i)
 
--- what block c waits for among the marked blocks
-abbrev pub needs_in : List (List ℕ) → List Bool → ℕ → List ℕ
-needs_in w marks c = filter (is_marked marks) (numbered [] w c)
-
--- the table of the marked ones of the first k blocks
-pub record IsTableTo (w : List (List ℕ)) (marks : List Bool) (k : ℕ) (t : DepTable) : Type 0 where
-  pub rising : IsStrictlyIncreasing t.members.items
-  pub members : (b : ℕ) → Contains t.members.items b ↔ ((b < k + 1) × (1 ≤ b) × (is_marked marks b ≡ true))
-  pub needs : plain t.needs.items ≡ map (needs_in w marks) t.members.items
+-- the same of all of them
+abbrev pub AreNeeds : List (List ℕ) → List ℕ → List ℕ → List (List ℕ) → Type 0
+AreNeeds w found members = NeedsTo w found members (length members)

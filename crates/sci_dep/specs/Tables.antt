@@ -1,5 +1,5 @@
 -- The possible blocks of a source, and what they depend on.
-use Rattle.std.specs.Prelude.{◌≡◌, ℕ, ◌+◌, ◌⊎◌, ◌↔◌, Bool, true, false, List, [], length, Contains, slice_index_or}
+use Rattle.std.specs.Prelude.{◌≡◌, ℕ, ◌⊎◌, ◌↔◌, List, [], length, Contains}
 use Rattle.std.specs.List.Sorted.{IsStrictlyIncreasing}
 use Rattle.sci_loop.specs.declared.table.DepTable.{DepTable}
 use Rattle.sci_loop.specs.Table.{Needs, IsTable}
@@ -16,10 +16,9 @@ pub record AreWaits (n : Parts) (w : List (List ℕ)) : Type 0 where
   pub rising : (c : ℕ) → IsStrictlyIncreasing (numbered [] w c)
   pub exactly : (c b : ℕ) → Contains (numbered [] w c) b ↔ (SuppliesThrough n b c ⊎ Conditions n b c)
 
--- one mark for each number, from 0, which is no block: whether the source may activate the block
-pub record MarkPossible (n : Parts) (s : Source) (marks : List Bool) : Type 0 where
-  pub long : length marks ≡ length n.specs + 1
-  pub exactly : (b : ℕ) → (slice_index_or marks b false ≡ true) ↔ Possible n s b
+-- the blocks that the source may activate
+abbrev pub ArePossible : Parts → Source → List ℕ → Type 0
+ArePossible n s bs = (b : ℕ) → Contains bs b ↔ Possible n s b
 
 -- the dependencies among the possible blocks
 pub record IsTableOf (n : Parts) (s : Source) (t : DepTable) : Type 0 where

@@ -1,12 +1,11 @@
 //! The possible blocks of a source, and what each of them depends on.
 #![tactic(auto)]
 
-ghost use Rattle.std.specs.Prelude.{IfOk};
+ghost use Rattle.std.specs.Prelude.{◌≡◌, ◌+◌, ◌<◌, length, IfOk, OnOk};
+ghost use Rattle.sci_net.specs.Sources.{sources_of, source_of};
 ghost use Rattle.sci_inherit.specs.Origins.{AreOrigins};
-ghost use Rattle.sci_reaction.specs.Links.{IsSource};
-ghost use Rattle.sci_dep.specs.Tables.{AreWaits, MarkPossible, IsTableOf};
+ghost use Rattle.sci_dep.specs.Tables.{AreWaits, ArePossible, IsTableOf};
 
-mod marking;
 mod table;
 #[cfg(test)]
 mod tests;
@@ -15,7 +14,8 @@ mod waiting;
 use sci_base::NoMemory;
 use sci_inherit::Reach;
 use sci_loop::DepTable;
-use sci_net::{Net, Source};
+use sci_net::Net;
+use sci_walk::Walk;
 use std::alloc::Global;
 pub use waiting::Waits;
 
@@ -30,35 +30,37 @@ pub fn waits(alloc: Global, net: &Net, reach: &Reach) -> Result<Waits, NoMemory>
     }
 }
 
-/// The blocks that the source may activate: one mark for each number, from 0, which is no block. Want of memory is the only error.
-pub fn possible(
-    alloc: Global,
-    net: &Net,
-    reach: &Reach,
-    source: Source,
-) -> Result<Vec<bool>, NoMemory>
-    requires { AreOrigins net.now reach.now }
-    ensures { IfOk result (λ m. MarkPossible net.now source m.items) }
+/// Finds, by a walk over the numbers of the blocks and 0, which is no block, the blocks that the source at this place may activate. The
+/// time is that of the walk. Want of memory is the only error; what the walk has found then is left open.
+pub fn possible(net: &Net, reach: &Reach, source: u32, walk: &mut Walk) -> Result<(), NoMemory>
+    requires origins { AreOrigins net.now reach.now }
+    requires source { source < length (sources_of net.now) }
+    requires count { walk.old.count ≡ length net.now.specs + 1 }
+    ensures count { walk.new.count ≡ walk.old.count }
+    ensures possible { OnOk result (ArePossible net.now (source_of net.now source) walk.new.found) }
 {
-    match marking::marks(alloc, net, reach, source) {
-        Ok(marks) => Ok(marks),
+    net.well_formed();
+    match walk.walk(reach.onward(), reach.always(source)) {
+        Ok(()) => Ok(()),
         Err(_) => Err(NoMemory),
     }
 }
 
-/// The table of the dependencies among the possible blocks of the source, of which the marks tell. Want of memory is the only error.
+/// The table of the dependencies among the possible blocks of the source at this place, which the walk has found. The time is that of
+/// sorting them, and of a look at each block that one of them waits for. Want of memory is the only error.
 pub fn depends(
     alloc: Global,
     net: &Net,
     waits: &Waits,
-    source: Source,
-    possible: &[bool],
+    source: u32,
+    walk: &Walk,
 ) -> Result<DepTable, NoMemory>
     requires waits { AreWaits net.now waits.now }
-    requires possible { MarkPossible net.now source possible.now }
-    ensures { IfOk result (λ t. IsTableOf net.now source t) }
+    requires count { walk.now.count ≡ length net.now.specs + 1 }
+    requires possible { ArePossible net.now (source_of net.now source) walk.now.found }
+    ensures { IfOk result (λ t. IsTableOf net.now (source_of net.now source) t) }
 {
-    match table::made(alloc, net, waits, source, possible) {
+    match table::made(alloc, net, waits, source, walk) {
         Ok(table) => Ok(table),
         Err(_) => Err(NoMemory),
     }

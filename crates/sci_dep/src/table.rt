@@ -1,62 +1,62 @@
 // The table of a source.
-ghost use Rattle.std.specs.Prelude.{◌≡◌, ℕ, ◌<◌, ◌≤◌, ◌-◌, ◌++◌, ◌∷◌, [], length, filter, All, IfOk, OnOk};
-ghost use Rattle.sci_net.specs.Parts.{numbered};
-ghost use Rattle.sci_dep.specs.Tables.{AreWaits, MarkPossible, IsTableOf};
-ghost use Rattle.sci_dep.specs.Building.{is_marked, needs_in, IsTableTo};
+ghost use Rattle.std.specs.Prelude.{◌≡◌, ℕ, ◌+◌, ◌<◌, ◌≤◌, ◌↔◌, [], length, All, Contains, IfOk, OnOk};
+ghost use Rattle.std.specs.List.Sorted.{IsStrictlyIncreasing};
+ghost use Rattle.sci_walk.specs.Lists.{plain};
+ghost use Rattle.sci_net.specs.Parts.{numbered, IsBlock};
+ghost use Rattle.sci_net.specs.Sources.{source_of};
+ghost use Rattle.sci_dep.specs.Tables.{AreWaits, ArePossible, IsTableOf};
+ghost use Rattle.sci_dep.specs.Building.{KeepsFound, AreNeeds};
 
 use crate::waiting::Waits;
 use sci_loop::DepTable;
-use sci_net::{Net, Source};
+use sci_net::Net;
+use sci_walk::Walk;
 use std::alloc::{AllocError, Global};
 
-// Puts a block, if it is possible.
-fn push_possible(blocks: &mut Vec<u32>, possible: &[bool], block: u32) -> Result<(), AllocError>
-    requires { block < length possible.now }
-    ensures { OnOk result (blocks.new.items ≡ blocks.old.items ++ filter (is_marked possible.now) (block ∷ [])) }
+// What the walk has found, in order.
+fn members(alloc: Global, walk: &Walk) -> Result<Vec<u32>, AllocError>
+    ensures rising { IfOk result (λ v. IsStrictlyIncreasing v.items) }
+    ensures exactly { IfOk result (λ v. (b : ℕ) → Contains v.items b ↔ Contains walk.now.found b) }
 {
-    if possible[block as usize] {
-        blocks.push(block)?;
-        Ok(())
-    } else {
-        Ok(())
-    }
+    let mut members = walk.found().to_vec(alloc)?;
+    members.sort_unstable();
+    Ok(members)
 }
 
-// Those of some blocks that are possible.
-fn needs_of(alloc: Global, blocks: &[u32], possible: &[bool]) -> Result<Vec<u32>, AllocError>
-    requires { All (λ b. b < length possible.now) blocks.now }
-    ensures { IfOk result (λ v. v.items ≡ filter (is_marked possible.now) blocks.now) }
+// Those of some blocks, in order, that the walk has found.
+fn needs_of(alloc: Global, blocks: &[u32], walk: &Walk) -> Result<Vec<u32>, AllocError>
+    requires rising { IsStrictlyIncreasing blocks.now }
+    requires within { All (λ b. b < walk.now.count) blocks.now }
+    ensures { IfOk result (λ v. KeepsFound walk.now.found blocks.now v.items) }
 {
     let mut needs = Vec::new(alloc);
     for block in blocks {
-        push_possible(&mut needs, possible, *block)?;
+        if walk.has(*block) {
+            needs.push(*block)?;
+        }
     }
     Ok(needs)
 }
 
-// Puts a block with its needs, if it is possible.
-fn push_row(
+// What each of these blocks waits for, as far as the walk has found it.
+fn needs(
     alloc: Global,
-    table: &mut DepTable,
+    net: &Net,
     waits: &Waits,
-    possible: &[bool],
-    block: u32,
-) -> Result<(), AllocError>
-    requires least { 1 ≤ block }
-    requires most { block ≤ length waits.now }
-    requires within { block < length possible.now }
-    requires waits { All (λ b. b < length possible.now) (numbered [] waits.now block) }
-    requires table { IsTableTo waits.now possible.now (block - 1) table.old }
-    ensures { OnOk result (IsTableTo waits.now possible.now block table.new) }
+    members: &[u32],
+    walk: &Walk,
+) -> Result<Vec<Vec<u32>>, AllocError>
+    requires waits { AreWaits net.now waits.now }
+    requires count { walk.now.count ≡ length net.now.specs + 1 }
+    requires blocks { All (IsBlock net.now) members.now }
+    ensures { IfOk result (λ v. AreNeeds waits.now walk.now.found members.now (plain v.items)) }
 {
-    if possible[block as usize] {
-        let needs = needs_of(alloc, waits.of(block), possible)?;
-        table.members.push(block)?;
-        table.needs.push(needs)?;
-        Ok(())
-    } else {
-        Ok(())
+    net.well_formed();
+    let mut needs = Vec::with_capacity(alloc, members.len())?;
+    for member in members {
+        needs.push(needs_of(alloc, waits.of(*member), walk)?)?;
     }
+    Ok(needs)
 }
 
 /// The possible blocks, and what they depend on.
@@ -64,20 +64,15 @@ pub fn made(
     alloc: Global,
     net: &Net,
     waits: &Waits,
-    _source: Source,
-    possible: &[bool],
+    _source: u32,
+    walk: &Walk,
 ) -> Result<DepTable, AllocError>
     requires waits { AreWaits net.now waits.now }
-    requires possible { MarkPossible net.now _source possible.now }
-    ensures { IfOk result (λ t. IsTableOf net.now _source t) }
+    requires count { walk.now.count ≡ length net.now.specs + 1 }
+    requires possible { ArePossible net.now (source_of net.now _source) walk.now.found }
+    ensures { IfOk result (λ t. IsTableOf net.now (source_of net.now _source) t) }
 {
-    net.well_formed();
-    let mut table = DepTable {
-        members: Vec::new(alloc),
-        needs: Vec::new(alloc),
-    };
-    for at in 0..net.len() {
-        push_row(alloc, &mut table, waits, possible, at + 1)?;
-    }
-    Ok(table)
+    let members = members(alloc, walk)?;
+    let needs = needs(alloc, net, waits, &members, walk)?;
+    Ok(DepTable { members, needs })
 }

@@ -1,11 +1,15 @@
 // Answers worked out by hand.
+ghost use Rattle.std.specs.Prelude.{◌<◌, length};
+ghost use Rattle.sci_net.specs.Sources.{sources_of};
+
 use crate::{depends, possible, waits};
-use sci_base::{Ints, Place};
+use sci_base::{Ints, NoMemory, Place};
 use sci_forms::{Kind, Port, Ports, Spec};
 use sci_infer::infer;
 use sci_inherit::origins;
 use sci_loop::DepTable;
 use sci_net::{Feed, Flat, Net, Source, Wire};
+use sci_walk::Walk;
 use smallvec::SmallVec;
 use std::alloc::{AllocError, Global};
 use std::test::Fail;
@@ -204,35 +208,47 @@ fn branching(alloc: Global) -> Result<Option<Net>, AllocError> {
     Ok(net(alloc, sketch))
 }
 
-// For each block the outputs that reach it, each by block and port, and then 1 or 0: whether start activates it.
+// For each block the outputs that activate it whatever the values are, each by block and port, and then 1 or 0: whether start does.
 fn origin_numbers(alloc: Global, net: &Net) -> Result<Vec<u32>, AllocError> {
     let mut numbers = Vec::new(alloc);
     match origins(alloc, net) {
         Err(_) => {}
         Ok(reach) => {
             for at in 0..net.len() {
-                for feed in reach.of(at + 1) {
-                    numbers.push(feed.block)?;
-                    numbers.push(feed.port)?;
+                for source in 1..net.source_count() {
+                    if reach.always(source).contains(&(at + 1)) {
+                        if let Source::Port(feed) = net.source(source) {
+                            numbers.push(feed.block)?;
+                            numbers.push(feed.port)?;
+                        }
+                    }
                 }
-                numbers.push(u32::from(reach.at_start(at + 1)))?;
+                numbers.push(u32::from(reach.always(0).contains(&(at + 1))))?;
             }
         }
     }
     Ok(numbers)
 }
 
+fn table_at(alloc: Global, net: &Net, source: u32) -> Result<DepTable, NoMemory>
+    requires { source < length (sources_of net.now) }
+{
+    let reach = origins(alloc, net)?;
+    let waits = waits(alloc, net, &reach)?;
+    let Ok(mut walk) = Walk::new(alloc, net.len() as usize + 1) else {
+        return Err(NoMemory);
+    };
+    possible(net, &reach, source, &mut walk)?;
+    depends(alloc, net, &waits, source, &walk)
+}
+
 fn table(alloc: Global, net: &Net, source: Source) -> Option<DepTable> {
-    match origins(alloc, net) {
-        Err(_) => None,
-        Ok(reach) => match (
-            waits(alloc, net, &reach),
-            possible(alloc, net, &reach, source),
-        ) {
-            (Ok(waits), Ok(marks)) => depends(alloc, net, &waits, source, &marks).ok(),
-            _ => None,
-        },
+    for at in 0..net.source_count() {
+        if net.source(at) == source {
+            return table_at(alloc, net, at).ok();
+        }
     }
+    None
 }
 
 // The members, 0, and for each of them its needs and 0.

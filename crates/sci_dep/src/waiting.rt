@@ -65,13 +65,25 @@ fn push_through(blocks: &mut Vec<u32>, net: &Net, block: u32) -> Result<(), Allo
     }
 }
 
-// The blocks of some branches.
+// Puts a block, unless it stands at the end.
+fn push_other(blocks: &mut Vec<u32>, block: u32) -> Result<(), AllocError>
+    ensures { OnOk result (Puts (λ b. block ≡ b) blocks.old.items blocks.new.items) }
+{
+    if blocks.last() == Some(&block) {
+        Ok(())
+    } else {
+        blocks.push(block)?;
+        Ok(())
+    }
+}
+
+// The blocks of some branches, which stand block by block.
 fn blocks_of(alloc: Global, branches: &[Feed]) -> Result<Vec<u32>, AllocError>
     ensures { IfOk result (λ v. AreBlocksOf branches.now v.items) }
 {
     let mut blocks = Vec::new(alloc);
     for branch in branches {
-        blocks.push(branch.block)?;
+        push_other(&mut blocks, branch.block)?;
     }
     Ok(blocks)
 }

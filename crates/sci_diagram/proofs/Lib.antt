@@ -4,3 +4,4 @@ pub mod Walking
 pub mod Bytes
 pub mod Values
 pub mod Few
+pub mod Standing

@@ -1,5 +1,5 @@
 -- The weight of a value bounds its parts.
-use Rattle.std.proofs.Common.{◌≡◌, ℕ, suc, ◌+◌, ◌<◌, ◌≤◌, ℤ, zero, get_or, List, [], ◌∷◌, length, Bool, true, false, cond, Option, Some, None, option_map, option_and_then, Result, Ok, Err, Ordering, Less, Equal, Greater, subst, arith}
+use Rattle.std.proofs.Common.{◌≡◌, ℕ, suc, ◌+◌, ◌<◌, ◌≤◌, ℤ, zero, get_or, List, [], ◌∷◌, length, Bool, true, false, cond, Option, Some, None, option_map, option_and_then, Ordering, Less, Equal, Greater, subst, arith}
 use Rattle.std.specs.Prelude.{⊤}
 use Rattle.std.specs.List.{list_all}
 use Rattle.std.specs.Ordering.{match_ordering}
@@ -7,10 +7,9 @@ use Rattle.serde_json.specs.Data.{Data, null, boolean, number, string, array, ob
 use Rattle.serde_json.specs.View.{view, items_view}
 use Rattle.serde_json.specs.declared.value.Value.{Value}
 use Rattle.serde_json.specs.Find.{get, get_member, as_i64}
-use Rattle.sci_base.specs.Plain.{Violation}
-use Rattle.sci_base.specs.Outcome.{◌>>=◌}
-use Rattle.sci_json.specs.Field.{whole, wholes, as_ints, formed, field_of}
-use Rattle.sci_diagram.specs.Tree.{small_list, optional, if_small, is_small}
+use Rattle.sci_json.specs.Field.{whole, wholes, as_ints}
+use Rattle.sci_diagram.specs.Tree.{is_small}
+use Rattle.sci_diagram.specs.Numbers.{count_small, small_count}
 use Rattle.sci_diagram.specs.Weight.{weight, items_weight, members_weight}
 
 abbrev pub AtMost : {A : Type 0} → (A → ℕ) → ℕ → Option A → Type 0
@@ -76,28 +75,17 @@ get_light k (object ms) = more (get_member k ms) (members_weight ms) (member_lig
     more None n h = tt
     more (Some e) n h = omega arith
 
-abbrev Short : ℕ → Result (List ℤ) Violation → Type 0
-Short n (Ok xs) = length xs ≤ n
-Short n (Err e) = ⊤
+counted_short : (o : Option (List ℤ)) (m : ℕ) → AtMost length m o → AtMost (λ n. n) m (count_small o)
+counted_short None m h = tt
+counted_short (Some zs) m h = tested (list_all is_small zs)
+  where
+    tested : (b : Bool) → AtMost (λ n. n) m (cond b (Some (length zs)) None)
+    tested true = h
+    tested false = tt
 
-formed_short : (at : List ℕ) (code : ℤ) (n : ℕ) (o : Option (List ℤ)) → AtMost length n o → Short n (optional at code (formed o))
-formed_short at code n None h = tt
-formed_short at code n (Some xs) h = h
-
-optional_short : (at : List ℕ) (code : ℤ) (n : ℕ) (o : Option Data) → AtMost (λ e. weight e + 1) n o → Short n (optional at code (field_of as_ints o))
-optional_short at code n None h = omega arith
-optional_short at code n (Some d) h = formed_short at code n (as_ints d) (raise length (weight d) n (as_ints d) (omega arith) (ints_short d))
-
-tested : (b : Bool) (n : ℕ) (xs : List ℤ) (e : Violation) → length xs ≤ n → Short n (cond b (Ok xs) (Err e))
-tested true n xs e h = h
-tested false n xs e h = tt
-
-small_short : (at : List ℕ) (code : ℤ) (n : ℕ) (o : Result (List ℤ) Violation) → Short n o → Short n (o >>= if_small at code)
-small_short at code n (Err e) h = tt
-small_short at code n (Ok xs) h = tested (list_all is_small xs) n xs _ h
-
-pub list_short : (at : List ℕ) (code : ℤ) (name : List ℕ) (d : Data) (xs : List ℤ) → small_list at code name d ≡ Ok xs → length xs ≤ weight d
-list_short at code name d xs e = subst (Short (weight d)) e (small_short at code (weight d) _ (optional_short at code (weight d) (get name d) (get_light name d)))
+-- a list has no more numbers than it weighs
+pub count_short : (d : Data) (n : ℕ) → small_count d ≡ Some n → n ≤ weight d
+count_short d n e = at_most (λ k. k) (weight d) (small_count d) n (counted_short (as_ints d) (weight d) (ints_short d)) e
 
 -- each item is a value, so the list is no longer than it weighs
 pub items_long : (vs : List Value) → length vs ≤ items_weight (items_view vs)

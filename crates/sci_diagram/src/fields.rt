@@ -28,6 +28,8 @@ fn refusal(alloc: Global, rule: Rule, at: &[u32], code: i64) -> Result<Refusal, 
 }
 
 /// The refusal of a field that must be there.
+#[cold]
+#[inline(never)]
 pub(crate) fn missing(alloc: Global, at: &[u32], code: i64) -> ReadStop
     ensures { IsViolation (missing at.now code) result }
 {
@@ -38,6 +40,8 @@ pub(crate) fn missing(alloc: Global, at: &[u32], code: i64) -> ReadStop
 }
 
 /// The refusal of a field that has not its form.
+#[cold]
+#[inline(never)]
 pub(crate) fn wrong(alloc: Global, at: &[u32], code: i64) -> ReadStop
     ensures { IsViolation (wrong at.now code) result }
 {
@@ -47,6 +51,7 @@ pub(crate) fn wrong(alloc: Global, at: &[u32], code: i64) -> ReadStop
     }
 }
 
+#[inline(always)]
 pub(crate) fn required_text(
     alloc: Global,
     v: &Value,
@@ -67,26 +72,7 @@ pub(crate) fn required_text(
     }
 }
 
-pub(crate) fn required_ints(
-    alloc: Global,
-    v: &Value,
-    name: &str,
-    code: i64,
-    at: &[u32],
-) -> Result<Vec<i64>, ReadStop>
-    ensures ok { IfOk result
-        (λ xs. required at.now code (field as_ints name.now (view v.now)) ≡ Ok xs.items) }
-    ensures stop { IfErr result
-        (λ e. Stops (required at.now code (field as_ints name.now (view v.now))) e) }
-{
-    match sci_json::ints(alloc, v, name) {
-        Ok(xs) => Ok(xs),
-        Err(FieldStop::Missing) => Err(missing(alloc, at, code)),
-        Err(FieldStop::Wrong) => Err(wrong(alloc, at, code)),
-        Err(FieldStop::Memory) => Err(ReadStop::Memory),
-    }
-}
-
+#[inline(always)]
 pub(crate) fn optional_ints(
     alloc: Global,
     v: &Value,
@@ -107,12 +93,13 @@ pub(crate) fn optional_ints(
     }
 }
 
-fn is_small(n: i64) -> bool
+pub(crate) fn is_small(n: i64) -> bool
     ensures { result ≡ is_small n }
 {
     n >= -2147483648 && n < 2147483648
 }
 
+#[inline(always)]
 pub(crate) fn small_ints(
     alloc: Global,
     v: &Value,
@@ -137,6 +124,8 @@ fn all_small(xs: &[i64]) -> bool
 }
 
 /// The refusal of a diagram past the last level.
+#[cold]
+#[inline(never)]
 pub(crate) fn too_deep(alloc: Global, at: &[u32]) -> ReadStop
     ensures { IsViolation (too_deep at.now) result }
 {
@@ -147,6 +136,8 @@ pub(crate) fn too_deep(alloc: Global, at: &[u32]) -> ReadStop
 }
 
 /// The refusal of a count.
+#[cold]
+#[inline(never)]
 pub(crate) fn too_many(alloc: Global, rule: Rule, count: u64) -> ReadStop
     requires { count < 2 ^ 63 }
     ensures { IsViolation (too_many rule count) result }

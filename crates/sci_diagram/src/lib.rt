@@ -8,6 +8,7 @@ mod from_bytes;
 mod laws;
 mod links;
 mod model;
+mod numbers;
 mod pass_through;
 mod sorts;
 mod stop;

@@ -1,11 +1,13 @@
 ghost use Rattle.std.specs.Prelude.{◌≡◌, Ok, IfOk, IfErr};
 ghost use Rattle.serde_json.specs.View.{view};
 ghost use Rattle.sci_diagram.specs.Objects.{link};
+ghost use Rattle.sci_diagram.specs.Numbers.{link_kind};
 ghost use Rattle.sci_diagram.specs.Tree.{link_end, read_link};
 ghost use Rattle.sci_diagram.specs.Stops.{Stops};
 
 use crate::diagram::{End, LinkObj};
-use crate::fields::{required_ints, wrong};
+use crate::fields::{missing, wrong};
+use crate::numbers::{end_of, kind_of};
 use crate::stop::ReadStop;
 use serde_json::Value;
 use std::alloc::Global;
@@ -18,17 +20,11 @@ pub(crate) fn read_link(alloc: Global, v: &Value, at: &[u32]) -> Result<LinkObj,
 {
     let from = read_end(alloc, v, "from", 19, 0, at)?;
     let to = read_end(alloc, v, "to", 20, 1, at)?;
-    let ct = required_ints(alloc, v, "ct", 21, at)?;
-    match ct.as_slice() {
-        [_, kind, ..] => Ok(LinkObj {
-            from,
-            to,
-            kind: *kind,
-        }),
-        _ => Err(wrong(alloc, at, 21)),
-    }
+    let kind = read_kind(alloc, v, at)?;
+    Ok(LinkObj { from, to, kind })
 }
 
+#[inline]
 fn read_end(
     alloc: Global,
     v: &Value,
@@ -40,18 +36,25 @@ fn read_end(
     ensures ok { IfOk result (λ e. link_end at.now code side name.now (view v.now) ≡ Ok e) }
     ensures stop { IfErr result (λ e. Stops (link_end at.now code side name.now (view v.now)) e) }
 {
-    let numbers = required_ints(alloc, v, name, code, at)?;
-    match numbers.as_slice() {
-        [block, port] => Ok(End {
-            block: *block,
-            port: *port,
-            side,
-        }),
-        [block, port, side] => Ok(End {
-            block: *block,
-            port: *port,
-            side: *side,
-        }),
-        _ => Err(wrong(alloc, at, code)),
+    match v.get(name) {
+        None => Err(missing(alloc, at, code)),
+        Some(found) => match end_of(found, side) {
+            None => Err(wrong(alloc, at, code)),
+            Some(end) => Ok(end),
+        },
+    }
+}
+
+#[inline]
+fn read_kind(alloc: Global, v: &Value, at: &[u32]) -> Result<i64, ReadStop>
+    ensures ok { IfOk result (λ k. link_kind at.now (view v.now) ≡ Ok k) }
+    ensures stop { IfErr result (λ e. Stops (link_kind at.now (view v.now)) e) }
+{
+    match v.get("ct") {
+        None => Err(missing(alloc, at, 21)),
+        Some(found) => match kind_of(found) {
+            None => Err(wrong(alloc, at, 21)),
+            Some(kind) => Ok(kind),
+        },
     }
 }

@@ -8,6 +8,7 @@ ghost use Rattle.sci_diagram.specs.Stops.{Stops};
 ghost use Rattle.sci_diagram.specs.Weight.{weight};
 
 use crate::fields::{missing, optional_ints, small_ints, wrong};
+use crate::numbers::small_count;
 use crate::sorts::Role;
 use crate::stop::ReadStop;
 use sci_base::BlockFields;
@@ -49,6 +50,7 @@ pub(crate) fn is_super(alloc: Global, model: &Value, at: &[u32]) -> Result<bool,
     }
 }
 
+#[inline(always)]
 fn ints_where(
     alloc: Global,
     looked_at: bool,
@@ -69,6 +71,7 @@ fn ints_where(
     }
 }
 
+#[inline(always)]
 fn inner_there(alloc: Global, role: Role, model: &Value, at: &[u32]) -> Result<(), ReadStop>
     ensures ok { IfOk result (λ u. inner_there role at.now (view model.now) ≡ Ok u) }
     ensures stop { IfErr result (λ e. Stops (inner_there role at.now (view model.now)) e) }
@@ -82,6 +85,7 @@ fn inner_there(alloc: Global, role: Role, model: &Value, at: &[u32]) -> Result<(
     }
 }
 
+#[inline(always)]
 fn dep_flags(alloc: Global, model: &Value, at: &[u32]) -> Result<Option<(bool, bool)>, ReadStop>
     ensures ok { IfOk result
         (λ o. flags_of at.now (field as_flags (codes "dep_ut") (view model.now)) ≡ Ok o) }
@@ -94,13 +98,19 @@ fn dep_flags(alloc: Global, model: &Value, at: &[u32]) -> Result<Option<(bool, b
     }
 }
 
+#[inline(always)]
 fn count(alloc: Global, v: &Value, name: &str, code: i64, at: &[u32]) -> Result<u32, ReadStop>
     requires light { weight (view v.now) < 2 ^ 32 }
     ensures ok { IfOk result (λ n. count_of at.now code name.now (view v.now) ≡ Ok n) }
     ensures stop { IfErr result (λ e. Stops (count_of at.now code name.now (view v.now)) e) }
 {
-    let xs = small_ints(alloc, v, name, code, at)?;
-    Ok(xs.len() as u32)
+    match v.get(name) {
+        None => Ok(0),
+        Some(found) => match small_count(found) {
+            None => Err(wrong(alloc, at, code)),
+            Some(n) => Ok(n as u32),
+        },
+    }
 }
 
 /// What a block's model says.

@@ -50,7 +50,7 @@ fn read_objs(alloc: Global, items: &[Value], at: &[u32], left: u32) -> Result<Ve
     ensures stop { IfErr result
         (λ e. Stops (walk (diagram_at left) at.now 1 (items_view items.now)) e) }
 {
-    let mut objs = Vec::new(alloc);
+    let mut objs = Vec::with_capacity(alloc, items.len())?;
     for (i, item) in items.iter().enumerate() {
         let place = child(alloc, at, i as u32 + 1)?;
         objs.push(read_obj(alloc, item, place.as_slice(), left)?)?;

@@ -21,8 +21,8 @@ impl Blocks {
         ensures same { IfOk result (λ b. placed_all b.specs.items b.places.items ≡ map part_view parts.items) }
         ensures long { IfOk result (λ b. length b.places.items ≡ length b.specs.items) }
     {
-        let mut specs = Vec::new(alloc);
-        let mut places = Vec::new(alloc);
+        let mut specs = Vec::with_capacity(alloc, parts.len())?;
+        let mut places = Vec::with_capacity(alloc, parts.len())?;
         for part in parts {
             let Part { place, spec } = part;
             specs.push(spec)?;

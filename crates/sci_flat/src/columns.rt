@@ -26,8 +26,8 @@ fn share_column(a: &Spec, b: &Spec) -> bool
     is_sensor(a.kind) && is_sensor(b.kind) && column_of(a) == column_of(b)
 }
 
-/// Whether an earlier sensor reads the column of this block, which is counted from 0.
-pub(crate) fn is_taken(specs: &[Spec], block: usize) -> bool
+// Whether an earlier sensor shares its column with this block.
+fn is_shared(specs: &[Spec], block: usize) -> bool
     requires { block < length specs.now }
     ensures { IsTrue result ↔ IsTakenAt specs.now block }
 {
@@ -37,4 +37,12 @@ pub(crate) fn is_taken(specs: &[Spec], block: usize) -> bool
         }
     }
     false
+}
+
+/// Whether an earlier sensor reads the column of this block, which is counted from 0.
+pub(crate) fn is_taken(specs: &[Spec], block: usize) -> bool
+    requires { block < length specs.now }
+    ensures { IsTrue result ↔ IsTakenAt specs.now block }
+{
+    is_sensor(specs[block].kind) && is_shared(specs, block)
 }

@@ -4,11 +4,12 @@ ghost use Rattle.std.specs.List.{range_with_len};
 ghost use Rattle.sci_reach.specs.Chain.{AllWithin};
 ghost use Rattle.sci_reach.specs.Lists.{lists_of};
 ghost use Rattle.sci_reach.specs.Reached.{IsWanted};
+ghost use Rattle.sci_reach.specs.Successors.{AreSuccessors};
 ghost use Rattle.sci_flat.specs.Ends.{end_of, seat_numbers, seat_ends, numbers_of, ends_of, IsInside, AreFeeding};
 
 use sci_net::Feed;
 use sci_parts::PortClass;
-use sci_reach::reached;
+use sci_reach::{Successors, reached};
 use sci_steps::{NoRoom, Seat};
 use std::alloc::{AllocError, Global};
 
@@ -94,11 +95,13 @@ pub(crate) fn feeding_of(
     alloc: Global,
     ports: u32,
     steps: &[(u32, u32)],
+    successors: &Successors,
     seats: &[Seat],
     from: PortClass,
     to: PortClass,
 ) -> Result<Feeding, NoRoom>
     requires within { AllWithin ports steps.now }
+    requires successors { AreSuccessors steps.now ports successors.now }
     requires inside { All (IsInside ports) seats.now }
     requires few { length seats.now ≤ 2048 }
     ensures { IfOk result (λ r. AreFeeding seats.now steps.now ports from to r.feeds.items (lists_of r.lists)) }
@@ -109,7 +112,7 @@ pub(crate) fn feeding_of(
     if sources.numbers.len() >= 4294967296 {
         return Err(NoRoom);
     }
-    let lists = reached(alloc, steps, &sources.numbers, &wanted)?;
+    let lists = reached(alloc, steps, successors, &sources.numbers, &wanted)?;
     let Ends { numbers: _, feeds } = sources;
     Ok(Feeding { feeds, lists })
 }

@@ -14,6 +14,7 @@ use crate::wires::{feeds, wires};
 use sci_diagram::Diagram;
 use sci_net::Flat;
 use sci_parts::{PortClass, links, parts};
+use sci_reach::successors_of;
 use sci_steps::{Numbered, number};
 use std::alloc::Global;
 
@@ -29,10 +30,15 @@ fn net_of(alloc: Global, d: &Diagram, numbered: &Numbered, found: Blocks) -> Res
     let ports = numbered.ports;
     let steps = numbered.steps.as_slice();
     let seats = numbered.blocks.as_slice();
+    if steps.len() >= 4294967296 {
+        return Err(FlatStop::Memory);
+    }
+    let successors = successors_of(alloc, steps, ports as usize)?;
     let regular = feeding_of(
         alloc,
         ports,
         steps,
+        &successors,
         seats,
         PortClass::Output,
         PortClass::Input,
@@ -45,6 +51,7 @@ fn net_of(alloc: Global, d: &Diagram, numbered: &Numbered, found: Blocks) -> Res
         alloc,
         ports,
         steps,
+        &successors,
         seats,
         PortClass::ActivationOutput,
         PortClass::ActivationInput,

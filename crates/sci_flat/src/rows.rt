@@ -54,7 +54,7 @@ pub(crate) fn wire_row(
     ensures unfed { IfErr result (IsUnfedStop (plain lists.now) seat) }
 {
     let first = seat.first_of(PortClass::Input);
-    let mut row = Vec::new(alloc);
+    let mut row = Vec::with_capacity(alloc, seat.count(PortClass::Input) as usize)?;
     for k in 0..seat.count(PortClass::Input) {
         let list = &lists[(first + u64::from(k)) as usize];
         if list.is_empty() {
@@ -73,7 +73,7 @@ fn feed_list(alloc: Global, feeds: &[Feed], list: &[u32]) -> Result<Vec<Feed>, A
     requires { All (λ i. i < length feeds.now) list.now }
     ensures { IfOk result (λ r. r.items ≡ map (feed_at feeds.now) list.now) }
 {
-    let mut row = Vec::new(alloc);
+    let mut row = Vec::with_capacity(alloc, list.len())?;
     for i in list {
         row.push(feeds[*i as usize])?;
     }
@@ -92,7 +92,7 @@ pub(crate) fn feed_row(
     ensures { IfOk result (λ r. AreFeeds feeds.now (plain lists.now) seat (count seat ActivationInput) (rows_of r.items)) }
 {
     let first = seat.first_of(PortClass::ActivationInput);
-    let mut row = Vec::new(alloc);
+    let mut row = Vec::with_capacity(alloc, seat.count(PortClass::ActivationInput) as usize)?;
     for p in 0..seat.count(PortClass::ActivationInput) {
         row.push(feed_list(alloc, feeds, &lists[(first + u64::from(p)) as usize])?)?;
     }

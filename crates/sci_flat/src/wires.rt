@@ -35,7 +35,7 @@ pub(crate) fn wires(
     ensures wires { IfOk result (λ r. AllWired feeding.now.feeds.items (lists_of feeding.now.lists) seats.now specs.now (length seats.now) (rows_of r.items)) }
     ensures stop { IfErr result (StopsBy (BreaksAt (lists_of feeding.now.lists) seats.now specs.now (paths_of paths.now))) }
 {
-    let mut rows = Vec::new(alloc);
+    let mut rows = Vec::with_capacity(alloc, seats.len())?;
     for block in 0..seats.len() {
         match wire_row(alloc, &feeding.feeds, &feeding.lists, seats[block]) {
             Ok(row) => {
@@ -62,7 +62,7 @@ pub(crate) fn feeds(
         → All (λ i. i < length feeding.now.feeds.items) (activation_list (lists_of feeding.now.lists) (seat_of seats.now b) k) }
     ensures { IfOk result (λ r. AllFed feeding.now.feeds.items (lists_of feeding.now.lists) seats.now (length seats.now) (feed_rows_of r.items)) }
 {
-    let mut rows = Vec::new(alloc);
+    let mut rows = Vec::with_capacity(alloc, seats.len())?;
     for seat in seats {
         rows.push(feed_row(alloc, &feeding.feeds, &feeding.lists, *seat)?)?;
     }

@@ -8,25 +8,26 @@ use Rattle.sci_walk.specs.Lists.{plain, list_at, Adds}
 use Rattle.sci_walk.proofs.Adding.{adds-none, adds-same, adds-both, adds-one}
 use Rattle.sci_inherit.specs.Links.{Upto}
 
+-- one step more
+pub upto_more : {P X : Type 0} (gives : ℕ → P → X → Type 0) (k : ℕ) (p : P) (x : X) → Upto gives (k + 1) p x ↔ (Upto gives k p x ⊎ gives k p x)
+upto_more gives k p x = (
+  (λ u. ⊎_elim
+      (λ e. inr (subst (λ (j : ℕ). gives j p x) e u.given))
+      (λ d. inl (record { step = u.step; below = let l = u.below in omega (arith, l, d); given = u.given }))
+      (cases_eq u.step k)),
+  λ h. elim h [
+    | inl u ↦ record { step = u.step; below = let l = u.below in omega (arith, l); given = u.given }
+    | inr g ↦ record { step = k; below = omega arith; given = g }
+  ],
+)
+
 module _ {X : Type 0} where
   pub upto-none : (gives : ℕ → ℕ → X → Type 0) (ls : List (List X)) → Adds (Upto gives 0) ls ls
   upto-none gives ls = adds-none (Upto gives 0) ls (λ p x u. let l = u.below in absurd (omega (arith, l)))
 
   pub upto-next : (gives : ℕ → ℕ → X → Type 0) (k : ℕ) (old mid new : List (List X)) → Adds (Upto gives k) old mid → Adds (gives k) mid new
       → Adds (Upto gives (k + 1)) old new
-  upto-next gives k old mid new a b = adds-both (Upto gives k) (gives k) (Upto gives (k + 1)) old mid new is a b
-    where
-      is : (p : ℕ) (x : X) → Upto gives (k + 1) p x ↔ (Upto gives k p x ⊎ gives k p x)
-      is p x = (
-        (λ u. ⊎_elim
-            (λ e. inr (subst (λ (j : ℕ). gives j p x) e u.given))
-            (λ d. inl (record { step = u.step; below = let l = u.below in omega (arith, l, d); given = u.given }))
-            (cases_eq u.step k)),
-        λ h. elim h [
-          | inl u ↦ record { step = u.step; below = let l = u.below in omega (arith, l); given = u.given }
-          | inr g ↦ record { step = k; below = omega arith; given = g }
-        ],
-      )
+  upto-next gives k old mid new a b = adds-both (Upto gives k) (gives k) (Upto gives (k + 1)) old mid new (upto_more gives k) a b
 
   -- one element, as a step gives it
   pub adds-given : (gives : ℕ → X → Type 0) (vs ws : Vec (Vec X Global) Global) (i : ℕ) (y : X) → i < vec_len vs

@@ -1,5 +1,7 @@
 pub mod Giving
+pub mod Filling
 pub mod Linked
 pub mod Ordered
 pub mod Gathering
+pub mod Sourced
 pub mod Viewed

@@ -1,19 +1,19 @@
 -- The links of a net, step by step.
-use Rattle.std.proofs.Common.{◌≡◌, ◌<◌, ◌≤◌, ◌+◌, ◌-◌, ◌↔◌, ◌∙◌, ℕ, List, ◌∷◌, [], ◌++◌, ◌⊎◌, inl, inr, sym, ap, subst, arith, length, get_or, take, replicate, Vec, vec_len}
-use Rattle.std.proofs.Math.ListN.{set}
+use Rattle.std.proofs.Common.{◌≡◌, ◌<◌, ◌≤◌, ◌+◌, ◌-◌, ◌↔◌, ◌∙◌, ℕ, zero, suc, List, ◌∷◌, [], ◌++◌, ◌⊎◌, inl, inr, ⊎_elim, refl, sym, ap, subst, arith, length, get_or, take, replicate}
 use Rattle.std.specs.Prelude.{Contains, All}
-use Rattle.std.specs.declared.alloc.Global.{Global}
-use Rattle.std.proofs.lemmas.List.{take_more, take_all}
+use Rattle.std.proofs.lemmas.Bool.{cases_lt}
+use Rattle.std.proofs.lemmas.List.{take_more, get_or_past}
 use Rattle.std.proofs.lemmas.List.Elements.{Contains-append_left, Contains-push, Contains-push_cases, Contains-get_or}
-use Rattle.sci_walk.specs.Lists.{plain, list_at, Adds}
-use Rattle.sci_walk.proofs.Adding.{none-there, adds-none, adds-same, adds-both}
+use Rattle.sci_walk.specs.Lists.{Adds}
+use Rattle.sci_walk.proofs.Adding.{none-there, adds-none, adds-same}
 use Rattle.sci_net.specs.declared.Feed.{Feed}
-use Rattle.sci_net.specs.Parts.{Parts, spec_of, wire_of, feeds_of}
+use Rattle.sci_net.specs.Parts.{Parts, IsBlock, IsActivationInput, numbered, spec_of, wire_of, feeds_of}
 use Rattle.sci_net.specs.Net.{IsNet}
-use Rattle.sci_reaction.specs.Links.{Supplies, Feeds}
-use Rattle.sci_inherit.specs.declared.links.Fed.{Fed}
-use Rattle.sci_inherit.specs.Links.{Upto, IsHeir, InputGives, HeirGiven, AreHeirs, FeedGives, InputFed, FedGiven, AreFed, PortGives, AreByPort}
-use Rattle.sci_inherit.proofs.Giving.{adds-given}
+use Rattle.sci_reaction.specs.Links.{Supplies}
+use Rattle.sci_inherit.specs.declared.Fed.{Fed}
+use Rattle.sci_inherit.specs.Links.{Upto, IsHeir, InputGives, HeirGiven, AreHeirs, HasRow, HaveRows, AreEmptyRows, Fills, FeedGets, BlockFed, AreFilled, AreRows}
+use Rattle.sci_inherit.proofs.Giving.{upto_more}
+use Rattle.sci_inherit.proofs.Filling.{fills_both, have_rows_same, have_rows}
 
 -- ---- heirs
 
@@ -73,129 +73,105 @@ heirs_are n count k ls all adds a b = (
 
 -- ---- what is fed
 
-pub feeds_inside : (n : Parts) (b k m : ℕ) (fs : List Feed) → IsNet n → 1 ≤ b → b ≤ length n.specs → k < (spec_of n b).evtin → fs ≡ feeds_of n b (k + 1)
-    → m ≡ length n.specs + 1 → All (λ q. q.block < m) fs
-feeds_inside n b k m fs net least most within is count j d h =
-    let has : Contains (feeds_of n b (k + 1)) (get_or fs j d) = subst (λ (x : List Feed). Contains x (get_or fs j d)) is (Contains-get_or fs j d h) in
-    let o = net.wired.feeds_lead b (k + 1) (get_or fs j d) (record { block = record { least = least; most = most }; least = omega arith; most = omega (arith, within) }) has in
-    let l = o.block.most in omega (arith, l, count)
+no_input : {X : Type 0} (l : List X) (x : X) → l ≡ [] → Contains l x → ⊥
+no_input {X} l x e has = let h = subst (λ (m : List X). Contains m x) e has in absurd (omega (arith, h.1))
 
-abbrev feed_of : ℕ → ℕ → Feed
-feed_of b p = record { block = b; port = p }
+-- only an activation input is fed
+pub input_inside : (n : Parts) (b p : ℕ) (q : Feed) → IsNet n → Contains (feeds_of n b p) q → IsActivationInput n b p
+input_inside n zero zero q net has = absurd (no_input [] q refl has)
+input_inside n zero (suc p) q net has = absurd (no_input [] q refl has)
+input_inside n (suc a) zero q net has = absurd (no_input [] q refl has)
+input_inside n (suc a) (suc p) q net has = ⊎_elim
+    (λ l. let is : IsBlock n (suc a) = record { least = omega arith; most = omega (arith, l) } in ⊎_elim
+    (λ m. record { block = is; least = omega arith; most = omega (arith, m) })
+    (λ m. absurd (no_input (feeds_of n (suc a) (suc p)) q (get_or_past (numbered [] n.feeds (suc a)) p [] (let w = net.wired.one_feed_list_each (suc a) is in omega (arith, w, m))) has))
+    (cases_lt p (spec_of n (suc a)).evtin))
+    (λ l. absurd (no_input (feeds_of n (suc a) (suc p)) q
+    (ap (λ (r : List (List Feed)). numbered [] r (suc p)) (get_or_past n.feeds a [] (let w = net.wired.one_feed_row_each in omega (arith, w, l))) ∙ refl) has))
+    (cases_lt a (length n.specs))
 
-pub feeds_next : (fs : List Feed) (b i : ℕ) (d : Feed) (old : List (List Fed)) (mid new : Vec (Vec Fed Global) Global) → i < length fs → (get_or fs i d).block < vec_len mid
-    → plain new.items ≡ set (plain mid.items) (get_or fs i d).block (list_at (plain mid.items) (get_or fs i d).block ++ record { port = (get_or fs i d).port; block = b } ∷ [])
-    → Adds (FeedGives (take i fs) b) old (plain mid.items) → Adds (FeedGives (take (i + 1) fs) b) old (plain new.items)
-feeds_next fs b i d old mid new within inside e before =
-    adds-both (FeedGives (take i fs) b) One (FeedGives (take (i + 1) fs) b) old (plain mid.items) (plain new.items) is before
-    (adds-given One mid new q.block (record { port = q.port; block = b }) inside e (λ p x f g. (f, g)) (λ p x h. h))
+-- the rows have one for each output that feeds an input
+pub has_rows : (n : Parts) (b k : ℕ) (fs : List Feed) (rows : List (List (List Fed))) → IsNet n → 1 ≤ b → b ≤ length n.specs → k < (spec_of n b).evtin → fs ≡ feeds_of n b (k + 1)
+    → HaveRows n rows → All (HasRow rows) fs
+has_rows n b k fs rows net least most within is have j d h =
+    let q = get_or fs j d in
+    let has : Contains (feeds_of n b (k + 1)) q = subst (λ (x : List Feed). Contains x q) is (Contains-get_or fs j d h) in
+    let o = net.wired.feeds_lead b (k + 1) q (record { block = record { least = least; most = most }; least = omega arith; most = omega (arith, within) }) has in
+    record { block = let m = o.block.most in omega (arith, m, have.long); port = let m = o.most in let w = have.wide q.block o.block in omega (arith, m, w) }
+
+-- one output gets an input
+pub gets_one : (q : Feed) (f : Fed) (i p : ℕ) (x : Feed) (g : Fed) → q.block ≡ i → q.port ≡ p → ((x.block ≡ i) × (x.port ≡ p) × (f ≡ g)) ↔ FeedGets (q ∷ []) f x g
+gets_one q f i p x g a b = (
+  (λ h. record { has = subst (Contains (q ∷ [])) (ap (λ (c : ℕ). mk c q.port) (a ∙ sym h.0) ∙ ap (λ (c : ℕ). mk x.block c) (b ∙ sym h.1)) (Contains-push [] q); is = h.2 }),
+  λ h. elim (Contains-push_cases [] q x h.has) [
+    | inl n ↦ absurd (no_input [] x refl n)
+    | inr s ↦ (ap (λ (r : Feed). r.block) (sym s) ∙ a, ap (λ (r : Feed). r.port) (sym s) ∙ b, h.is)
+  ],
+)
+  where
+    mk : ℕ → ℕ → Feed
+    mk c o = record { block = c; port = o }
+
+pub gets_next : (fs : List Feed) (f : Fed) (i : ℕ) (d : Feed) (old mid new : List (List (List Fed))) → i < length fs → Fills (FeedGets (take i fs) f) old mid
+    → Fills (FeedGets (get_or fs i d ∷ []) f) mid new → Fills (FeedGets (take (i + 1) fs) f) old new
+gets_next fs f i d old mid new within a b = fills_both (FeedGets (take i fs) f) (FeedGets (q ∷ []) f) (FeedGets (take (i + 1) fs) f) old mid new is a b
   where
     q : Feed
     q = get_or fs i d
 
-    One : ℕ → Fed → Type 0
-    One p x = (p ≡ q.block) × (record { port = q.port; block = b } ≡ x)
-
     more : take (i + 1) fs ≡ take i fs ++ q ∷ []
     more = take_more fs i d within
 
-    mk : ℕ → ℕ → Fed
-    mk p c = record { port = p; block = c }
-
-    feed : ℕ → ℕ → Feed
-    feed c p = record { block = c; port = p }
-
-    is : (p : ℕ) (x : Fed) → FeedGives (take (i + 1) fs) b p x ↔ (FeedGives (take i fs) b p x ⊎ One p x)
-    is p x = (to, from)
-      where
-        to : FeedGives (take (i + 1) fs) b p x → FeedGives (take i fs) b p x ⊎ One p x
-        to g = elim (Contains-push_cases (take i fs) q (feed p x.port) (subst (λ (l : List Feed). Contains l (feed p x.port)) more g.has)) [
-          | inl h ↦ inl (record { has = h; is = g.is })
-          | inr s ↦ inr (sym (ap (λ (r : Feed). r.block) s), ap (λ (r : Feed). mk r.port b) s ∙ ap (λ (c : ℕ). mk x.port c) g.is)
-        ]
-
-        from : FeedGives (take i fs) b p x ⊎ One p x → FeedGives (take (i + 1) fs) b p x
-        from h = elim h [
-          | inl g ↦ record { has = subst (λ (l : List Feed). Contains l (feed p x.port)) (sym more) (Contains-append_left (take i fs) (q ∷ []) (feed p x.port) g.has); is = g.is }
-          | inr o ↦ record {
-            has = subst (λ (l : List Feed). Contains l (feed p x.port)) (sym more) (subst (λ (r : Feed). Contains (take i fs ++ q ∷ []) r) (same o) (Contains-push (take i fs) q));
-            is = ap (λ (r : Fed). r.block) o.1;
-          }
-        ]
-          where
-            same : One p x → q ≡ feed p x.port
-            same o = ap (λ (c : ℕ). feed c q.port) (sym o.0) ∙ ap (λ (r : Fed). feed p r.port) o.1
-
-pub fed_given : (n : Parts) (k : ℕ) (old new : List (List Fed)) → k < length n.specs → Adds (Upto (InputFed n (k + 1)) (spec_of n (k + 1)).evtin) old new → Adds (FedGiven n k) old new
-fed_given n k old new inside = adds-same (Upto (InputFed n (k + 1)) (spec_of n (k + 1)).evtin) (FedGiven n k) old new to from
-  where
-    to : (a : ℕ) (f : Fed) → Upto (InputFed n (k + 1)) (spec_of n (k + 1)).evtin a f → FedGiven n k a f
-    to a f u = record {
-      is = u.given.is;
-      feeds = subst (Feeds n (record { block = a; port = f.port })) u.given.is
-          (record { input = u.step + 1; within = record { block = record { least = omega arith; most = omega (arith, inside) }; least = omega arith; most = let l = u.below in omega (arith, l) }; fed = u.given.has });
-    }
-
-    from : (a : ℕ) (f : Fed) → FedGiven n k a f → Upto (InputFed n (k + 1)) (spec_of n (k + 1)).evtin a f
-    from a f g = record { step = j - 1; below = omega (arith, low, high); given = record { has = subst (λ (i : ℕ). Contains (feeds_of n (k + 1) i) (feed_of a f.port)) (sym next) s.fed; is = g.is } }
-      where
-        s : Feeds n (feed_of a f.port) (k + 1)
-        s = subst (Feeds n (feed_of a f.port)) (sym g.is) g.feeds
-
-        j : ℕ
-        j = s.input
-
-        low : 1 ≤ j
-        low = s.within.least
-
-        high : j ≤ (spec_of n (k + 1)).evtin
-        high = s.within.most
-
-        next : (j - 1) + 1 ≡ j
-        next = omega (arith, low)
-
-pub fed_are : (n : Parts) (count k : ℕ) (ls : List (List Fed)) → k ≡ length n.specs → Adds (Upto (FedGiven n) k) (replicate count []) ls → AreFed n ls
-fed_are n count k ls all adds a f = (
-  (λ h. elim ((adds.exactly a f).0 h) [ inl l ↦ absurd (none-there count a f l) | inr u ↦ u.given.feeds ]),
-  λ h. let low = h.within.block.least in let high = h.within.block.most in
-      (adds.exactly a f).1 (inr (record { step = f.block - 1; below = omega (arith, low, high, all); given = record { is = omega (arith, low); feeds = h } })),
-)
-
--- ---- by port
-
-pub ports_next : (fs : List Fed) (i : ℕ) (d : Fed) (old : List (List ℕ)) (mid new : Vec (Vec ℕ Global) Global) → i < length fs → (get_or fs i d).port < vec_len mid
-    → plain new.items ≡ set (plain mid.items) (get_or fs i d).port (list_at (plain mid.items) (get_or fs i d).port ++ (get_or fs i d).block ∷ [])
-    → Adds (PortGives (take i fs)) old (plain mid.items) → Adds (PortGives (take (i + 1) fs)) old (plain new.items)
-ports_next fs i d old mid new within inside e before =
-    adds-both (PortGives (take i fs)) One (PortGives (take (i + 1) fs)) old (plain mid.items) (plain new.items) is before
-    (adds-given One mid new f.port f.block inside e (λ p x g h. (g, h)) (λ p x h. h))
-  where
-    f : Fed
-    f = get_or fs i d
-
-    One : ℕ → ℕ → Type 0
-    One p x = (p ≡ f.port) × (f.block ≡ x)
-
-    mk : ℕ → ℕ → Fed
-    mk p c = record { port = p; block = c }
-
-    more : take (i + 1) fs ≡ take i fs ++ f ∷ []
-    more = take_more fs i d within
-
-    is : (p x : ℕ) → PortGives (take (i + 1) fs) p x ↔ (PortGives (take i fs) p x ⊎ One p x)
-    is p x = (
-      (λ g. elim (Contains-push_cases (take i fs) f (mk p x) (subst (λ (l : List Fed). Contains l (mk p x)) more g)) [
-        | inl h ↦ inl h
-        | inr s ↦ inr (sym (ap (λ (r : Fed). r.port) s), ap (λ (r : Fed). r.block) s)
+    is : (x : Feed) (g : Fed) → FeedGets (take (i + 1) fs) f x g ↔ (FeedGets (take i fs) f x g ⊎ FeedGets (q ∷ []) f x g)
+    is x g = (
+      (λ h. elim (Contains-push_cases (take i fs) q x (subst (λ (l : List Feed). Contains l x) more h.has)) [
+        | inl l ↦ inl (record { has = l; is = h.is })
+        | inr s ↦ inr (record { has = subst (Contains (q ∷ [])) s (Contains-push [] q); is = h.is })
       ]),
-      λ h. subst (λ (l : List Fed). Contains l (mk p x)) (sym more) (elim h [
-        | inl g ↦ Contains-append_left (take i fs) (f ∷ []) (mk p x) g
-        | inr o ↦ subst (λ (r : Fed). Contains (take i fs ++ f ∷ []) r) (ap (λ (c : ℕ). mk c f.block) (sym o.0) ∙ ap (λ (c : ℕ). mk p c) o.1) (Contains-push (take i fs) f)
-      ]),
+      λ h. elim h [
+        | inl l ↦ record { has = subst (λ (r : List Feed). Contains r x) (sym more) (Contains-append_left (take i fs) (q ∷ []) x l.has); is = l.is }
+        | inr r ↦ record {
+          has = subst (λ (l : List Feed). Contains l x) (sym more) (elim (Contains-push_cases [] q x r.has) [
+            | inl n ↦ absurd (no_input [] x refl n)
+            | inr s ↦ subst (Contains (take i fs ++ q ∷ [])) s (Contains-push (take i fs) q)
+          ]);
+          is = r.is;
+        }
+      ],
     )
 
-pub ports_are : (fs : List Fed) (count i : ℕ) (ls : List (List ℕ)) → length fs ≤ i → Adds (PortGives (take i fs)) (replicate count []) ls → AreByPort fs ls
-ports_are fs count i ls all adds p b = (
-  (λ h. elim ((adds.exactly p b).0 h) [ inl l ↦ absurd (none-there count p b l) | inr g ↦ subst (λ (l : List Fed). PortGives l p b) (take_all i fs all) g ]),
-  λ g. (adds.exactly p b).1 (inr (subst (λ (l : List Fed). PortGives l p b) (sym (take_all i fs all)) g)),
+pub filled_none : (n : Parts) (rows : List (List (List Fed))) → AreEmptyRows n (length n.specs) rows → AreFilled n 0 rows
+filled_none n rows e = record {
+  have_rows = have_rows n rows e;
+  exactly = λ q f. ((λ h. absurd (e.empty q f h)), λ u. let l = u.below in absurd (omega (arith, l)));
+}
+
+pub filled_next : (n : Parts) (k : ℕ) (old new : List (List (List Fed))) → Fills (BlockFed n k) old new → AreFilled n k old → AreFilled n (k + 1) new
+filled_next n k old new fills before = record {
+  have_rows = have_rows_same n (BlockFed n k) old new fills before.have_rows;
+  exactly = λ q f. (
+    (λ h. elim ((fills.exactly q f).0 h) [
+      | inl o ↦ (upto_more (BlockFed n) k q f).1 (inl ((before.exactly q f).0 o))
+      | inr m ↦ (upto_more (BlockFed n) k q f).1 (inr m)
+    ]),
+    λ u. (fills.exactly q f).1 (elim ((upto_more (BlockFed n) k q f).0 u) [ inl o ↦ inl ((before.exactly q f).1 o) | inr m ↦ inr m ]),
+  );
+}
+
+pub rows_are : (n : Parts) (k : ℕ) (rows : List (List (List Fed))) → IsNet n → k ≡ length n.specs → AreFilled n k rows → AreRows n rows
+rows_are n k rows net all filled q f = (
+  (λ h. let u = (filled.exactly q f).0 h in let g = u.given.given in
+      subst (λ (x : Fed). Contains (feeds_of n x.block x.input) q) g.is g.has),
+  λ has. (filled.exactly q f).1 (given (input_inside n f.block f.input q net has) has),
 )
+  where
+    given : IsActivationInput n f.block f.input → Contains (feeds_of n f.block f.input) q → Upto (BlockFed n) k q f
+    given w has =
+        let low = w.block.least in let high = w.block.most in let first = w.least in let last = w.most in
+        let b : (f.block - 1) + 1 ≡ f.block = omega (arith, low) in
+        let i : (f.input - 1) + 1 ≡ f.input = omega (arith, first) in
+        let Gives : ℕ → ℕ → Type 0 = λ c j. FeedGets (feeds_of n c j) (record { block = c; input = j }) q f in
+        let here : Gives f.block f.input = record { has = has; is = refl } in
+        let at : Gives ((f.block - 1) + 1) ((f.input - 1) + 1) = subst (λ (c : ℕ). Gives c ((f.input - 1) + 1)) (sym b) (subst (Gives f.block) (sym i) here) in
+        let most : f.input - 1 < (spec_of n ((f.block - 1) + 1)).evtin = subst (λ (c : ℕ). f.input - 1 < (spec_of n c).evtin) (sym b) (omega (arith, first, last)) in
+        record { step = f.block - 1; below = omega (arith, low, high, all); given = record { step = f.input - 1; below = most; given = at } }

@@ -1,16 +1,20 @@
 -- The links of a net, from where they begin.
-use Rattle.std.specs.Prelude.{◌≡◌, ℕ, ◌+◌, ◌<◌, ◌↔◌, List, Contains}
-use Rattle.sci_walk.specs.Lists.{list_at}
+use Rattle.std.specs.Prelude.{◌≡◌, ℕ, ◌+◌, ◌<◌, ◌≤◌, ◌⊎◌, ◌↔◌, List, length, map, Contains, Vec}
+use Rattle.std.specs.declared.alloc.Global.{Global}
+use Rattle.sci_walk.specs.Lists.{plain, list_at}
 use Rattle.sci_net.specs.declared.Feed.{Feed}
-use Rattle.sci_net.specs.Parts.{Parts, wire_of, feeds_of}
-use Rattle.sci_reaction.specs.Links.{Supplies, Feeds, Inherits}
-use Rattle.sci_inherit.specs.declared.links.Fed.{Fed}
+use Rattle.sci_net.specs.Parts.{Parts, IsBlock, spec_of, wire_of, feeds_of}
+use Rattle.sci_reaction.specs.Links.{Supplies, Inherits}
+use Rattle.sci_inherit.specs.declared.Fed.{Fed}
+use Rattle.sci_inherit.specs.declared.links.Links.{Links}
 
 -- of the first k steps, one gives it
-pub record Upto {X : Type 0} (gives : ℕ → ℕ → X → Type 0) (k p : ℕ) (x : X) : Type 0 where
+pub record Upto {P X : Type 0} (gives : ℕ → P → X → Type 0) (k : ℕ) (p : P) (x : X) : Type 0 where
   pub step : ℕ
   pub below : step < k
   pub given : gives step p x
+
+-- ---- what inherits
 
 -- b inherits, and a is the source block of one of its inputs
 pub record IsHeir (n : Parts) (a b : ℕ) : Type 0 where
@@ -31,32 +35,65 @@ pub record HeirGiven (n : Parts) (k a x : ℕ) : Type 0 where
 abbrev pub AreHeirs : Parts → List (List ℕ) → Type 0
 AreHeirs n ls = (a b : ℕ) → Contains (list_at ls a) b ↔ IsHeir n a b
 
--- one of these activation outputs, at that place, gives b
-pub record FeedGives (fs : List Feed) (b a : ℕ) (f : Fed) : Type 0 where
-  pub has : Contains fs (record { block = a; port = f.port })
-  pub is : b ≡ f.block
+-- ---- what is fed: rows by number of the block and of the port, both counted from 0, which is none
 
--- activation input k + 1 of b gives b
-abbrev pub InputFed : Parts → ℕ → ℕ → ℕ → Fed → Type 0
-InputFed n b k = FeedGives (feeds_of n b (k + 1)) b
+abbrev pub plain_rows : {X : Type 0} → List (Vec (Vec X Global) Global) → List (List (List X))
+plain_rows rows = map (λ v. plain v.items) rows
 
--- block k + 1 is given as fed
-pub record FedGiven (n : Parts) (k a : ℕ) (f : Fed) : Type 0 where
-  pub is : k + 1 ≡ f.block
-  pub feeds : Feeds n (record { block = a; port = f.port }) f.block
+abbrev pub row_at : {X : Type 0} → List (List (List X)) → Feed → List X
+row_at rows q = list_at (list_at rows q.block) q.port
 
--- what the activation outputs of block a feed
-abbrev pub AreFedBy : Parts → ℕ → List Fed → Type 0
-AreFedBy n a fs = (f : Fed) → Contains fs f ↔ Feeds n (record { block = a; port = f.port }) f.block
+-- there is a row for the activation output
+pub record HasRow {X : Type 0} (rows : List (List (List X))) (q : Feed) : Type 0 where
+  pub block : q.block < length rows
+  pub port : q.port < length (list_at rows q.block)
 
--- the same of each block, by number
-abbrev pub AreFed : Parts → List (List Fed) → Type 0
-AreFed n ls = (a : ℕ) → AreFedBy n a (list_at ls a)
+-- rows for each number of a block and each number of one of its activation outputs
+pub record HaveRows {X : Type 0} (n : Parts) (rows : List (List (List X))) : Type 0 where
+  pub long : length rows ≡ length n.specs + 1
+  pub wide : (b : ℕ) → IsBlock n b → length (list_at rows b) ≡ (spec_of n b).evtout + 1
 
--- block b is fed by port p
-abbrev pub PortGives : List Fed → ℕ → ℕ → Type 0
-PortGives fs p b = Contains fs (record { port = p; block = b })
+-- the same of the first k blocks, and all are empty
+pub record AreEmptyRows {X : Type 0} (n : Parts) (k : ℕ) (rows : List (List (List X))) : Type 0 where
+  pub long : length rows ≡ k + 1
+  pub wide : (b : ℕ) → 1 ≤ b → b < k + 1 → length (list_at rows b) ≡ (spec_of n b).evtout + 1
+  pub empty : (q : Feed) (x : X) → Contains (row_at rows q) x → ⊥
 
--- the blocks that are fed, by port
-abbrev pub AreByPort : List Fed → List (List ℕ) → Type 0
-AreByPort fs rows = (p b : ℕ) → Contains (list_at rows p) b ↔ PortGives fs p b
+-- the rows have got these elements, and no other
+pub record Fills {X : Type 0} (more : Feed → X → Type 0) (old new : List (List (List X))) : Type 0 where
+  pub long : length new ≡ length old
+  pub wide : (b : ℕ) → length (list_at new b) ≡ length (list_at old b)
+  pub exactly : (q : Feed) (x : X) → Contains (row_at new q) x ↔ (Contains (row_at old q) x ⊎ more q x)
+
+-- each of these activation outputs gets f
+pub record FeedGets (fs : List Feed) (f : Fed) (q : Feed) (x : Fed) : Type 0 where
+  pub has : Contains fs q
+  pub is : f ≡ x
+
+-- those that feed activation input k + 1 of b get it
+abbrev pub InputFed : Parts → ℕ → ℕ → Feed → Fed → Type 0
+InputFed n b k = FeedGets (feeds_of n b (k + 1)) (record { block = b; input = k + 1 })
+
+-- those that feed block k + 1 get its activation inputs
+abbrev pub BlockFed : Parts → ℕ → Feed → Fed → Type 0
+BlockFed n k = Upto (InputFed n (k + 1)) (spec_of n (k + 1)).evtin
+
+-- the first k blocks' activation inputs have been given to the outputs that feed them
+pub record AreFilled (n : Parts) (k : ℕ) (rows : List (List (List Fed))) : Type 0 where
+  pub have_rows : HaveRows n rows
+  pub exactly : (q : Feed) (f : Fed) → Contains (row_at rows q) f ↔ Upto (BlockFed n) k q f
+
+-- the activation inputs that an output feeds
+abbrev pub AreFedBy : Parts → Feed → List Fed → Type 0
+AreFedBy n q fs = (f : Fed) → Contains fs f ↔ Contains (feeds_of n f.block f.input) q
+
+-- the same of each output
+abbrev pub AreRows : Parts → List (List (List Fed)) → Type 0
+AreRows n rows = (q : Feed) → AreFedBy n q (row_at rows q)
+
+-- all links
+pub record AreLinks (n : Parts) (l : Links) : Type 0 where
+  pub heirs_long : length l.heirs.items ≡ length n.specs + 1
+  pub heirs : AreHeirs n (plain l.heirs.items)
+  pub have_rows : HaveRows n (plain_rows l.fed.items)
+  pub rows : AreRows n (plain_rows l.fed.items)

@@ -1,120 +1,209 @@
-// The activation outputs that reach each block: for each output, by block and port, a walk from the blocks that it feeds.
-ghost use Rattle.std.specs.Prelude.{◌≡◌, ℕ, ◌<◌, ◌≤◌, ◌+◌, ◌-◌, [], ◌∷◌, ◌++◌, true, false, length, All, IfOk, OnOk, vec_len, slice_set};
-ghost use Rattle.sci_walk.specs.Lists.{plain, list_at};
-ghost use Rattle.sci_walk.specs.Walk.{IsMarked};
-ghost use Rattle.sci_walk.specs.Reached.{IsReached};
-ghost use Rattle.sci_inherit.specs.Links.{AreHeirs, AreFed, AreFedBy};
-ghost use Rattle.sci_inherit.specs.Gather.{Pushes, Gathered, OfBlocks};
+// The lists by block: the activation outputs of synchronous blocks that reach it, and the blocks that its own reach.
+ghost use Rattle.std.specs.Prelude.{◌≡◌, ℕ, ◌≤◌, ◌+◌, ◌-◌, ◌↔◌, length, All, Contains, IfOk, OnOk, vec_len, nat_eq};
+ghost use Rattle.std.specs.List.{IsDistinct};
+ghost use Rattle.sci_walk.specs.Lists.{plain};
+ghost use Rattle.sci_reaction.specs.Active.{Reaches, IsSync};
+ghost use Rattle.sci_inherit.specs.Links.{AreFedBy, AreLinks};
+ghost use Rattle.sci_inherit.specs.Gather.{AreEach, Pushes, Gathered, OfBlocks, OfPorts, IsFedUpto, AreOnward};
 
-use crate::links::{Fed, by_port};
+use crate::Fed;
+use crate::always::{blocks_of, push_blocks};
+use crate::links::Links;
 use sci_net::{Feed, Net};
-use sci_walk::{empty_lists, push_at, reached};
+use sci_walk::{Walk, empty_lists, push_at};
 use std::alloc::{AllocError, Global};
 
-// Puts an activation output into the list at a place, if its block is marked.
-fn push_if(
-    lists: &mut Vec<Vec<Feed>>,
-    marked: bool,
-    at: usize,
-    feed: Feed,
-) -> Result<(), AllocError>
-    requires { at < vec_len lists.old }
-    ensures marked { OnOk result (marked ≡ true → plain lists.new.items
-        ≡ slice_set (plain lists.old.items) at (list_at (plain lists.old.items) at ++ feed ∷ [])) }
-    ensures other { OnOk result (marked ≡ false → plain lists.new.items ≡ plain lists.old.items) }
+// Puts an activation output at the end of the lists of these blocks.
+fn push_to_all(lists: &mut Vec<Vec<Feed>>, blocks: &[u32], feed: Feed) -> Result<(), AllocError>
+    requires within { All (λ b. (1 ≤ b) × (b ≤ vec_len lists.old)) blocks.now }
+    requires once { IsDistinct nat_eq blocks.now }
+    ensures lists { OnOk result (Pushes (Contains blocks.now) feed (plain lists.old.items) (plain lists.new.items)) }
     ensures len { OnOk result (vec_len lists.new ≡ vec_len lists.old) }
 {
-    if marked {
-        push_at(lists, at, feed)
+    for block in blocks {
+        push_at(lists, *block as usize - 1, feed)?;
+    }
+    Ok(())
+}
+
+// Gathers an activation output, from what it feeds.
+fn gather_output(
+    alloc: Global,
+    branches: &mut Vec<Vec<Feed>>,
+    net: &Net,
+    links: &Links,
+    walk: &mut Walk,
+    feed: Feed,
+    fed: &[Fed],
+) -> Result<(), AllocError>
+    requires links { AreLinks net.now links.now }
+    requires walk { walk.old.count ≡ length net.now.specs + 1 }
+    requires fed { AreFedBy net.now feed fed.now }
+    requires len { vec_len branches.old ≡ length net.now.specs }
+    ensures lists { OnOk result (Pushes (Reaches net.now feed) feed (plain branches.old.items) (plain branches.new.items)) }
+    ensures len { OnOk result (vec_len branches.new ≡ vec_len branches.old) }
+    ensures count { walk.new.count ≡ walk.old.count }
+{
+    net.well_formed();
+    let starts = blocks_of(alloc, fed)?;
+    walk.walk(&links.heirs, &starts)?;
+    push_to_all(branches, walk.found(), feed)
+}
+
+// Gathers the activation outputs of a synchronous block.
+fn gather_ports(
+    alloc: Global,
+    branches: &mut Vec<Vec<Feed>>,
+    net: &Net,
+    links: &Links,
+    walk: &mut Walk,
+    block: u32,
+) -> Result<(), AllocError>
+    requires least { 1 ≤ block }
+    requires most { block ≤ length net.now.specs }
+    requires sync { IsSync net.now block }
+    requires links { AreLinks net.now links.now }
+    requires walk { walk.old.count ≡ length net.now.specs + 1 }
+    requires gathered { Gathered net.now (OfBlocks net.now (block - 1)) (plain branches.old.items) }
+    ensures gathered { OnOk result (Gathered net.now (OfBlocks net.now block) (plain branches.new.items)) }
+    ensures count { walk.new.count ≡ walk.old.count }
+{
+    net.well_formed();
+    let rows = &links.fed[block as usize];
+    for at in 0..net.spec(block).evtout {
+        let feed = Feed {
+            block,
+            port: at + 1,
+        };
+        gather_output(
+            alloc,
+            branches,
+            net,
+            links,
+            walk,
+            feed,
+            &rows[at as usize + 1],
+        )?;
+    }
+    Ok(())
+}
+
+// Gathers the activation outputs of a block, if it is synchronous.
+fn gather_block(
+    alloc: Global,
+    branches: &mut Vec<Vec<Feed>>,
+    net: &Net,
+    links: &Links,
+    walk: &mut Walk,
+    block: u32,
+) -> Result<(), AllocError>
+    requires least { 1 ≤ block }
+    requires most { block ≤ length net.now.specs }
+    requires links { AreLinks net.now links.now }
+    requires walk { walk.old.count ≡ length net.now.specs + 1 }
+    requires gathered { Gathered net.now (OfBlocks net.now (block - 1)) (plain branches.old.items) }
+    ensures gathered { OnOk result (Gathered net.now (OfBlocks net.now block) (plain branches.new.items)) }
+    ensures count { walk.new.count ≡ walk.old.count }
+{
+    if net.spec(block).kind.is_sync() {
+        gather_ports(alloc, branches, net, links, walk, block)
     } else {
         Ok(())
     }
 }
 
-// Puts an activation output into the list of each block that is marked.
-fn push_marked(lists: &mut Vec<Vec<Feed>>, marks: &[bool], feed: Feed) -> Result<(), AllocError>
-    requires { length marks.now ≡ vec_len lists.old + 1 }
-    ensures lists { OnOk result (Pushes (IsMarked marks.now) feed (vec_len lists.old) (plain lists.old.items) (plain lists.new.items)) }
-    ensures len { OnOk result (vec_len lists.new ≡ vec_len lists.old) }
-{
-    for at in 0..lists.len() {
-        push_if(lists, marks[at + 1], at, feed)?;
-    }
-    Ok(())
-}
-
-// Gathers an activation output, from the blocks that it feeds.
-fn gather_output(
+/// By block, the activation outputs of synchronous blocks that reach it, by block and port.
+pub fn branches(
     alloc: Global,
-    reaching: &mut Vec<Vec<Feed>>,
-    heirs: &[Vec<u32>],
-    starts: &[u32],
-    feed: Feed,
-) -> Result<(), AllocError>
-    requires starts { All (λ b. b < length heirs.now) starts.now }
-    requires within { (a : ℕ) → All (λ b. b < length heirs.now) (list_at (plain heirs.now) a) }
-    requires len { length heirs.now ≡ vec_len reaching.old + 1 }
-    ensures lists { OnOk result (Pushes (IsReached (plain heirs.now) starts.now) feed (vec_len reaching.old) (plain reaching.old.items) (plain reaching.new.items)) }
-    ensures len { OnOk result (vec_len reaching.new ≡ vec_len reaching.old) }
-{
-    let marks = reached(alloc, heirs, starts)?;
-    push_marked(reaching, &marks, feed)
-}
-
-// Gathers the activation outputs of a block.
-fn gather_block(
-    alloc: Global,
-    reaching: &mut Vec<Vec<Feed>>,
     net: &Net,
-    heirs: &[Vec<u32>],
-    fed: &[Fed],
+    links: &Links,
+    walk: &mut Walk,
+) -> Result<Vec<Vec<Feed>>, AllocError>
+    requires links { AreLinks net.now links.now }
+    requires walk { walk.old.count ≡ length net.now.specs + 1 }
+    ensures gathered { IfOk result (λ v. Gathered net.now (OfBlocks net.now (length net.now.specs)) (plain v.items)) }
+    ensures count { walk.new.count ≡ walk.old.count }
+{
+    net.well_formed();
+    let mut branches = empty_lists(alloc, net.len() as usize)?;
+    for at in 0..net.len() {
+        gather_block(alloc, &mut branches, net, links, walk, at + 1)?;
+    }
+    Ok(branches)
+}
+
+// The blocks that the activation inputs in some rows are of.
+fn blocks_in(alloc: Global, rows: &[Vec<Fed>]) -> Result<Vec<u32>, AllocError>
+    ensures { IfOk result (λ v. (b : ℕ) → Contains v.items b ↔ IsFedUpto (plain rows.now) (length rows.now) b) }
+{
+    let mut blocks = Vec::new(alloc);
+    for row in rows {
+        push_blocks(&mut blocks, row)?;
+    }
+    Ok(blocks)
+}
+
+// The blocks that the activation outputs of a synchronous block reach.
+fn onward_of_sync(
+    alloc: Global,
+    net: &Net,
+    links: &Links,
+    walk: &mut Walk,
     block: u32,
-) -> Result<(), AllocError>
+) -> Result<Vec<u32>, AllocError>
     requires least { 1 ≤ block }
     requires most { block ≤ length net.now.specs }
-    requires heirs { AreHeirs net.now (plain heirs.now) }
-    requires len { length heirs.now ≡ length net.now.specs + 1 }
-    requires fed { AreFedBy net.now block fed.now }
-    requires gathered { Gathered net.now (OfBlocks (block - 1)) (plain reaching.old.items) }
-    ensures { OnOk result (Gathered net.now (OfBlocks block) (plain reaching.new.items)) }
+    requires sync { IsSync net.now block }
+    requires links { AreLinks net.now links.now }
+    requires walk { walk.old.count ≡ length net.now.specs + 1 }
+    ensures onward { IfOk result (λ v. AreOnward net.now block v.items) }
+    ensures count { walk.new.count ≡ walk.old.count }
 {
     net.well_formed();
-    let ports = net.spec(block).evtout;
-    let rows = by_port(alloc, fed, ports)?;
-    for at in 0..ports {
-        let feed = Feed {
-            block,
-            port: at + 1,
-        };
-        gather_output(alloc, reaching, heirs, &rows[at as usize + 1], feed)?;
-    }
-    Ok(())
+    let starts = blocks_in(alloc, &links.fed[block as usize])?;
+    walk.walk(&links.heirs, &starts)?;
+    Vec::from_slice(alloc, walk.found())
 }
 
-/// By block, the activation outputs that reach it, by block and port.
-pub fn reaching(
+// The blocks that a branch of a block reaches.
+fn onward_of(
     alloc: Global,
     net: &Net,
-    heirs: &[Vec<u32>],
-    fed: &[Vec<Fed>],
-) -> Result<Vec<Vec<Feed>>, AllocError>
-    requires heirs { AreHeirs net.now (plain heirs.now) }
-    requires heirs_len { length heirs.now ≡ length net.now.specs + 1 }
-    requires fed { AreFed net.now (plain fed.now) }
-    requires fed_len { length fed.now ≡ length net.now.specs + 1 }
-    ensures { IfOk result (λ v. Gathered net.now (OfBlocks (length net.now.specs)) (plain v.items)) }
+    links: &Links,
+    walk: &mut Walk,
+    block: u32,
+) -> Result<Vec<u32>, AllocError>
+    requires least { 1 ≤ block }
+    requires most { block ≤ length net.now.specs }
+    requires links { AreLinks net.now links.now }
+    requires walk { walk.old.count ≡ length net.now.specs + 1 }
+    ensures onward { IfOk result (λ v. AreOnward net.now block v.items) }
+    ensures count { walk.new.count ≡ walk.old.count }
+{
+    if net.spec(block).kind.is_sync() {
+        onward_of_sync(alloc, net, links, walk, block)
+    } else {
+        Ok(Vec::new(alloc))
+    }
+}
+
+/// By number, from 0 on, the blocks that a branch of the block reaches.
+pub fn onward(
+    alloc: Global,
+    net: &Net,
+    links: &Links,
+    walk: &mut Walk,
+) -> Result<Vec<Vec<u32>>, AllocError>
+    requires links { AreLinks net.now links.now }
+    requires walk { walk.old.count ≡ length net.now.specs + 1 }
+    ensures onward { IfOk result (λ v. AreEach (AreOnward net.now) (plain v.items)) }
+    ensures len { IfOk result (λ v. vec_len v ≡ length net.now.specs + 1) }
 {
     net.well_formed();
-    let mut reaching = empty_lists(alloc, net.len() as usize)?;
+    let mut onward = Vec::new(alloc);
+    onward.push(Vec::new(alloc))?;
     for at in 0..net.len() {
-        gather_block(
-            alloc,
-            &mut reaching,
-            net,
-            heirs,
-            &fed[at as usize + 1],
-            at + 1,
-        )?;
+        onward.push(onward_of(alloc, net, links, walk, at + 1)?)?;
     }
-    Ok(reaching)
+    Ok(onward)
 }

@@ -1,24 +1,54 @@
-//! What activates each block: the activation outputs that reach it, by feeding it or by inheritance.
+//! What activates each block: what each source activates whatever the values are, and the branches that reach each block.
 #![tactic(auto)]
 
 ghost use Rattle.std.specs.Prelude.{IfOk};
 ghost use Rattle.sci_inherit.specs.Origins.{AreOrigins};
 
+mod always;
 mod gather;
 mod links;
 mod reach;
-mod views;
 
+use always::{always, feeding};
+use gather::{branches, onward};
+use links::Links;
 pub use reach::{Reach, contains};
 use sci_base::NoMemory;
 use sci_net::Net;
-use std::alloc::Global;
+use sci_walk::Walk;
+use std::alloc::{AllocError, Global};
+
+/// An activation input of a block, both counted from 1.
+#[derive(Clone, Copy, Debug, Drop, PartialEq, Eq)]
+pub struct Fed {
+    pub block: u32,
+    pub input: u32,
+}
+
+// What activates each block.
+fn made(alloc: Global, net: &Net) -> Result<Reach, AllocError>
+    ensures { IfOk result (λ o. AreOrigins net.now o) }
+{
+    net.well_formed();
+    let links = Links::of(alloc, net)?;
+    let mut walk = Walk::new(alloc, net.len() as usize + 1)?;
+    let feeding = feeding(alloc, net, &links)?;
+    let always = always(alloc, net, &links, &mut walk, &feeding)?;
+    let branches = branches(alloc, net, &links, &mut walk)?;
+    let onward = onward(alloc, net, &links, &mut walk)?;
+    Ok(Reach {
+        always,
+        feeding,
+        branches,
+        onward,
+    })
+}
 
 /// What activates each block of a net. Want of memory is the only error.
 pub fn origins(alloc: Global, net: &Net) -> Result<Reach, NoMemory>
     ensures { IfOk result (λ o. AreOrigins net.now o) }
 {
-    match views::made(alloc, net) {
+    match made(alloc, net) {
         Ok(reach) => Ok(reach),
         Err(_) => Err(NoMemory),
     }

@@ -1,18 +1,21 @@
-// The links of a net, from where they begin: the blocks that inherit from each block, and those that each activation output feeds.
-ghost use Rattle.std.specs.Prelude.{◌≡◌, ◌≤◌, ◌<◌, ◌+◌, ◌-◌, length, All, IfOk, OnOk, vec_len};
+// The links of a net, from where they begin: the blocks that inherit from each block, and what each activation output feeds.
+ghost use Rattle.std.specs.Prelude.{◌≡◌, ◌≤◌, ◌+◌, ◌-◌, [], ◌∷◌, length, All, IfOk, OnOk, vec_len};
 ghost use Rattle.sci_walk.specs.Lists.{plain, Adds};
 ghost use Rattle.sci_net.specs.Parts.{spec_of};
-ghost use Rattle.sci_inherit.specs.Links.{InputGives, HeirGiven, AreHeirs, FeedGives, InputFed, FedGiven, AreFed, AreByPort, Upto};
+ghost use Rattle.sci_inherit.specs.Links.{InputGives, HeirGiven, AreHeirs, plain_rows, HasRow, HaveRows, AreEmptyRows, Fills, FeedGets, BlockFed, AreRows, Upto};
 
+use crate::Fed;
 use sci_net::{Feed, Net};
 use sci_walk::{empty_lists, push_at};
 use std::alloc::{AllocError, Global};
 
-/// A block, and the port of an activation output that feeds it.
-#[derive(Clone, Copy, Debug, Drop, PartialEq, Eq)]
-pub struct Fed {
-    pub port: u32,
-    pub block: u32,
+/// The links of a net by number, from 0 on, which is no block and no port.
+#[derive(Drop)]
+pub struct Links {
+    /// By block, the blocks that inherit and have it as a source block of an input.
+    pub heirs: Vec<Vec<u32>>,
+    /// By block and port of an activation output, the activation inputs that it feeds.
+    pub fed: Vec<Vec<Vec<Fed>>>,
 }
 
 // Gives a block to the source blocks of its inputs.
@@ -46,8 +49,8 @@ fn push_heir(heirs: &mut Vec<Vec<u32>>, net: &Net, block: u32) -> Result<(), All
     }
 }
 
-/// By number, the blocks that inherit and have the block as a source block of an input.
-pub fn heirs(alloc: Global, net: &Net) -> Result<Vec<Vec<u32>>, AllocError>
+// By number, the blocks that inherit and have the block as a source block of an input.
+fn heirs(alloc: Global, net: &Net) -> Result<Vec<Vec<u32>>, AllocError>
     ensures heirs { IfOk result (λ v. AreHeirs net.now (plain v.items)) }
     ensures len { IfOk result (λ v. vec_len v ≡ length net.now.specs + 1) }
 {
@@ -58,61 +61,74 @@ pub fn heirs(alloc: Global, net: &Net) -> Result<Vec<Vec<u32>>, AllocError>
     Ok(heirs)
 }
 
-// Gives a block to these activation outputs.
-fn push_to_feeds(fed: &mut Vec<Vec<Fed>>, feeds: &[Feed], block: u32) -> Result<(), AllocError>
-    requires { All (λ q. q.block < vec_len fed.old) feeds.now }
-    ensures fed { OnOk result (Adds (FeedGives feeds.now block) (plain fed.old.items) (plain fed.new.items)) }
-    ensures len { OnOk result (vec_len fed.new ≡ vec_len fed.old) }
+// So many rows for each block as it has activation outputs, and one more, all empty.
+fn empty_rows(alloc: Global, net: &Net) -> Result<Vec<Vec<Vec<Fed>>>, AllocError>
+    ensures { IfOk result (λ v. AreEmptyRows net.now (length net.now.specs) (plain_rows v.items)) }
+{
+    let mut rows = Vec::new(alloc);
+    rows.push(Vec::new(alloc))?;
+    for at in 0..net.len() {
+        rows.push(empty_lists(alloc, net.spec(at + 1).evtout as usize + 1)?)?;
+    }
+    Ok(rows)
+}
+
+// Gives an activation input to an output that feeds it.
+fn push_to_feed(rows: &mut Vec<Vec<Vec<Fed>>>, feed: Feed, fed: Fed) -> Result<(), AllocError>
+    requires { HasRow (plain_rows rows.old.items) feed }
+    ensures { OnOk result (Fills (FeedGets (feed ∷ []) fed) (plain_rows rows.old.items) (plain_rows rows.new.items)) }
+{
+    push_at(&mut rows[feed.block as usize], feed.port as usize, fed)
+}
+
+// Gives an activation input to all outputs that feed it.
+fn push_to_feeds(rows: &mut Vec<Vec<Vec<Fed>>>, feeds: &[Feed], fed: Fed) -> Result<(), AllocError>
+    requires { All (HasRow (plain_rows rows.old.items)) feeds.now }
+    ensures { OnOk result (Fills (FeedGets feeds.now fed) (plain_rows rows.old.items) (plain_rows rows.new.items)) }
 {
     for feed in feeds {
-        push_at(
-            fed,
-            feed.block as usize,
-            Fed {
-                port: feed.port,
-                block,
-            },
-        )?;
+        push_to_feed(rows, *feed, fed)?;
     }
     Ok(())
 }
 
-// Gives a block to all the activation outputs that feed it.
-fn push_fed(fed: &mut Vec<Vec<Fed>>, net: &Net, block: u32) -> Result<(), AllocError>
+// Gives the activation inputs of a block to all outputs that feed them.
+fn push_block(rows: &mut Vec<Vec<Vec<Fed>>>, net: &Net, block: u32) -> Result<(), AllocError>
     requires least { 1 ≤ block }
     requires most { block ≤ length net.now.specs }
-    requires long { vec_len fed.old ≡ length net.now.specs + 1 }
-    ensures fed { OnOk result (Adds (Upto (InputFed net.now block) (spec_of net.now block).evtin) (plain fed.old.items) (plain fed.new.items)) }
-    ensures len { OnOk result (vec_len fed.new ≡ vec_len fed.old) }
+    requires shape { HaveRows net.now (plain_rows rows.old.items) }
+    ensures { OnOk result (Fills (BlockFed net.now (block - 1)) (plain_rows rows.old.items) (plain_rows rows.new.items)) }
 {
     net.well_formed();
     for at in 0..net.spec(block).evtin {
-        push_to_feeds(fed, net.feeds(block, at + 1), block)?;
+        let input = at + 1;
+        push_to_feeds(rows, net.feeds(block, input), Fed { block, input })?;
     }
     Ok(())
 }
 
-/// By number, the blocks that the activation outputs of the block feed, with the ports.
-pub fn fed_blocks(alloc: Global, net: &Net) -> Result<Vec<Vec<Fed>>, AllocError>
-    ensures fed { IfOk result (λ v. AreFed net.now (plain v.items)) }
-    ensures len { IfOk result (λ v. vec_len v ≡ length net.now.specs + 1) }
+// By number of the block and of the port, the activation inputs that the output feeds.
+fn rows(alloc: Global, net: &Net) -> Result<Vec<Vec<Vec<Fed>>>, AllocError>
+    ensures shape { IfOk result (λ v. HaveRows net.now (plain_rows v.items)) }
+    ensures rows { IfOk result (λ v. AreRows net.now (plain_rows v.items)) }
 {
-    let mut fed = empty_lists(alloc, net.len() as usize + 1)?;
+    net.well_formed();
+    let mut rows = empty_rows(alloc, net)?;
     for at in 0..net.len() {
-        push_fed(&mut fed, net, at + 1)?;
-    }
-    Ok(fed)
-}
-
-/// The blocks that are fed, by port.
-pub fn by_port(alloc: Global, fed: &[Fed], ports: u32) -> Result<Vec<Vec<u32>>, AllocError>
-    requires { All (λ f. f.port ≤ ports) fed.now }
-    ensures rows { IfOk result (λ v. AreByPort fed.now (plain v.items)) }
-    ensures len { IfOk result (λ v. vec_len v ≡ ports + 1) }
-{
-    let mut rows = empty_lists(alloc, ports as usize + 1)?;
-    for each in fed {
-        push_at(&mut rows, each.port as usize, each.block)?;
+        push_block(&mut rows, net, at + 1)?;
     }
     Ok(rows)
+}
+
+impl Links {
+    ghost use Rattle.sci_inherit.specs.Links.{AreLinks};
+
+    /// Those of a net.
+    pub fn of(alloc: Global, net: &Net) -> Result<Links, AllocError>
+        ensures { IfOk result (λ l. AreLinks net.now l) }
+    {
+        let heirs = heirs(alloc, net)?;
+        let fed = rows(alloc, net)?;
+        Ok(Links { heirs, fed })
+    }
 }

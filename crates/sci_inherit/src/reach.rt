@@ -1,57 +1,56 @@
 // What activates each block, as it is kept.
-ghost use Rattle.std.specs.Prelude.{◌≡◌, ◌<◌, ◌≤◌, ◌↔◌, false, [], length, Contains, IsTrue, slice_index_or};
-ghost use Rattle.sci_walk.specs.Lists.{plain};
+ghost use Rattle.std.specs.Prelude.{◌≡◌, ◌<◌, ◌≤◌, ◌↔◌, [], length, Contains, IsTrue, slice_index_or};
+ghost use Rattle.sci_walk.specs.Lists.{plain, list_at};
 ghost use Rattle.sci_net.specs.Parts.{numbered, AreRising, precedes};
 
+use crate::Fed;
 use sci_net::Feed;
 use std::marker::Model;
 
 /// What activates each block of a net.
 #[derive(Drop)]
 pub struct Reach {
-    pub(crate) reaching: Vec<Vec<Feed>>,
+    pub(crate) always: Vec<Vec<u32>>,
+    pub(crate) feeding: Vec<Vec<Fed>>,
     pub(crate) branches: Vec<Vec<Feed>>,
     pub(crate) onward: Vec<Vec<u32>>,
-    pub(crate) starts: Vec<bool>,
 }
 
 impl Model for Reach {
     ghost use Rattle.sci_walk.specs.Lists.{plain};
-    ghost use Rattle.sci_inherit.specs.Origins.{Origins, HaveOneEach};
+    ghost use Rattle.sci_inherit.specs.Origins.{Origins};
 
     ghost Value = { Origins };
 
-    ghost view = { λ r. record { reaching = plain r.reaching.items; branches = plain r.branches.items; onward = plain r.onward.items; starts = r.starts.items } };
-
-    ghost invariant = { λ r. HaveOneEach (record { reaching = plain r.reaching.items; branches = plain r.branches.items; onward = plain r.onward.items; starts = r.starts.items }) };
+    ghost view = { λ r. record { always = plain r.always.items; feeding = plain r.feeding.items; branches = plain r.branches.items; onward = plain r.onward.items } };
 }
 
 impl Reach {
-    /// The activation outputs that reach a block, by block and port: those that feed it, or a block from which it inherits.
-    pub fn of(&self, block: u32) -> &[Feed]
-        requires least { 1 ≤ block }
-        requires most { block ≤ length self.now.reaching }
-        ensures { result.now ≡ numbered [] self.now.reaching block }
+    /// The blocks that a source activates whatever the values are, each once: those that it sets off, and those that inherit from them. The
+    /// source is given by its place in the net's order, where 0 is start.
+    pub fn always(&self, source: u32) -> &[u32]
+        requires { source < length self.now.always }
+        ensures { result.now ≡ list_at self.now.always source }
     {
-        self.reaching[block as usize - 1].as_slice()
+        self.always[source as usize].as_slice()
     }
 
-    /// Those of them whose block is synchronous.
+    /// The activation inputs that a source feeds.
+    pub fn feeding(&self, source: u32) -> &[Fed]
+        requires { source < length self.now.feeding }
+        ensures { result.now ≡ list_at self.now.feeding source }
+    {
+        self.feeding[source as usize].as_slice()
+    }
+
+    /// The activation outputs of synchronous blocks that reach a block, by block and port: those that feed it, or a block from which it
+    /// inherits.
     pub fn branches(&self, block: u32) -> &[Feed]
         requires least { 1 ≤ block }
-        requires most { block ≤ length self.now.reaching }
+        requires most { block ≤ length self.now.branches }
         ensures { result.now ≡ numbered [] self.now.branches block }
     {
         self.branches[block as usize - 1].as_slice()
-    }
-
-    /// Whether start activates a block, whatever the values are: it is constant, or inherits from a constant block.
-    pub fn at_start(&self, block: u32) -> bool
-        requires least { 1 ≤ block }
-        requires most { block ≤ length self.now.reaching }
-        ensures { result ≡ slice_index_or self.now.starts block false }
-    {
-        self.starts[block as usize]
     }
 
     /// For each number, from 0 on, the blocks that a branch of the synchronous block of this number reaches; none for another block, and

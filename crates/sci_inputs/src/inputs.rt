@@ -21,12 +21,14 @@ impl Model for Inputs {
 }
 
 impl Inputs {
+    /// An input file with these columns, in their order.
     pub fn of(columns: Vec<Vec<i64>>) -> Inputs
         ensures { result ≡ columns_view columns.items }
     {
         Inputs { columns }
     }
 
+    /// All columns, each with its values in the order of the file.
     pub fn columns(&self) -> &[Vec<i64>]
         ensures { columns_view result.now ≡ self.now }
     {

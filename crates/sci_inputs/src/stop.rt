@@ -5,10 +5,12 @@ ghost use Rattle.sci_inputs.specs.declared.stop.InputStop.TheVariants.{Memory};
 use sci_base::Refusal;
 use std::alloc::{AllocError, AllocFailed};
 
-/// Why an input file wasn't read: it breaks a rule, or there was no memory.
+/// Why an input file wasn't read.
 #[derive(Drop)]
 pub enum InputStop {
+    /// The bytes are no list of lists of whole numbers or have too few columns (27), or a needed column has a value outside its type (28).
     Refused(Refusal),
+    /// There was no memory.
     Memory,
 }
 

@@ -62,6 +62,7 @@ pub fn text(alloc: Global, v: &Value, name: &str) -> Result<String, FieldStop>
 
 /// A list of whole numbers, those that fit an `i64`; a single one stands for the list of it. Missing where the field is absent,
 /// Wrong where it is neither.
+#[inline(always)]
 pub fn ints(alloc: Global, v: &Value, name: &str) -> Result<Vec<i64>, FieldStop>
     ensures ok { IfOk result (λ xs. field as_ints name.now (view v.now) ≡ holds xs.items) }
     ensures stop { IfErr result (λ e. StopsAt (field as_ints name.now (view v.now)) e) }
@@ -86,6 +87,7 @@ fn ints_of(alloc: Global, found: &Value) -> Result<Vec<i64>, FieldStop>
     }
 }
 
+#[inline]
 fn one(alloc: Global, n: i64) -> Result<Vec<i64>, FieldStop>
     ensures ok { IfOk result (λ xs. xs.items ≡ n ∷ []) }
     ensures stop { IfErr result (λ e. e ≡ FieldStop.Memory) }

@@ -3,3 +3,4 @@ pub mod Walks
 pub mod Naming
 pub mod Settling
 pub mod Steps
+pub mod Needing

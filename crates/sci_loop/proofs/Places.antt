@@ -1,8 +1,9 @@
 -- Members by their places, and what settling one keeps.
-use Rattle.std.proofs.Common.{ℕ, ◌≡◌, ◌<◌, ◌≤◌, Bool, true, false, List, length, get_or, set, slice_get, slice_index, Contains, Some, Vec, All, ⊎_elim, subst, sym, ap, ◌∙◌, arith, Option, None, IfSome, IfNone, subst₂, Result, Err, Ok, is_ok, refl, true≢false, nat_cmp}
+use Rattle.std.proofs.Common.{ℕ, ◌≡◌, ◌+◌, ◌<◌, ◌≤◌, Bool, true, false, List, length, get_or, set, slice_get, Contains, Some, Vec, All, ⊎_elim, subst, sym, ap, ◌∙◌, arith, subst₂, Result, Err, Ok, is_ok, refl, true≢false, nat_cmp, below_more}
 use Rattle.std.proofs.lemmas.List.{get_or_default, get_or-set_same, get_or-set_other}
 use Rattle.std.proofs.lemmas.Bool.{cases_eq, cases_order, cases_lt}
 use Rattle.std.proofs.lemmas.Option.{same_Some, get_or_from_slice_get, slice_get_within, slice_get_read, slice_get-get_or}
+use Rattle.std.proofs.lemmas.List.Elements.{Contains-get_or}
 use Rattle.std.proofs.lemmas.Map.Keys.{below_from_sorted, sorted_from_strictly_increasing}
 use Rattle.std.proofs.lemmas.List.Sorted.{searched}
 use Rattle.std.specs.List.Sorted.{IsStrictlyIncreasing, IsBinarySearchResult}
@@ -11,8 +12,7 @@ use Rattle.sci_relation.specs.Grounded.{Grounded, grounded}
 use Rattle.sci_relation.specs.Loops.{HasNoLoop}
 use Rattle.sci_relation.proofs.Grounded.{grounded_no_loop}
 use Rattle.sci_loop.specs.declared.table.DepTable.{DepTable}
-use Rattle.sci_loop.specs.declared.search.OpenNeed.{OpenNeed}
-use Rattle.sci_loop.specs.Table.{Needs, NeedsAt, IsTable, IsRow}
+use Rattle.sci_loop.specs.Table.{Needs, NeedsAt, IsTable, IsRow, ArePlaces}
 use Rattle.sci_loop.specs.Progress.{IsSettled, SeenBelow, SeenTo, IsOpenNeed, IsMet, AllGrounded}
 
 -- a number stands at one place of a list that rises
@@ -24,7 +24,7 @@ same_place xs i j rising wi wj same =
     (λ gt. let d = below_from_sorted xs j i 0 sorted gt wi in omega (arith, d, same)) apart))
     (cases_order i j)
 
-never_falls : (xs : List ℕ) → IsStrictlyIncreasing xs → (i j : ℕ) → i ≤ j → j < length xs → get_or xs i 0 ≤ get_or xs j 0
+pub never_falls : (xs : List ℕ) → IsStrictlyIncreasing xs → (i j : ℕ) → i ≤ j → j < length xs → get_or xs i 0 ≤ get_or xs j 0
 never_falls xs rising i j le h =
     let sorted = sorted_from_strictly_increasing xs rising in
     ⊎_elim (λ here. subst (λ m. get_or xs i 0 ≤ get_or xs m 0) here (let z : get_or xs i 0 ≤ get_or xs i 0 = omega arith in z))
@@ -136,30 +136,59 @@ all_settled t settled sound all =
     let h = slice_get_within t.members.items n.0 c n.2 in
     subst (Grounded (Needs t)) (get_or_from_slice_get t.members.items n.0 c 0 n.2) (sound n.0 h (all n.0 h)))
 
-pub some_open : (t : DepTable) (settled : List Bool) (i : ℕ) (row : Vec ℕ Global) (ms ns : List ℕ) (r : Option OpenNeed) → IsTable t → i < length t.members.items → row ≡ get_or t.needs.items i row →
-    ms ≡ t.members.items → ns ≡ row.items → IfSome r (λ o. o.place < length ms) → IfSome r (λ o. get_or settled o.place false ≡ false) → IfSome r (λ o. Contains ns (slice_index ms o.place)) →
-    IfSome r (λ o. IsOpenNeed t settled i o.place)
-some_open t settled i row ms ns None ok h is same_ms same_ns within off needed = tt
-some_open t settled i row ms ns (Some o) ok h is same_ms same_ns within off needed =
+-- the place that is listed at a member's number
+pub place_listed : (ms ps : List ℕ) (b : ℕ) → ArePlaces ms ps → Contains ms b → (b < length ps) × (get_or ps b 0 < length ms) × (get_or ms (get_or ps b 0) 0 ≡ b)
+place_listed ms ps b are has =
+    let at : get_or ms has.0 0 ≡ b = get_or_default ms has.0 0 b has.1 ∙ has.2 in
+    let listed : get_or ps b 0 ≡ has.0 = subst (λ x. get_or ps x 0 ≡ has.0) at (are.listed has.0 has.1) in (
+      subst (λ x. x < length ps) at (are.within has.0 has.1),
+      subst (λ x. x < length ms) (sym listed) has.1,
+      ap (λ x. get_or ms x 0) listed ∙ at,
+    )
+
+-- one more place is listed
+pub listed_more : (ms ps : List ℕ) (i : ℕ) → IsStrictlyIncreasing ms → i < length ms → get_or ms i 0 < length ps → ((k : ℕ) → k < i → get_or ps (get_or ms k 0) 0 ≡ k) →
+    (k : ℕ) → k < i + 1 → get_or (set ps (get_or ms i 0) i) (get_or ms k 0) 0 ≡ k
+listed_more ms ps i rising h inside before =
+    let qs = set ps (get_or ms i 0) i in
+    let P : ℕ → Type 0 = λ k. get_or qs (get_or ms k 0) 0 ≡ k in
+    below_more P i
+    (λ k l.
+    get_or-set_other ps (get_or ms i 0) (get_or ms k 0) i 0 (λ e. let one = same_place ms k i rising (omega (arith, l, h)) h e in omega (arith, one, l)) ∙ before k l)
+    (get_or-set_same ps (get_or ms i 0) i 0 inside)
+
+-- so it is with each need
+pub need_listed : (t : DepTable) (i k : ℕ) (row : Vec ℕ Global) (places ns : List ℕ) → IsTable t → ArePlaces t.members.items places → i < length t.members.items → row ≡ get_or t.needs.items i row →
+    ns ≡ row.items → k < length ns →
+    (get_or ns k 0 < length places) × (get_or places (get_or ns k 0) 0 < length t.members.items) × (get_or t.members.items (get_or places (get_or ns k 0) 0) 0 ≡ get_or ns k 0)
+need_listed t i k row places ns ok are h is same inside =
+    place_listed t.members.items places (get_or ns k 0) are (closed_at t i row t.members.items ns ok h is refl same k 0 inside)
+
+pub need_open : (t : DepTable) (settled : List Bool) (i k : ℕ) (row : Vec ℕ Global) (places ns : List ℕ) → IsTable t → ArePlaces t.members.items places → i < length t.members.items →
+    row ≡ get_or t.needs.items i row → ns ≡ row.items → k < length ns → get_or settled (get_or places (get_or ns k 0) 0) false ≡ false → IsOpenNeed t settled i (get_or places (get_or ns k 0) 0)
+need_open t settled i k row places ns ok are h is same inside off =
+    let l = need_listed t i k row places ns ok are h is same inside in
     record {
       row = row;
       row_is = row_at t i row ok h is;
-      within = subst (λ xs. o.place < length xs) same_ms within;
+      within = l.1;
       off = off;
-      needed = subst₂ (λ xs ys. Contains ys (slice_index xs o.place)) same_ms same_ns needed;
+      needed = subst₂ (λ xs b. Contains xs b) same (sym l.2) (Contains-get_or ns k 0 inside);
     }
 
-pub some_seen : (t : DepTable) (settled : List Bool) (i : ℕ) (row : Vec ℕ Global) (ms ns : List ℕ) (r : Option OpenNeed) → IsTable t → i < length t.members.items → row ≡ get_or t.needs.items i row →
-    ms ≡ t.members.items → ns ≡ row.items → IfSome r (λ o. SeenBelow ms settled ns o.index) → IfSome r (λ o. SeenTo t settled i o.index)
-some_seen t settled i row ms ns None ok h is same_ms same_ns seen = tt
-some_seen t settled i row ms ns (Some o) ok h is same_ms same_ns seen = to_seen t settled i o.index row ms ns ok h is same_ms same_ns seen
+pub need_settled : (t : DepTable) (settled : List Bool) (i k : ℕ) (row : Vec ℕ Global) (places ns : List ℕ) → IsTable t → ArePlaces t.members.items places → i < length t.members.items →
+    row ≡ get_or t.needs.items i row → ns ≡ row.items → k < length ns → get_or settled (get_or places (get_or ns k 0) 0) false ≡ true → IsSettled t.members.items settled (get_or ns k 0)
+need_settled t settled i k row places ns ok are h is same inside on =
+    let l = need_listed t i k row places ns ok are h is same inside in record { place = get_or places (get_or ns k 0) 0; within = l.1; holds = l.2; marked = on }
 
-pub none_met : (t : DepTable) (settled : List Bool) (i : ℕ) (row : Vec ℕ Global) (ms ns : List ℕ) (r : Option OpenNeed) → IsTable t → i < length t.members.items → row ≡ get_or t.needs.items i row →
-    ms ≡ t.members.items → ns ≡ row.items → IfNone r ((b : ℕ) → Contains ns b → IsSettled ms settled b) → IfNone r (IsMet t settled i)
-none_met t settled i row ms ns (Some o) ok h is same_ms same_ns all = tt
-none_met t settled i row ms ns None ok h is same_ms same_ns all =
+-- where all needs are settled
+pub all_met : (t : DepTable) (settled : List Bool) (i k : ℕ) (row : Vec ℕ Global) (ns : List ℕ) → IsTable t → i < length t.members.items → row ≡ get_or t.needs.items i row →
+    ns ≡ row.items → length ns ≤ k → SeenBelow t.members.items settled ns k → IsMet t settled i
+all_met t settled i k row ns ok h is same long below =
     record {
       row = row;
       row_is = row_at t i row ok h is;
-      all = subst₂ (λ xs ys. (b : ℕ) → Contains ys b → IsSettled xs settled b) same_ms same_ns all;
+      all = λ b has.
+          let here : Contains ns b = subst (λ xs. Contains xs b) (sym same) has in
+          subst (IsSettled t.members.items settled) (get_or_default ns here.0 0 b here.1 ∙ here.2) (below here.0 (let l = here.1 in omega (arith, l, long)) here.1);
     }

@@ -17,7 +17,8 @@ use std::alloc::Global;
 pub use table::DepTable;
 
 /// A loop of the table, listed from its least block, each block depending on the one before it and the first on the last; None
-/// exactly where the table has no loop. The time is that of a look at each need, with a binary search for its member.
+/// exactly where the table has no loop. The time is that of a look at each need, and of one list of places by number, as long as the
+/// greatest member.
 pub fn find(alloc: Global, table: &DepTable) -> Result<Option<Vec<u32>>, NoMemory>
     requires { IsTable table.now }
     ensures some { IfOk result (λ o. IfSome o (λ found. IsLoop (Needs table.now) found.items)) }
@@ -65,6 +66,7 @@ mod tests {
         let alloc = rt.alloc();
         let table = table(alloc)?;
         assert!(&rt; table.is_well_formed());
+        assert_eq!(rt; table.has_needs(), true);
         let found = find(alloc, &table);
         assert_eq!(rt; found, Ok(Some(vec![in alloc; 5, 7, 9]?)));
         Ok(())

@@ -6,7 +6,7 @@ ghost use Rattle.sci_relation.specs.Loops.{IsLoop, IsFromLeast};
 ghost use Rattle.sci_loop.specs.Sorted.{IsSorted};
 
 use crate::search::Search;
-use crate::table::DepTable;
+use crate::table::{DepTable, places_by_number};
 use std::alloc::{AllocError, Global};
 
 // The members at some places.
@@ -61,8 +61,9 @@ pub fn order_or_loop(alloc: Global, table: &DepTable) -> Result<Sorted, AllocErr
     requires { IsTable table.now }
     ensures { IfOk result (λ o. IsSorted table.now o) }
 {
+    let places = places_by_number(alloc, &table.members)?;
     let mut search = Search::new(alloc, table.members.len())?;
-    match search.all(table)? {
+    match search.all(table, &places)? {
         None => {
             let order = names(alloc, &table.members, &search.order)?;
             Ok(Sorted::Order(order))

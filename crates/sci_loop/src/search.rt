@@ -1,13 +1,12 @@
 // The search for a loop: a walk from member to member along needs. A member is settled once all that it needs is settled. The walk keeps
 // its trail; a need that is on the trail closes a loop.
-ghost use Rattle.std.specs.Prelude.{◌≡◌, ℕ, ◌+◌, ◌-◌, ◌<◌, ◌↔◌, ◌++◌, List, [], ◌∷◌, length, Contains, All, IfSome, IfNone, IfOk, OnOk, IsTrue, slice_index, slice_index_or, slice_set, true, false, take, drop};
+ghost use Rattle.std.specs.Prelude.{◌≡◌, ℕ, ◌+◌, ◌-◌, ◌<◌, ◌↔◌, ◌++◌, List, [], ◌∷◌, length, IfSome, IfNone, IfOk, OnOk, IsTrue, slice_index, slice_index_or, slice_set, true, false, take, drop};
 ghost use Rattle.std.proofs.Math.ListN.{replicate};
-ghost use Rattle.std.specs.List.Sorted.{IsStrictlyIncreasing};
-ghost use Rattle.sci_loop.specs.Table.{IsTable, NeedsAt};
-ghost use Rattle.sci_loop.specs.Progress.{IsSettled, SeenBelow, SeenTo, IsMet, IsOpenNeed, IsSearch, left, SettledStay, IsSettling};
+ghost use Rattle.sci_loop.specs.Table.{IsTable, NeedsAt, ArePlaces};
+ghost use Rattle.sci_loop.specs.Progress.{SeenTo, IsMet, IsOpenNeed, IsSearch, left, SettledStay, IsSettling};
 ghost use Rattle.sci_relation.specs.Rounds.{IsRound};
 
-use crate::table::{DepTable, place_of};
+use crate::table::DepTable;
 use std::alloc::{AllocError, Global};
 
 /// A need of a member that isn't settled: its index among the needs, and its place among the members.
@@ -32,30 +31,16 @@ pub struct Search {
     pub order: Vec<usize>,
 }
 
-// The first need, from the index `from` on, that isn't settled.
-fn open_need_from(members: &[u32], needs: &[u32], settled: &[bool], from: usize) -> Option<OpenNeed>
-    requires rising { IsStrictlyIncreasing members.now }
-    requires members { All (Contains members.now) needs.now }
-    requires settled { length settled.now ≡ length members.now }
-    requires seen { SeenBelow members.now settled.now needs.now from }
-    ensures within { IfSome result (λ o. o.place < length members.now) }
-    ensures off { IfSome result (λ o. slice_index_or settled.now o.place false ≡ false) }
-    ensures needed { IfSome result (λ o. Contains needs.now (slice_index members.now o.place)) }
-    ensures seen { IfSome result (λ o. SeenBelow members.now settled.now needs.now o.index) }
-    ensures none { IfNone result ((b : ℕ) → Contains needs.now b → IsSettled members.now settled.now b) }
-{
-    for index in from..needs.len() {
-        let place = place_of(members, needs[index]);
-        if !settled[place] {
-            return Some(OpenNeed { index, place });
-        }
-    }
-    None
-}
-
-// The same of the member at a place of the table.
-fn open_need(table: &DepTable, settled: &[bool], at: usize, from: usize) -> Option<OpenNeed>
+// The first need of the member at a place of the table, from the index `from` on, that isn't settled.
+fn open_need(
+    table: &DepTable,
+    places: &[usize],
+    settled: &[bool],
+    at: usize,
+    from: usize,
+) -> Option<OpenNeed>
     requires table { IsTable table.now }
+    requires places { ArePlaces table.now.members.items places.now }
     requires settled { length settled.now ≡ length table.now.members.items }
     requires within { at < length table.now.members.items }
     requires seen { SeenTo table.now settled.now at from }
@@ -63,7 +48,14 @@ fn open_need(table: &DepTable, settled: &[bool], at: usize, from: usize) -> Opti
     ensures seen { IfSome result (λ o. SeenTo table.now settled.now at o.index) }
     ensures none { IfNone result (IsMet table.now settled.now at) }
 {
-    open_need_from(&table.members, &table.needs[at], settled, from)
+    let needs = table.needs[at].as_slice();
+    for index in from..needs.len() {
+        let place = places[needs[index] as usize];
+        if !settled[place] {
+            return Some(OpenNeed { index, place });
+        }
+    }
+    None
 }
 
 impl Search {
@@ -139,8 +131,9 @@ impl Search {
 
     // One step of the walk: the last member goes on to a need that isn't settled, or is settled itself. A need that is on the trail closes
     // a round: its depth is the answer.
-    fn step(&mut self, table: &DepTable) -> Result<Option<usize>, AllocError>
+    fn step(&mut self, table: &DepTable, places: &[usize]) -> Result<Option<usize>, AllocError>
         requires table { IsTable table.now }
+        requires places { ArePlaces table.now.members.items places.now }
         requires search { IsSearch table.now self.old }
         requires some { 0 < length self.old.trail.items }
         requires order { IsSettling table.now self.old.settled.items self.old.order.items }
@@ -153,7 +146,7 @@ impl Search {
         ensures last { IfOk result (λ o. IfNone o (length self.new.trail.items ≡ 0 → slice_index_or self.new.settled.items (slice_index self.old.trail.items 0) false ≡ true)) }
     {
         let at = self.trail[self.trail.len() - 1];
-        match open_need(table, &self.settled, at, self.looked[at]) {
+        match open_need(table, places, &self.settled, at, self.looked[at]) {
             None => {
                 self.settle(at)?;
                 Ok(None)
@@ -171,8 +164,14 @@ impl Search {
     }
 
     // A walk from a member that isn't settled, until it is settled or a round closes.
-    fn walk(&mut self, table: &DepTable, start: usize) -> Result<Option<usize>, AllocError>
+    fn walk(
+        &mut self,
+        table: &DepTable,
+        places: &[usize],
+        start: usize,
+    ) -> Result<Option<usize>, AllocError>
         requires table { IsTable table.now }
+        requires places { ArePlaces table.now.members.items places.now }
         requires search { IsSearch table.now self.old }
         requires trail { self.old.trail.items ≡ [] }
         requires within { start < length table.now.members.items }
@@ -187,7 +186,7 @@ impl Search {
     {
         self.enter(start)?;
         while !self.trail.is_empty() {
-            if let Some(depth) = self.step(table)? {
+            if let Some(depth) = self.step(table, places)? {
                 return Ok(Some(depth));
             }
         }
@@ -195,8 +194,9 @@ impl Search {
     }
 
     /// Settles every member, or stops at a round: the trail from this depth on.
-    pub fn all(&mut self, table: &DepTable) -> Result<Option<usize>, AllocError>
+    pub fn all(&mut self, table: &DepTable, places: &[usize]) -> Result<Option<usize>, AllocError>
         requires table { IsTable table.now }
+        requires places { ArePlaces table.now.members.items places.now }
         requires search { IsSearch table.now self.old }
         requires trail { self.old.trail.items ≡ [] }
         requires order { IsSettling table.now self.old.settled.items self.old.order.items }
@@ -207,7 +207,7 @@ impl Search {
     {
         for start in 0..table.members.len() {
             if !self.settled[start] {
-                if let Some(depth) = self.walk(table, start)? {
+                if let Some(depth) = self.walk(table, places, start)? {
                     return Ok(Some(depth));
                 }
             }

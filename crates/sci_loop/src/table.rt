@@ -1,7 +1,9 @@
 // Tables of dependencies.
-ghost use Rattle.std.specs.Prelude.{◌≡◌, ℕ, ◌<◌, ◌↔◌, length, All, Contains, IsTrue, slice_index};
+ghost use Rattle.std.specs.Prelude.{◌≡◌, ℕ, ◌<◌, ◌↔◌, length, All, Contains, IfOk, IsTrue, slice_index};
 ghost use Rattle.std.specs.List.Sorted.{IsStrictlyIncreasing};
-ghost use Rattle.sci_loop.specs.Table.{Needs, IsTable, IsRow};
+ghost use Rattle.sci_loop.specs.Table.{Needs, HasNeeds, HasNumber, IsTable, IsRow, ArePlaces};
+
+use std::alloc::{AllocError, Global};
 
 /// Which blocks depend on which. A table is well formed where `members` rises strictly, `needs` has one list for each member,
 /// and each of these lists rises strictly and holds members alone.
@@ -27,6 +29,14 @@ impl DepTable {
         rows_fit(&self.members, &self.needs)
     }
 
+    /// Whether some member depends on some member. The table is well formed.
+    pub fn has_needs(&self) -> bool
+        requires { IsTable self.now }
+        ensures { IsTrue result ↔ HasNeeds self.now }
+    {
+        some_number(&self.needs)
+    }
+
     /// The members that a member depends on, by number. The table is well formed.
     pub fn needs_of(&self, member: u32) -> &[u32]
         requires table { IsTable self.now }
@@ -35,6 +45,18 @@ impl DepTable {
     {
         self.needs[place_of(&self.members, member)].as_slice()
     }
+}
+
+// Whether some list has a number.
+fn some_number(rows: &[Vec<u32>]) -> bool
+    ensures { IsTrue result ↔ HasNumber rows.now }
+{
+    for i in 0..rows.len() {
+        if !rows[i].is_empty() {
+            return true;
+        }
+    }
+    false
 }
 
 // Whether each number is less than the next.
@@ -102,4 +124,27 @@ pub fn place_of(members: &[u32], number: u32) -> usize
         Ok(place) => place,
         Err(_) => unreachable!(),
     }
+}
+
+// How long a list by number is that has each member: one more than the last, and 0 where there is none.
+fn size_of_places(members: &[u32]) -> usize
+    requires { IsStrictlyIncreasing members.now }
+    ensures { (k : ℕ) → k < length members.now → slice_index members.now k < result }
+{
+    match members.last() {
+        Some(last) => *last as usize + 1,
+        None => 0,
+    }
+}
+
+/// The place of each member, at the member's number. What stands at other numbers does not count.
+pub fn places_by_number(alloc: Global, members: &[u32]) -> Result<Vec<usize>, AllocError>
+    requires { IsStrictlyIncreasing members.now }
+    ensures { IfOk result (λ v. ArePlaces members.now v.items) }
+{
+    let mut places = vec![in alloc; 0; size_of_places(members)]?;
+    for place in 0..members.len() {
+        places[members[place] as usize] = place;
+    }
+    Ok(places)
 }

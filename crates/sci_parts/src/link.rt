@@ -53,6 +53,7 @@ fn ports_at(class: PortClass, d: &Diagram, position: i64) -> usize
     }
 }
 
+#[inline]
 fn is_port_of(d: &Diagram, class: PortClass, e: &End) -> bool
     ensures { result ≡ is_port_of (diagram_view d.now) class e.now }
 {
@@ -69,6 +70,7 @@ fn typed_as(alloc: Global, here: &[u32], kind: i64) -> Result<LinkType, PartsSto
     }
 }
 
+#[inline(always)]
 fn end_judged(
     alloc: Global,
     here: &[u32],

@@ -22,6 +22,8 @@ fn refusal(alloc: Global, rule: Rule, at: &[u32], detail: &[i64]) -> Result<Refu
 }
 
 /// The refusal by a rule at a place, with these numbers.
+#[cold]
+#[inline(never)]
 pub(crate) fn refused(alloc: Global, rule: Rule, at: &[u32], detail: &[i64]) -> PartsStop
     ensures { IsViolation (record { rule = rule; place = at.now; detail = detail.now }) result }
 {
@@ -32,6 +34,8 @@ pub(crate) fn refused(alloc: Global, rule: Rule, at: &[u32], detail: &[i64]) -> 
 }
 
 /// The refusal of a broken rule of the block at a place.
+#[cold]
+#[inline(never)]
 pub(crate) fn broken_at(alloc: Global, at: &[u32], b: Broken) -> PartsStop
     ensures { IsViolation (violation_at at.now b) result }
 {

@@ -17,6 +17,7 @@ use smallvec::SmallVec;
 use std::alloc::{AllocError, Global};
 
 /// The place of the object at a position of the diagram at a place. It is short enough to stand in line at every level.
+#[inline(always)]
 pub(crate) fn child(
     alloc: Global,
     at: &[u32],

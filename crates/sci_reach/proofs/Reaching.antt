@@ -1,29 +1,27 @@
 -- Source after source: what the lists have come to.
 use Rattle.std.proofs.Common.{◌≡◌, ◌<◌, ◌+◌, ℕ, List, [], ◌∷◌, ◌++◌, length, Bool, true, false, ◌&&◌, inl, inr, refl, sym, ◌∙◌, subst, arith, get_or}
 use Rattle.std.proofs.Math.ListN.{replicate}
-use Rattle.std.specs.Prelude.{Contains, ◌==◌, All, AllPairs, ◌↔◌}
+use Rattle.std.specs.Prelude.{Contains, ◌==◌, AllPairs, ◌↔◌}
 use Rattle.std.proofs.lemmas.Bool.Decides.{eqb_tells, nat_tests}
 use Rattle.std.proofs.lemmas.List.{append-nil}
 use Rattle.std.proofs.lemmas.List.Elements.{Contains-get_or, Contains-append_left, Contains-push, Contains-push_cases}
 use Rattle.std.proofs.lemmas.List.Quantifiers.{all_pairs_push}
 use Rattle.sci_reach.specs.declared.search.Search.{Search}
-use Rattle.sci_reach.specs.Chain.{Step, Chain, AllWithin}
+use Rattle.sci_reach.specs.Chain.{Chain}
 use Rattle.sci_reach.specs.Chain as chain
-use Rattle.sci_reach.specs.Lists.{lists_of, list_at, LeadOn}
+use Rattle.sci_reach.specs.Lists.{lists_of, list_at}
 use Rattle.sci_reach.specs.Search.{Path, stay, onward, is_stamped, is_wanted, one_if, Walks, IsReady}
 use Rattle.sci_reach.specs.Reached.{IsWanted, AreReached}
-use Rattle.sci_reach.proofs.Filling.{Steps, to_within, none-there}
+use Rattle.sci_reach.proofs.Filling.{Steps, none-there}
+use Rattle.sci_reach.proofs.Leading.{LeadOn}
 
-chain_from_path : (es : Steps) (ls : List (List ℕ)) → LeadOn es ls → {p q : ℕ} → Path ls p q → Chain es p q
+chain_from_path : (es : Steps) (ls : ℕ → List ℕ) → LeadOn es ls → {p q : ℕ} → Path ls p q → Chain es p q
 chain_from_path es ls lead stay = chain.stay
 chain_from_path es ls lead (onward {q = q} {r = r} before c) = chain.onward (chain_from_path es ls lead before) ((lead q r).0 c)
 
-path_from_chain : (es : Steps) (ls : List (List ℕ)) → LeadOn es ls → {p q : ℕ} → Chain es p q → Path ls p q
+path_from_chain : (es : Steps) (ls : ℕ → List ℕ) → LeadOn es ls → {p q : ℕ} → Chain es p q → Path ls p q
 path_from_chain es ls lead chain.stay = stay
 path_from_chain es ls lead (chain.onward {q = q} {r = r} before s) = onward (path_from_chain es ls lead before) ((lead q r).1 s)
-
-pub lead_within : (es : Steps) (ls : List (List ℕ)) (n : ℕ) → AllWithin n es → LeadOn es ls → (p : ℕ) → All (λ q. q < n) (list_at ls p)
-lead_within es ls n w lead p k d h = to_within n es p (get_or (list_at ls p) k d) ((lead p (get_or (list_at ls p) k d)).0 (Contains-get_or (list_at ls p) k d h)) w
 
 -- the lists with the first i sources
 pub record Reaching (es : Steps) (sources : List ℕ) (wanted : List Bool) (s : Search) (i : ℕ) : Type 0 where
@@ -74,7 +72,7 @@ module _ (i : ℕ) (old new : List ℕ) where
       differs : false ≡ true → ⊥
       differs f = cc
 
-pub reaching_more : (es : Steps) (ls : List (List ℕ)) (sources : List ℕ) (wanted : List Bool) (s new : Search) (i : ℕ) → LeadOn es ls → Walks ls wanted i (get_or sources i 0) s new → Reaching es sources wanted s i → Reaching es sources wanted new (i + 1)
+pub reaching_more : (es : Steps) (ls : ℕ → List ℕ) (sources : List ℕ) (wanted : List Bool) (s new : Search) (i : ℕ) → LeadOn es ls → Walks ls wanted i (get_or sources i 0) s new → Reaching es sources wanted s i → Reaching es sources wanted new (i + 1)
 reaching_more es ls sources wanted s new i lead w r = record {
   ready = record { stamps_long = w.stamps_long ∙ r.ready.stamps_long; lists_long = w.lists_long ∙ r.ready.lists_long; pending = w.pending; below = w.below };
   rising = λ q. rising_more i (list_at (lists_of s.lists) q) (list_at (lists_of new.lists) q) (is_stamped new.stamps.items (i + 1) q && is_wanted wanted q) (w.lists q) (r.under q) (r.rising q);

@@ -156,7 +156,7 @@ visits_first wanted source ps p old mid new inside even differs e v = record {
 
 -- ---- a walk
 
-pub walking_begins : (ls : List (List ℕ)) (wanted : List Bool) (source start : ℕ) (old new : Search) → start < length wanted → IsReady old (length wanted) source → Enters wanted source start old new → Walking ls wanted source start old new
+pub walking_begins : (ls : ℕ → List ℕ) (wanted : List Bool) (source start : ℕ) (old new : Search) → start < length wanted → IsReady old (length wanted) source → Enters wanted source start old new → Walking ls wanted source start old new
 walking_begins ls wanted source start old new inside ready e =
     let v = visits_first wanted source [] start old old new (omega (arith, ready.stamps_long)) (omega (arith, ready.stamps_long, ready.lists_long)) (λ s. absurd (omega (arith, s, ready.below start))) e (visits_none wanted source old) in
     let begun : IsStamped new.stamps.items (source + 1) start = v.all start (0, omega arith, refl) in
@@ -189,8 +189,8 @@ walking_begins ls wanted source start old new inside ready e =
     none_before false a w e = refl
 
 -- the last port that is pending is visited: all ports to which a step leads from it
-pub walking_more : (ls : List (List ℕ)) (wanted : List Bool) (source start port : ℕ) (old now new : Search) (rest : Vec ℕ Global) → now.pending.items ≡ rest.items ++ port ∷ [] → Walking ls wanted source start old now
-    → Visits wanted source (list_at ls port) (record { stamps = now.stamps; lists = now.lists; pending = rest }) new → Walking ls wanted source start old new
+pub walking_more : (ls : ℕ → List ℕ) (wanted : List Bool) (source start port : ℕ) (old now new : Search) (rest : Vec ℕ Global) → now.pending.items ≡ rest.items ++ port ∷ [] → Walking ls wanted source start old now
+    → Visits wanted source (ls port) (record { stamps = now.stamps; lists = now.lists; pending = rest }) new → Walking ls wanted source start old new
 walking_more ls wanted source start port old now new rest popped w v = record {
   stamps_long = v.stamps_long ∙ w.stamps_long;
   lists_long = v.lists_long ∙ w.lists_long;
@@ -202,7 +202,7 @@ walking_more ls wanted source start port old now new rest popped w v = record {
       | inl b ↦ inl (v.kept r b)
       | inr d ↦ elim (Contains-push_cases rest.items port q (subst (λ (x : List ℕ). Contains x q) popped d)) [
         | inl f ↦ inr (v.pending_kept q f)
-        | inr is ↦ inl (v.all r (subst (λ (x : ℕ). Contains (list_at ls x) r) (sym is) c))
+        | inr is ↦ inl (v.all r (subst (λ (x : ℕ). Contains (ls x) r) (sym is) c))
       ]
     ]
     | inr d ↦ inr d
@@ -222,7 +222,7 @@ walking_more ls wanted source start port old now new rest popped w v = record {
     whole false false w xs ys zs bc e f = f ∙ ap (λ (l : List ℕ). l ++ []) (e ∙ append-nil xs)
 
 -- with nothing pending all that the source reaches has its stamp
-pub walking_ends : (ls : List (List ℕ)) (wanted : List Bool) (source start : ℕ) (old now new : Search) → now.pending.items ≡ [] → new.pending.items ≡ [] → new.stamps.items ≡ now.stamps.items → new.lists.items ≡ now.lists.items
+pub walking_ends : (ls : ℕ → List ℕ) (wanted : List Bool) (source start : ℕ) (old now new : Search) → now.pending.items ≡ [] → new.pending.items ≡ [] → new.stamps.items ≡ now.stamps.items → new.lists.items ≡ now.lists.items
     → Walking ls wanted source start old now → Walks ls wanted source start old new
 walking_ends ls wanted source start old now new none none' stamps lists w = record {
   stamps_long = ap length stamps ∙ w.stamps_long;
@@ -241,7 +241,7 @@ walking_ends ls wanted source start old now new none none' stamps lists w = reco
       | inr d ↦ let e = subst (λ (x : List ℕ). Contains x p) none d in absurd (omega (arith, e.1))
     ]
 
-pub popped_inside : (ls : List (List ℕ)) (wanted : List Bool) (source start port n : ℕ) (old now : Search) (rest : List ℕ) → now.pending.items ≡ rest ++ port ∷ [] → Walking ls wanted source start old now → IsReady old (length wanted) source → n ≡ length wanted → port < n
+pub popped_inside : (ls : ℕ → List ℕ) (wanted : List Bool) (source start port n : ℕ) (old now : Search) (rest : List ℕ) → now.pending.items ≡ rest ++ port ∷ [] → Walking ls wanted source start old now → IsReady old (length wanted) source → n ≡ length wanted → port < n
 popped_inside ls wanted source start port n old now rest popped w ready long =
     let inside = stamped_inside now.stamps.items (source + 1) port (omega arith) (w.pending_in port (rw popped (Contains-push rest port))) in
     omega (arith, inside, w.stamps_long, ready.stamps_long)

@@ -1,7 +1,6 @@
 -- Lists of numbers, one for each port.
-use Rattle.std.specs.Prelude.{ℕ, List, [], map, slice_index_or, Contains, Vec, ◌↔◌}
+use Rattle.std.specs.Prelude.{ℕ, List, [], map, slice_index_or, Vec}
 use Rattle.std.specs.declared.alloc.Global.{Global}
-use Rattle.sci_reach.specs.Chain.{Step}
 
 abbrev pub Lists : Type 0
 Lists = Vec (Vec ℕ Global) Global
@@ -15,7 +14,3 @@ lists_of v = plain v.items
 -- the list of port p
 abbrev pub list_at : List (List ℕ) → ℕ → List ℕ
 list_at ls p = slice_index_or ls p []
-
--- the list of each port has the ports to which a step leads from it
-abbrev pub LeadOn : List (ℕ × ℕ) → List (List ℕ) → Type 0
-LeadOn es ls = (p q : ℕ) → Contains (list_at ls p) q ↔ Step es p q

@@ -3,10 +3,10 @@ use Rattle.std.specs.Prelude.{◌≡◌, ℕ, ◌+◌, ◌≤◌, ◌⊎◌, ◌
 use Rattle.sci_reach.specs.declared.search.Search.{Search}
 use Rattle.sci_reach.specs.Lists.{lists_of, list_at}
 
--- along lists of successors
-pub data Path (ls : List (List ℕ)) : ℕ → ℕ → Type 0 where
+-- along the lists of where steps lead from each port
+pub data Path (ls : ℕ → List ℕ) : ℕ → ℕ → Type 0 where
   stay : {p : ℕ} → Path ls p p
-  onward : {p q r : ℕ} → Path ls p q → Contains (list_at ls q) r → Path ls p r
+  onward : {p q r : ℕ} → Path ls p q → Contains (ls q) r → Path ls p r
 
 -- the last source that reached p has the stamp s
 abbrev pub IsStamped : List ℕ → ℕ → ℕ → Type 0
@@ -51,18 +51,18 @@ pub record Visits (wanted : List Bool) (source : ℕ) (ports : List ℕ) (old ne
   pub count : unstamped (source + 1) new.stamps.items + length new.pending.items ≡ unstamped (source + 1) old.stamps.items + length old.pending.items
 
 -- what a walk from `start` has come to, the source's lists having been as in `old`
-pub record Walking (ls : List (List ℕ)) (wanted : List Bool) (source start : ℕ) (old new : Search) : Type 0 where
+pub record Walking (ls : ℕ → List ℕ) (wanted : List Bool) (source start : ℕ) (old new : Search) : Type 0 where
   pub stamps_long : length new.stamps.items ≡ length old.stamps.items
   pub lists_long : length new.lists.items ≡ length old.lists.items
   pub reach : (q : ℕ) → IsStamped new.stamps.items (source + 1) q → Path ls start q
   pub begun : IsStamped new.stamps.items (source + 1) start
   pub pending_in : (q : ℕ) → Contains new.pending.items q → IsStamped new.stamps.items (source + 1) q
-  pub «open» : (q r : ℕ) → IsStamped new.stamps.items (source + 1) q → Contains (list_at ls q) r → IsStamped new.stamps.items (source + 1) r ⊎ Contains new.pending.items q
+  pub «open» : (q r : ℕ) → IsStamped new.stamps.items (source + 1) q → Contains (ls q) r → IsStamped new.stamps.items (source + 1) r ⊎ Contains new.pending.items q
   pub lists : (q : ℕ) → list_at (lists_of new.lists) q ≡ list_at (lists_of old.lists) q ++ one_if (is_stamped new.stamps.items (source + 1) q && is_wanted wanted q) source
   pub below : (q : ℕ) → slice_index new.stamps.items q ≤ source + 1
 
 -- what it has come to at its end
-pub record Walks (ls : List (List ℕ)) (wanted : List Bool) (source start : ℕ) (old new : Search) : Type 0 where
+pub record Walks (ls : ℕ → List ℕ) (wanted : List Bool) (source start : ℕ) (old new : Search) : Type 0 where
   pub stamps_long : length new.stamps.items ≡ length old.stamps.items
   pub lists_long : length new.lists.items ≡ length old.lists.items
   pub pending : new.pending.items ≡ []

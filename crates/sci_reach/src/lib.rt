@@ -5,7 +5,9 @@
 mod forward;
 mod lists;
 mod search;
+mod successors;
 #[cfg(test)]
 mod tests;
 
 pub use forward::reached;
+pub use successors::{Successors, successors_of};

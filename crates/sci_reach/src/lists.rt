@@ -1,7 +1,6 @@
 // Lists of numbers, one for each port.
-ghost use Rattle.std.specs.Prelude.{◌≡◌, ℕ, ◌<◌, ◌∷◌, [], ◌++◌, Contains, IfOk, OnOk, vec_len, replicate, slice_set, length};
-ghost use Rattle.sci_reach.specs.Chain.{Step, AllWithin};
-ghost use Rattle.sci_reach.specs.Lists.{lists_of, list_at, LeadOn};
+ghost use Rattle.std.specs.Prelude.{◌≡◌, ◌<◌, ◌∷◌, [], ◌++◌, IfOk, OnOk, vec_len, replicate, slice_set};
+ghost use Rattle.sci_reach.specs.Lists.{lists_of, list_at};
 
 use std::alloc::{AllocError, Global};
 
@@ -10,7 +9,7 @@ pub(crate) fn empty_lists(alloc: Global, count: usize) -> Result<Vec<Vec<u32>>, 
     ensures empty { IfOk result (λ v. lists_of v ≡ replicate count []) }
     ensures len { IfOk result (λ v. vec_len v ≡ count) }
 {
-    let mut lists = Vec::new(alloc);
+    let mut lists = Vec::with_capacity(alloc, count)?;
     for _turn in 0..count {
         lists.push(Vec::new(alloc))?;
     }
@@ -26,21 +25,4 @@ pub(crate) fn push_at(lists: &mut Vec<Vec<u32>>, at: usize, number: u32) -> Resu
 {
     lists[at].push(number)?;
     Ok(())
-}
-
-/// By port, the ports to which a step leads from it.
-pub(crate) fn successors(
-    alloc: Global,
-    steps: &[(u32, u32)],
-    ports: usize,
-) -> Result<Vec<Vec<u32>>, AllocError>
-    requires { AllWithin ports steps.now }
-    ensures lead { IfOk result (λ v. LeadOn steps.now (lists_of v)) }
-    ensures len { IfOk result (λ v. vec_len v ≡ ports) }
-{
-    let mut lists = empty_lists(alloc, ports)?;
-    for (from, to) in steps {
-        push_at(&mut lists, *from as usize, *to)?;
-    }
-    Ok(lists)
 }

@@ -1,9 +1,12 @@
 // The search from one source after another: each port that a source reaches, and that is wanted, gets the source at the end of its list.
-ghost use Rattle.std.specs.Prelude.{◌≡◌, ◌≢◌, ℕ, ◌+◌, ◌<◌, ◌≤◌, ◌^◌, All, [], IfOk, OnOk, length, replicate, slice_index};
-ghost use Rattle.sci_reach.specs.Lists.{lists_of, list_at, plain};
+ghost use Rattle.std.specs.Prelude.{◌≡◌, ◌≢◌, ◌+◌, ◌<◌, ◌^◌, [], IfOk, OnOk, length, replicate, slice_index};
+ghost use Rattle.sci_reach.specs.Chain.{AllWithin};
+ghost use Rattle.sci_reach.specs.Lists.{lists_of};
 ghost use Rattle.sci_reach.specs.Search.{IsStamped, Enters, Visits, Walks, IsReady};
+ghost use Rattle.sci_reach.specs.Successors.{AreSuccessors, targets};
 
 use crate::lists::{empty_lists, push_at};
+use crate::successors::Successors;
 use std::alloc::{AllocError, Global};
 
 /// What the search has come to.
@@ -65,16 +68,28 @@ impl Search {
         self.enter(wanted, source, port)
     }
 
-    // All the ports of a list.
-    fn visit_all(&mut self, wanted: &[bool], source: u32, ports: &[u32]) -> Result<(), AllocError>
-        requires ports { All (λ q. q < length self.old.stamps.items) ports.now }
-        requires lists { length self.old.lists.items ≡ length self.old.stamps.items }
+    // All the ports to which a step leads from this one.
+    fn visit_all(
+        &mut self,
+        wanted: &[bool],
+        source: u32,
+        steps: &[(u32, u32)],
+        successors: &Successors,
+        port: u32,
+    ) -> Result<(), AllocError>
+        requires within { AllWithin (length wanted.now) steps.now }
+        requires successors { AreSuccessors steps.now (length wanted.now) successors.now }
+        requires port { port < length wanted.now }
         requires wanted { length wanted.now ≡ length self.old.stamps.items }
+        requires lists { length self.old.lists.items ≡ length self.old.stamps.items }
         requires few { source + 1 < 2 ^ 32 }
-        ensures { OnOk result (Visits wanted.now source ports.now self.old self.new) }
+        ensures { OnOk result (Visits wanted.now source (targets steps.now port) self.old self.new) }
     {
-        for port in ports {
-            self.visit(wanted, source, *port)?;
+        let mut next = successors.latest[port as usize];
+        while next != 0 {
+            let at = next as usize - 1;
+            self.visit(wanted, source, steps[at].1)?;
+            next = successors.earlier[at];
         }
         Ok(())
     }
@@ -85,18 +100,19 @@ impl Search {
         wanted: &[bool],
         source: u32,
         start: u32,
-        successors: &[Vec<u32>],
+        steps: &[(u32, u32)],
+        successors: &Successors,
     ) -> Result<(), AllocError>
         requires ready { IsReady self.old (length wanted.now) source }
         requires start { start < length wanted.now }
-        requires within { (p : ℕ) → All (λ q. q < length wanted.now) (list_at (plain successors.now) p) }
-        requires long { length successors.now ≡ length wanted.now }
+        requires within { AllWithin (length wanted.now) steps.now }
+        requires successors { AreSuccessors steps.now (length wanted.now) successors.now }
         requires few { source + 1 < 2 ^ 32 }
-        ensures { OnOk result (Walks (plain successors.now) wanted.now source start self.old self.new) }
+        ensures { OnOk result (Walks (targets steps.now) wanted.now source start self.old self.new) }
     {
         self.visit(wanted, source, start)?;
         while let Some(port) = self.pending.pop() {
-            self.visit_all(wanted, source, &successors[port as usize])?;
+            self.visit_all(wanted, source, steps, successors, port)?;
         }
         Ok(())
     }

@@ -1,4 +1,4 @@
-use crate::reached;
+use crate::{reached, successors_of};
 use std::test::Fail;
 
 #[test]
@@ -15,7 +15,8 @@ fn two_sources_meet_in_a_circle(rt: HostRuntime) -> Result<(), Fail> {
         (5, 5),
     ];
     let wanted = [false, false, false, true, false, true, true];
-    let lists = reached(rt.alloc(), &steps, &[0, 1, 5], &wanted)?;
+    let successors = successors_of(rt.alloc(), &steps, 7)?;
+    let lists = reached(rt.alloc(), &steps, &successors, &[0, 1, 5], &wanted)?;
     assert_eq!(rt; lists.len(), 7);
     assert_eq!(rt; lists[2].len(), 0);
     assert_eq!(rt; lists[3].as_slice(), [0, 1].as_slice());

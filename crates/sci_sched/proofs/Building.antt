@@ -1,61 +1,46 @@
 -- Entries and rows, one after the other.
-use Rattle.std.proofs.Common.{◌≡◌, ℕ, ◌+◌, ◌<◌, Bool, true, ⊎_elim, ◌↔◌, List, [], ◌∷◌, ◌++◌, length, get_or, map, Contains, All, AllPairs, Vec, refl, sym, ap, ap₂, subst, ◌∙◌, arith, length-append}
+use Rattle.std.proofs.Common.{◌≡◌, ℕ, ◌+◌, ◌<◌, ⊎_elim, List, [], ◌∷◌, ◌++◌, length, get_or, map, Contains, All, AllPairs, Vec, refl, sym, ap, ap₂, subst, ◌∙◌, arith, length-append}
 use Rattle.std.proofs.lemmas.Bool.{cases_lt}
 use Rattle.std.proofs.lemmas.List.{get_or_default, get_or_append_left, get_or_push, map-append}
 use Rattle.std.proofs.lemmas.List.Elements.{All-contains, All-push}
 use Rattle.std.specs.declared.alloc.Global.{Global}
-use Rattle.sci_net.specs.declared.Feed.{Feed}
 use Rattle.sci_net.specs.declared.Source.{Source}
-use Rattle.sci_net.specs.declared.Source.TheVariants.{Port}
 use Rattle.sci_net.specs.Parts.{Parts, numbered}
 use Rattle.sci_net.specs.Sources.{sources_of, source_of}
 use Rattle.sci_reaction.specs.Links.{SourceFeeds}
-use Rattle.sci_reaction.specs.Active.{IsAlways}
 use Rattle.sci_reaction.specs.Depends.{Precedes}
 use Rattle.sci_reaction.specs.Equations.{HasBits}
 use Rattle.sci_reaction.specs.Schedule.{Entry as PlainEntry, blocks_of, IsEntry, IsRow, IsSchedule}
 use Rattle.sci_inherit.specs.Origins.{Origins, AreOrigins}
-use Rattle.sci_dep.specs.Tables.{MarkPossible}
 use Rattle.sci_sched.specs.declared.schedule.Entry.{Entry}
-use Rattle.sci_sched.specs.declared.outline.Outline.{Outline}
+use Rattle.sci_sched.specs.declared.marks.Marks.{Marks}
 use Rattle.sci_sched.specs.Plain.{entry_of, row_of, lists_of}
-use Rattle.sci_sched.specs.Guards.{AreGuards}
-use Rattle.sci_sched.specs.Outlines.{IsOutline}
-use Rattle.sci_sched.specs.Rows.{AreEntries, AreRows}
+use Rattle.sci_sched.specs.Marks.{MarkSource}
+use Rattle.sci_sched.specs.Outlines.{AreOrdered}
+use Rattle.sci_sched.specs.Rows.{IsMarkedEntry, AreEntries, AreRows}
 use Rattle.sci_sched.proofs.Members.{map_from, pairs_of_map}
-use Rattle.sci_sched.proofs.Guarded.{guards_rise, guards_exact}
-
--- ---- whether the source activates a block by itself
-
-pub always_port : (n : Parts) (r : Origins) (s : Source) (q : Feed) (b : ℕ) (on : Bool) (fs : List Feed) → AreOrigins n r → s ≡ Port q → fs ≡ numbered [] r.reaching b → (on ≡ true) ↔ Contains fs q →
-    (on ≡ true) ↔ IsAlways n s b
-always_port n r s q b on fs origins is same found = (
-  λ h. subst (λ v. IsAlways n v b) (sym is) ((origins.reaching_are b q).0 (subst (λ qs. Contains qs q) same (found.0 h))),
-  λ h. found.1 (subst (λ qs. Contains qs q) (sym same) ((origins.reaching_are b q).1 (subst (λ v. IsAlways n v b) is h))),
-)
+use Rattle.sci_sched.proofs.Guarded.{marked, guards_rise, guards_exact}
 
 -- ---- an entry
 
-pub entry_is : (n : Parts) (r : Origins) (s : Source) (marks : List Bool) (branches : List Feed) (e : Entry) → AreOrigins n r → MarkPossible n s marks → branches ≡ numbered [] r.branches e.block →
-    (e.always ≡ true) ↔ IsAlways n s e.block → HasBits e.mask (SourceFeeds n s e.block) → AreGuards n marks branches e.block e.guards.items → IsEntry n s (entry_of e)
-entry_is n r s marks branches e origins mark same always mask guards =
+pub entry_is : (n : Parts) (r : Origins) (s : Source) (m : Marks) (e : Entry) → AreOrigins n r → MarkSource n s m → IsMarkedEntry n r m e → IsEntry n s (entry_of e)
+entry_is n r s m e origins mark is =
     let b = e.block in
     let qs = numbered [] r.branches b in
-    let are : AreGuards n marks qs b e.guards.items = subst (λ xs. AreGuards n marks xs b e.guards.items) same guards in
     record {
-      always_is = always;
-      mask_is = mask;
-      rising = guards_rise n s b marks qs (origins.branches_rise b) (origins.branches_are b) mark.exactly e.guards.items are;
-      guards_are = guards_exact n s b marks qs (origins.branches_rise b) (origins.branches_are b) mark.exactly e.guards.items are;
+      always_is = (λ on. (mark.always b).0 (is.always.0 on), λ h. is.always.1 ((mark.always b).1 h));
+      mask_is = subst (λ v. HasBits v (SourceFeeds n s b)) (sym is.mask) (mark.masks b);
+      rising = guards_rise n s b m.possible.found qs (origins.branches_rise b) (origins.branches_are b) (marked n s m.possible.found mark.possible) e.guards.items is.guards;
+      guards_are = guards_exact n s b m.possible.found qs (origins.branches_rise b) (origins.branches_are b) (marked n s m.possible.found mark.possible) e.guards.items is.guards;
     }
 
 -- ---- a row
 
-pub entries_more : (n : Parts) (s : Source) (bs : List ℕ) (es : List Entry) (b : ℕ) (e : Entry) → AreEntries n s bs es → e.block ≡ b → IsEntry n s (entry_of e) → AreEntries n s (bs ++ b ∷ []) (es ++ e ∷ [])
-entries_more n s bs es b e are at ok =
+pub entries_more : (n : Parts) (r : Origins) (m : Marks) (bs : List ℕ) (es : List Entry) (b : ℕ) (e : Entry) → AreEntries n r m bs es → e.block ≡ b → IsMarkedEntry n r m e → AreEntries n r m (bs ++ b ∷ []) (es ++ e ∷ [])
+entries_more n r m bs es b e are at ok =
     record {
       blocks_are = map-append (λ (x : Entry). x.block) es (e ∷ []) ∙ ap₂ (λ xs y. xs ++ y ∷ []) are.blocks_are at;
-      entries_are = All-push (λ (x : Entry). IsEntry n s (entry_of x)) es e are.entries_are ok;
+      entries_are = All-push (IsMarkedEntry n r m) es e are.entries_are ok;
     }
 
 blocks_same : (es : List Entry) → blocks_of (row_of es) ≡ map (λ (e : Entry). e.block) es
@@ -68,13 +53,13 @@ all_map P f xs all k d h =
     let r = map_from f xs y (k, h, get_or_default (map f xs) k y d h) in
     subst P r.2 (All-contains (λ x. P (f x)) xs r.0 all r.1)
 
-pub row_is : (n : Parts) (s : Source) (o : Outline) (bs : List ℕ) (es : List Entry) → IsOutline n s o → bs ≡ o.blocks.items → AreEntries n s bs es → IsRow n s (row_of es)
-row_is n s o bs es is same are =
-    let blocks : blocks_of (row_of es) ≡ o.blocks.items = blocks_same es ∙ (are.blocks_are ∙ same) in
+pub row_is : (n : Parts) (r : Origins) (s : Source) (m : Marks) (bs : List ℕ) (es : List Entry) → AreOrigins n r → MarkSource n s m → AreOrdered n s bs → AreEntries n r m bs es → IsRow n s (row_of es)
+row_is n r s m bs es origins mark is are =
+    let blocks : blocks_of (row_of es) ≡ bs = blocks_same es ∙ are.blocks_are in
     record {
       exactly = λ b. (λ h. (is.exactly b).0 (subst (λ xs. Contains xs b) blocks h), λ h. subst (λ xs. Contains xs b) (sym blocks) ((is.exactly b).1 h));
       ordered = pairs_of_map (Precedes n s) (λ (e : PlainEntry). e.block) (row_of es) (subst (AllPairs (Precedes n s)) (sym blocks) is.ordered);
-      entries = all_map (IsEntry n s) entry_of es are.entries_are;
+      entries = all_map (IsEntry n s) entry_of es (λ k d h. entry_is n r s m (get_or es k d) origins mark (are.entries_are k d h));
     }
 
 -- ---- the rows

@@ -5,7 +5,7 @@ use Rattle.std.specs.declared.cmp.Ordering.{Ordering}
 use Rattle.std.specs.declared.cmp.Ordering.TheVariants.{Less, Equal, Greater}
 use Rattle.std.proofs.lemmas.Cmp.{ranked}
 use Rattle.std.proofs.lemmas.Bool.{cases_eq, cases_lt}
-use Rattle.std.proofs.lemmas.List.{get_or_default, get_or-set_same, get_or-set_other, get_or-take, get_or_push, get_or_append_left, length-set, take_more, length-take-le, length-append}
+use Rattle.std.proofs.lemmas.List.{get_or_default, get_or-set_same, get_or-set_other, get_or-take, get_or_push, get_or_append_left, take_more, length-take-le, length-append}
 use Rattle.std.proofs.lemmas.List.Elements.{All-contains}
 use Rattle.std.proofs.lemmas.Option.{slice_get_within, get_or_from_slice_get}
 use Rattle.sci_relation.specs.Depth.{ChainTo, IsDepth}
@@ -58,8 +58,8 @@ pub deepest_step : (depths blocks : List ℕ) (i d m : ℕ) → i < length block
 deepest_step depths blocks i d m h is e =
     subst (λ xs. IsDeepest depths xs m) (sym (take_more blocks i 0 h)) (subst (IsDeepest depths (take i blocks ++ get_or blocks i 0 ∷ [])) (sym (e ∙ max_is d (get_or depths (get_or blocks i 0) 0))) (deepest_push depths (take i blocks) (get_or blocks i 0) d is))
 
-pub deepest_low : (depths blocks : List ℕ) (d k : ℕ) → IsDeepest depths blocks d → ((b : ℕ) → get_or depths b 0 ≤ k) → d ≤ k
-deepest_low depths blocks d k is low = ⊎_elim (λ none. omega (arith, none)) (λ r. let l = low r.block in let e = r.depth in omega (arith, l, e)) is.some
+pub deepest_low : (depths blocks : List ℕ) (d k : ℕ) → IsDeepest depths blocks d → ((b : ℕ) → Contains blocks b → get_or depths b 0 ≤ k) → d ≤ k
+deepest_low depths blocks d k is low = ⊎_elim (λ none. omega (arith, none)) (λ r. let l = low r.block r.one in let e = r.depth in omega (arith, l, e)) is.some
 
 -- ---- the depth of one more
 
@@ -86,24 +86,35 @@ module _ (needs : ℕ → ℕ → Type 0) (depths blocks : List ℕ) (c d : ℕ)
 
 -- ---- the loop
 
--- where a need stands in the order its depth is known
-known_before : (t : DepTable) (order depths : List ℕ) (size k b : ℕ) → DepthsTo t order size k depths → k < length order → Contains (take k order) b → IsDepth (Needs t) b (get_or depths b 0)
-known_before t order depths size k b s h has =
-    let short = length-take-le k order (omega (arith, h)) in
-    let l : has.0 < k = omega (arith, has.1, short) in
-    let same : get_or order has.0 0 ≡ b = get_or_default order has.0 0 b (omega (arith, l, h)) ∙ (sym (get_or-take k order has.0 b l) ∙ has.2) in
-    subst (λ c. IsDepth (Needs t) c (get_or depths c 0)) same (s.known has.0 l)
+module _ (t : DepTable) (order depths : List ℕ) (k : ℕ) (s : DepthsTo t order k depths) (h : k < length order) where
+  -- what stands among the first k
+  before : (P : ℕ → Type 0) → ((m : ℕ) → m < k → P (get_or order m 0)) → (b : ℕ) → Contains (take k order) b → P b
+  before P each b has =
+      let short = length-take-le k order (omega (arith, h)) in
+      let l : has.0 < k = omega (arith, has.1, short) in
+      let same : get_or order has.0 0 ≡ b = get_or_default order has.0 0 b (omega (arith, l, h)) ∙ (sym (get_or-take k order has.0 b l) ∙ has.2) in
+      subst P same (each has.0 l)
 
-pub depths_more : (t : DepTable) (order depths blocks : List ℕ) (size k c d : ℕ) → IsOrder t order → DepthsTo t order size k depths → k < length order → get_or order k 0 ≡ c → c < size →
-    ((b : ℕ) → (Contains blocks b → Needs t c b) × (Needs t c b → Contains blocks b)) → IsDeepest depths blocks d → DepthsTo t order size (k + 1) (set depths c (d + 1))
-depths_more t order depths blocks size k c d ok s h here inside needs is =
-    let within : c < length depths = let l = s.long in omega (arith, l, inside) in
-    let low = deepest_low depths blocks d k is s.low in
+  -- has its depth, which is low
+  known_before : (b : ℕ) → Contains (take k order) b → IsDepth (Needs t) b (get_or depths b 0)
+  known_before = before (λ c. IsDepth (Needs t) c (get_or depths c 0)) s.known
+
+  low_before : (b : ℕ) → Contains (take k order) b → get_or depths b 0 ≤ k
+  low_before = before (λ c. get_or depths c 0 ≤ k) s.low
+
+  -- so the greatest depth of the next one's needs is low
+  pub next_low : (c d : ℕ) (blocks : List ℕ) → IsOrder t order → get_or order k 0 ≡ c → ((b : ℕ) → (Contains blocks b → Needs t c b) × (Needs t c b → Contains blocks b)) → IsDeepest depths blocks d → d ≤ k
+  next_low c d blocks ok here needs is =
+      deepest_low depths blocks d k is (λ b has. low_before b (ok.after k b h (subst (λ x. Needs t x b) (sym here) ((needs b).0 has))))
+
+pub depths_more : (t : DepTable) (order depths blocks : List ℕ) (k c d : ℕ) → IsOrder t order → DepthsTo t order k depths → k < length order → get_or order k 0 ≡ c → c < length depths →
+    ((b : ℕ) → (Contains blocks b → Needs t c b) × (Needs t c b → Contains blocks b)) → IsDeepest depths blocks d → DepthsTo t order (k + 1) (set depths c (d + 1))
+depths_more t order depths blocks k c d ok s h here within needs is =
+    let low = next_low t order depths k s h c d blocks ok here needs is in
     let deep : IsDepth (Needs t) c (d + 1) =
     depth_more (Needs t) depths blocks c d (λ b has. (needs b).0 has) (λ b n. (needs b).1 n)
-    (λ b has. known_before t order depths size k b s h (ok.after k b h (subst (λ x. Needs t x b) (sym here) ((needs b).0 has)))) is in
+    (λ b has. known_before t order depths k s h b (ok.after k b h (subst (λ x. Needs t x b) (sym here) ((needs b).0 has)))) is in
     record {
-      long = length-set depths c (d + 1) ∙ s.long;
       known = λ m l.
           ⊎_elim
           (λ same. subst (λ x. IsDepth (Needs t) x (get_or (set depths c (d + 1)) x 0)) (sym (ap (λ i. get_or order i 0) same ∙ here))
@@ -113,15 +124,18 @@ depths_more t order depths blocks size k c d ok s h here inside needs is =
           let differ : get_or order m 0 ≡ c → ⊥ = λ e. apart order ok.once m k less h (e ∙ sym here) in
           subst (IsDepth (Needs t) (get_or order m 0)) (sym (get_or-set_other depths c (get_or order m 0) (d + 1) 0 differ)) (s.known m less))
           (cases_eq m k);
-      low = λ b.
+      low = λ m l.
+          let x = get_or order m 0 in
           ⊎_elim
-          (λ same. let e : get_or (set depths c (d + 1)) b 0 ≡ d + 1 = ap (λ i. get_or (set depths c (d + 1)) i 0) same ∙ get_or-set_same depths c (d + 1) 0 within in omega (arith, e, low))
-          (λ other. let e : get_or (set depths c (d + 1)) b 0 ≡ get_or depths b 0 = get_or-set_other depths c b (d + 1) 0 other in let l = s.low b in omega (arith, e, l))
-          (cases_eq b c);
+          (λ same. let e : get_or (set depths c (d + 1)) x 0 ≡ d + 1 = ap (λ i. get_or (set depths c (d + 1)) i 0) same ∙ get_or-set_same depths c (d + 1) 0 within in omega (arith, e, low))
+          (λ other.
+          let e : get_or (set depths c (d + 1)) x 0 ≡ get_or depths x 0 = get_or-set_other depths c x (d + 1) 0 other in
+          ⊎_elim (λ last. absurd (other (ap (λ i. get_or order i 0) last ∙ here))) (λ earlier. let w = s.low m (omega (arith, l, earlier)) in omega (arith, e, w)) (cases_eq m k))
+          (cases_eq x c);
     }
 
-pub depths_all : (t : DepTable) (order depths : List ℕ) (size k : ℕ) → IsOrder t order → DepthsTo t order size k depths → length order ≤ k → HaveDepths t depths
-depths_all t order depths size k ok s all c has =
+pub depths_all : (t : DepTable) (order depths : List ℕ) (k : ℕ) → IsOrder t order → DepthsTo t order k depths → length order ≤ k → HaveDepths t depths
+depths_all t order depths k ok s all c has =
     let at = (ok.members c).1 has in
     subst (λ x. IsDepth (Needs t) x (get_or depths x 0)) (get_or_default order at.0 0 c at.1 ∙ at.2) (s.known at.0 (omega (arith, all, at.1)))
 

@@ -1,22 +1,21 @@
 -- The guards of an entry.
-use Rattle.std.proofs.Common.{◌≡◌, ℕ, ◌<◌, Bool, true, false, ◌⊎◌, inl, inr, ⊎_elim, ◌↔◌, List, [], ◌∷◌, ◌++◌, length, map, Contains, AllPairs, sym, ap, ap₂, refl, subst, ◌∙◌, arith, nat_lt, nat_eq, ◌&&◌}
-use Rattle.std.specs.List.{filter, count_by}
-use Rattle.std.specs.Prelude.{slice_index_or}
+use Rattle.std.proofs.Common.{◌≡◌, ℕ, ◌+◌, ◌<◌, Bool, true, false, cond, eqb, ◌⊎◌, inl, inr, ⊎_elim, ◌↔◌, List, [], ◌∷◌, ◌++◌, length, get_or, take, map, Contains, AllPairs, sym, ap, ap₂, refl, subst, ◌∙◌, arith, nat_lt, nat_eq, ◌&&◌}
+use Rattle.std.specs.List.{filter, count_by, list_any}
 use Rattle.std.proofs.lemmas.Bool.{or_cases, ltb-true, lt-ltb, eqb-true, eq-eqb}
 use Rattle.std.proofs.lemmas.List.{length-map, map-append, append-nil}
 use Rattle.std.proofs.lemmas.List.Elements.{All-contains, All-push, filter-append}
 use Rattle.std.proofs.lemmas.List.Kept.{AllPairs-filter}
-use Rattle.std.proofs.lemmas.List.Sums.{length-filter}
+use Rattle.std.proofs.lemmas.List.Sums.{length-filter, sum_by_more}
 use Rattle.sci_net.specs.declared.Feed.{Feed}
 use Rattle.sci_net.specs.declared.Source.{Source}
 use Rattle.sci_net.specs.Parts.{Parts, IsBlock, IsWired, feeds_of, precedes, AreRising}
 use Rattle.sci_reaction.specs.Active.{IsSync, Possible, Reaches}
 use Rattle.sci_reaction.specs.Equations.{HasBits}
 use Rattle.sci_reaction.specs.Schedule.{Guard as PlainGuard, Entry as PlainEntry, branch_of, IsGuard, IsEntry}
-use Rattle.sci_reaction.proofs.Lists.{and_both, and_true, or_left, or_right}
+use Rattle.sci_reaction.proofs.Lists.{Has, and_both, and_true, or_left, or_right}
 use Rattle.sci_reaction.proofs.Exists.{same_mask}
 use Rattle.sci_reaction.proofs.OneRow.{same_lists}
-use Rattle.sci_reaction.proofs.Rows.{guard_mask, guard_mask-bits}
+use Rattle.sci_reaction.proofs.Rows.{Contains-has, has-Contains, guard_mask, guard_mask-bits}
 use Rattle.sci_sched.specs.declared.schedule.Guard.{Guard}
 use Rattle.sci_sched.specs.Plain.{guard_of, guards_of}
 use Rattle.sci_sched.specs.Guards.{is_possible, branch_in, AreGuards}
@@ -51,26 +50,55 @@ feed_trans p q r x y =
     (λ l. ⊎_elim (λ k. inl (omega (arith, l.0, k))) (λ k. inr (omega (arith, l.0, k.0), omega (arith, l.1, k.1))) (before_of q r y))
     (before_of p q x))
 
+-- ---- possible blocks
+
+-- the blocks of a list, by the test of its members
+pub marked : (n : Parts) (s : Source) (possible : List ℕ) → ((b : ℕ) → Contains possible b ↔ Possible n s b) → (c : ℕ) → Has possible c ↔ Possible n s c
+marked n s possible are c = (λ h. (are c).0 (has-Contains possible c h), λ p. Contains-has possible c ((are c).1 p))
+
+same_tests : (a b : Bool) → (a ≡ true → b ≡ true) → (b ≡ true → a ≡ true) → a ≡ b
+same_tests true b to from = sym (to refl)
+same_tests false true to from = from refl
+same_tests false false to from = refl
+
+-- another test of the members gives the same
+pub tested : (possible : List ℕ) (c : ℕ) (t : Bool) → (t ≡ true) ↔ Contains possible c → t ≡ list_any (eqb c) possible
+tested possible c t test = same_tests t (list_any (eqb c) possible) (λ on. Contains-has possible c (test.0 on)) (λ on. test.1 (has-Contains possible c on))
+
+-- how many branches have a possible block, one after the other
+pub count_with : (possible : List ℕ) (qs : List Feed) (i : ℕ) (none : Feed) (count : ℕ) → i < length qs → is_possible possible (get_or qs i none) ≡ true → count ≡ count_by (is_possible possible) (take i qs) →
+    count + 1 ≡ count_by (is_possible possible) (take (i + 1) qs)
+count_with possible qs i none count h on is =
+    let one : cond {A = ℕ} (is_possible possible (get_or qs i none)) 1 0 ≡ 1 = rw on refl in
+    ap₂ (λ a b. a + b) is (sym one) ∙ sym (sum_by_more (λ (q : Feed). cond (is_possible possible q) 1 0) qs i none h)
+
+pub count_without : (possible : List ℕ) (qs : List Feed) (i : ℕ) (none : Feed) (count : ℕ) → i < length qs → is_possible possible (get_or qs i none) ≡ false → count ≡ count_by (is_possible possible) (take i qs) →
+    count ≡ count_by (is_possible possible) (take (i + 1) qs)
+count_without possible qs i none count h off is =
+    let zero : cond {A = ℕ} (is_possible possible (get_or qs i none)) 1 0 ≡ 0 = rw off refl in
+    let more : count_by (is_possible possible) (take (i + 1) qs) ≡ count_by (is_possible possible) (take i qs) + cond (is_possible possible (get_or qs i none)) 1 0 = sum_by_more (λ (q : Feed). cond (is_possible possible q) 1 0) qs i none h in
+    omega (arith, is, zero, more)
+
 -- ---- guards, one branch after the other
 
-pub guards_with : (n : Parts) (marks : List Bool) (qs : List Feed) (b : ℕ) (gs : List Guard) (q : Feed) (g : Guard) → AreGuards n marks qs b gs → is_possible marks q ≡ true → branch_in g ≡ q →
-    HasBits g.mask (λ p. Contains (feeds_of n b p) q) → AreGuards n marks (qs ++ q ∷ []) b (gs ++ g ∷ [])
-guards_with n marks qs b gs q g is on same bits =
-    let one : filter (is_possible marks) (q ∷ []) ≡ q ∷ [] = rw on refl in
+pub guards_with : (n : Parts) (possible : List ℕ) (qs : List Feed) (b : ℕ) (gs : List Guard) (q : Feed) (g : Guard) → AreGuards n possible qs b gs → is_possible possible q ≡ true → branch_in g ≡ q →
+    HasBits g.mask (λ p. Contains (feeds_of n b p) q) → AreGuards n possible (qs ++ q ∷ []) b (gs ++ g ∷ [])
+guards_with n possible qs b gs q g is on same bits =
+    let one : filter (is_possible possible) (q ∷ []) ≡ q ∷ [] = rw on refl in
     record {
       branches_are =
           map-append branch_in gs (g ∷ [])
-          ∙ (ap₂ (λ xs ys. xs ++ ys) is.branches_are (ap (λ x. x ∷ []) same ∙ sym one) ∙ sym (filter-append (is_possible marks) qs (q ∷ [])));
+          ∙ (ap₂ (λ xs ys. xs ++ ys) is.branches_are (ap (λ x. x ∷ []) same ∙ sym one) ∙ sym (filter-append (is_possible possible) qs (q ∷ [])));
       masks_are =
           All-push (λ (h : Guard). HasBits h.mask (λ p. Contains (feeds_of n b p) (branch_in h))) gs g is.masks_are
           (subst (λ x. HasBits g.mask (λ p. Contains (feeds_of n b p) x)) (sym same) bits);
     }
 
-pub guards_without : (n : Parts) (marks : List Bool) (qs : List Feed) (b : ℕ) (gs : List Guard) (q : Feed) → AreGuards n marks qs b gs → is_possible marks q ≡ false → AreGuards n marks (qs ++ q ∷ []) b gs
-guards_without n marks qs b gs q is off =
-    let none : filter (is_possible marks) (q ∷ []) ≡ [] = rw off refl in
+pub guards_without : (n : Parts) (possible : List ℕ) (qs : List Feed) (b : ℕ) (gs : List Guard) (q : Feed) → AreGuards n possible qs b gs → is_possible possible q ≡ false → AreGuards n possible (qs ++ q ∷ []) b gs
+guards_without n possible qs b gs q is off =
+    let none : filter (is_possible possible) (q ∷ []) ≡ [] = rw off refl in
     record {
-      branches_are = is.branches_are ∙ (sym (append-nil (filter (is_possible marks) qs)) ∙ (ap (λ ys. filter (is_possible marks) qs ++ ys) (sym none) ∙ sym (filter-append (is_possible marks) qs (q ∷ []))));
+      branches_are = is.branches_are ∙ (sym (append-nil (filter (is_possible possible) qs)) ∙ (ap (λ ys. filter (is_possible possible) qs ++ ys) (sym none) ∙ sym (filter-append (is_possible possible) qs (q ∷ []))));
       masks_are = is.masks_are;
     }
 
@@ -80,19 +108,19 @@ guard_parts : (g h : PlainGuard) → g.block ≡ h.block → g.port ≡ h.port �
 guard_parts g h p q r =
     ap (λ (v : ℕ). record g { block = v }) p ∙ (ap (λ (v : ℕ). record g { block = h.block; port = v }) q ∙ ap (λ (v : ℕ). record h { mask = v }) r)
 
-module _ (n : Parts) (s : Source) (b : ℕ) (marks : List Bool) (branches : List Feed) (rise : AreRising branches) (are : (q : Feed) → Contains branches q ↔ (IsSync n q.block × Reaches n q b))
-    (mark : (c : ℕ) → (slice_index_or marks c false ≡ true) ↔ Possible n s c) where
+module _ (n : Parts) (s : Source) (b : ℕ) (possible : List ℕ) (branches : List Feed) (rise : AreRising branches) (are : (q : Feed) → Contains branches q ↔ (IsSync n q.block × Reaches n q b))
+    (mark : (c : ℕ) → Has possible c ↔ Possible n s c) where
   abbrev Precede : Feed → Feed → Type 0
   Precede p q = precedes p q ≡ true
 
-  pub guards_rise : (gs : List Guard) → AreGuards n marks branches b gs → AllPairs (λ g h. precedes (branch_of g) (branch_of h) ≡ true) (guards_of gs)
+  pub guards_rise : (gs : List Guard) → AreGuards n possible branches b gs → AllPairs (λ g h. precedes (branch_of g) (branch_of h) ≡ true) (guards_of gs)
   guards_rise gs is =
-      let in_order : AllPairs Precede (map branch_in gs) = subst (AllPairs Precede) (sym is.branches_are) (AllPairs-filter Precede (is_possible marks) branches rise) in
+      let in_order : AllPairs Precede (map branch_in gs) = subst (AllPairs Precede) (sym is.branches_are) (AllPairs-filter Precede (is_possible possible) branches rise) in
       pairs_map (λ g h. precedes (branch_of g) (branch_of h) ≡ true) guard_of gs (pairs_of_map Precede branch_in gs in_order)
 
-  sound : (gs : List Guard) → AreGuards n marks branches b gs → (x : Guard) → Contains gs x → IsGuard n s b (guard_of x)
+  sound : (gs : List Guard) → AreGuards n possible branches b gs → (x : Guard) → Contains gs x → IsGuard n s b (guard_of x)
   sound gs is x has =
-      let f = filter_from (is_possible marks) branches (branch_in x) (subst (λ qs. Contains qs (branch_in x)) is.branches_are (map_to branch_in gs x has)) in
+      let f = filter_from (is_possible possible) branches (branch_in x) (subst (λ qs. Contains qs (branch_in x)) is.branches_are (map_to branch_in gs x has)) in
       let a = (are (branch_in x)).0 f.0 in
       record {
         possible = (mark x.block).0 f.1;
@@ -101,39 +129,39 @@ module _ (n : Parts) (s : Source) (b : ℕ) (marks : List Bool) (branches : List
         feeds = All-contains (λ (g : Guard). HasBits g.mask (λ p. Contains (feeds_of n b p) (branch_in g))) gs x is.masks_are has;
       }
 
-  complete : (gs : List Guard) → AreGuards n marks branches b gs → (g : PlainGuard) → IsGuard n s b g → Contains (guards_of gs) g
+  complete : (gs : List Guard) → AreGuards n possible branches b gs → (g : PlainGuard) → IsGuard n s b g → Contains (guards_of gs) g
   complete gs is g ok =
-      let inside = filter_to (is_possible marks) branches (branch_of g) ((are (branch_of g)).1 (ok.sync, ok.reaches)) ((mark g.block).1 ok.possible) in
+      let inside = filter_to (is_possible possible) branches (branch_of g) ((are (branch_of g)).1 (ok.sync, ok.reaches)) ((mark g.block).1 ok.possible) in
       let r = map_from branch_in gs (branch_of g) (subst (λ qs. Contains qs (branch_of g)) (sym is.branches_are) inside) in
       let bits = All-contains (λ (h : Guard). HasBits h.mask (λ p. Contains (feeds_of n b p) (branch_in h))) gs r.0 is.masks_are r.1 in
       let same = same_mask (λ p. Contains (feeds_of n b p) (branch_of g)) r.0.mask g.mask (subst (λ q. HasBits r.0.mask (λ p. Contains (feeds_of n b p) q)) r.2 bits) ok.feeds in
       let parts = guard_parts (guard_of r.0) g (ap (λ (q : Feed). q.block) r.2) (ap (λ (q : Feed). q.port) r.2) same in
       subst (Contains (guards_of gs)) parts (map_to guard_of gs r.0 r.1)
 
-  pub guards_exact : (gs : List Guard) → AreGuards n marks branches b gs → (g : PlainGuard) → Contains (guards_of gs) g ↔ IsGuard n s b g
+  pub guards_exact : (gs : List Guard) → AreGuards n possible branches b gs → (g : PlainGuard) → Contains (guards_of gs) g ↔ IsGuard n s b g
   guards_exact gs is g = (
     λ has. let r = map_from guard_of gs g has in subst (IsGuard n s b) r.2 (sound gs is r.0 r.1),
     λ ok. complete gs is g ok,
   )
 
   -- an entry has as many guards as there are branches of possible blocks
-  pub guards_counted : IsWired n → IsBlock n b → (e : PlainEntry) → e.block ≡ b → IsEntry n s e → length e.guards ≡ count_by (is_possible marks) branches
+  pub guards_counted : IsWired n → IsBlock n b → (e : PlainEntry) → e.block ≡ b → IsEntry n s e → length e.guards ≡ count_by (is_possible possible) branches
   guards_counted wired inside e at ok =
-      let same : map branch_of e.guards ≡ filter (is_possible marks) branches =
-      same_lists Precede feed_strict feed_trans (map branch_of e.guards) (filter (is_possible marks) branches) (pairs_map Precede branch_of e.guards ok.rising)
-      (AllPairs-filter Precede (is_possible marks) branches rise) (λ q. (to q, from q)) in
-      sym (length-map e.guards branch_of) ∙ (ap length same ∙ length-filter (is_possible marks) branches)
+      let same : map branch_of e.guards ≡ filter (is_possible possible) branches =
+      same_lists Precede feed_strict feed_trans (map branch_of e.guards) (filter (is_possible possible) branches) (pairs_map Precede branch_of e.guards ok.rising)
+      (AllPairs-filter Precede (is_possible possible) branches rise) (λ q. (to q, from q)) in
+      sym (length-map e.guards branch_of) ∙ (ap length same ∙ length-filter (is_possible possible) branches)
     where
-      to : (q : Feed) → Contains (map branch_of e.guards) q → Contains (filter (is_possible marks) branches) q
+      to : (q : Feed) → Contains (map branch_of e.guards) q → Contains (filter (is_possible possible) branches) q
       to q has =
           let r = map_from branch_of e.guards q has in
           let g = subst (λ c. IsGuard n s c r.0) at ((ok.guards_are r.0).0 r.1) in
-          subst (Contains (filter (is_possible marks) branches)) r.2
-          (filter_to (is_possible marks) branches (branch_of r.0) ((are (branch_of r.0)).1 (g.sync, g.reaches)) ((mark r.0.block).1 g.possible))
+          subst (Contains (filter (is_possible possible) branches)) r.2
+          (filter_to (is_possible possible) branches (branch_of r.0) ((are (branch_of r.0)).1 (g.sync, g.reaches)) ((mark r.0.block).1 g.possible))
 
-      from : (q : Feed) → Contains (filter (is_possible marks) branches) q → Contains (map branch_of e.guards) q
+      from : (q : Feed) → Contains (filter (is_possible possible) branches) q → Contains (map branch_of e.guards) q
       from q has =
-          let f = filter_from (is_possible marks) branches q has in
+          let f = filter_from (is_possible possible) branches q has in
           let a = (are q).0 f.0 in
           let g : PlainGuard = record { block = q.block; port = q.port; mask = guard_mask n b q } in
           let is : IsGuard n s b g = record { possible = (mark q.block).0 f.1; sync = a.0; reaches = a.1; feeds = guard_mask-bits n wired b q inside } in

@@ -12,3 +12,4 @@ pub mod Ranking
 pub mod Sized
 pub mod Planned
 pub mod Building
+pub mod Marking

@@ -1,11 +1,13 @@
 -- What the table of a source tells of the source.
-use Rattle.std.proofs.Common.{◌≡◌, ℕ, ◌+◌, ◌<◌, ◌↔◌, List, [], ◌∷◌, length, get_or, Contains, AllPairs, All, Vec, subst, arith}
+use Rattle.std.proofs.Common.{◌≡◌, ℕ, zero, suc, ◌+◌, ◌<◌, ◌≤◌, inr, ◌↔◌, List, [], ◌∷◌, length, get_or, Contains, AllPairs, All, Vec, refl, subst, arith}
 use Rattle.std.specs.Prelude.{Result, Ok, Err, IfOk}
 use Rattle.std.specs.declared.alloc.Global.{Global}
 use Rattle.std.proofs.lemmas.List.{get_or_default}
+use Rattle.std.proofs.lemmas.List.Kept.{AllPairs-from_increasing}
+use Rattle.sci_relation.specs.Depth.{ChainTo, IsDepth}
 use Rattle.sci_relation.specs.Loops.{IsLoop, HasNoLoop, IsFromLeast}
 use Rattle.sci_loop.specs.declared.table.DepTable.{DepTable}
-use Rattle.sci_loop.specs.Table.{Needs}
+use Rattle.sci_loop.specs.Table.{Needs, HasNeeds}
 use Rattle.sci_loop.specs.Sorted.{IsOrder, IsSorted}
 use Rattle.sci_loop.specs.declared.listing.Sorted.{Sorted}
 use Rattle.sci_loop.specs.declared.listing.Sorted.TheVariants.{Loop, Order}
@@ -16,13 +18,12 @@ use Rattle.sci_reaction.specs.Active.{Possible}
 use Rattle.sci_reaction.specs.Depends.{Depends, IsLoopFree, Precedes}
 use Rattle.sci_reaction.proofs.Alike.{loop_alike, no_loop_alike, depth_alike}
 use Rattle.sci_reaction.proofs.Spreading.{Spread-block}
-use Rattle.sci_dep.specs.Tables.{MarkPossible, IsTableOf}
+use Rattle.sci_dep.specs.Tables.{IsTableOf}
 use Rattle.sci_base.specs.Plain.{violation_of}
-use Rattle.sci_sched.specs.declared.outline.Outline.{Outline}
 use Rattle.sci_sched.specs.declared.stop.PlanStop.{PlanStop}
 use Rattle.sci_sched.specs.declared.stop.PlanStop.TheVariants.{Refused, Memory}
 use Rattle.sci_sched.specs.Depths.{HaveDepths, IsBefore, Outranks}
-use Rattle.sci_sched.specs.Outlines.{IsOutline}
+use Rattle.sci_sched.specs.Outlines.{AreOrdered}
 use Rattle.sci_sched.specs.Answer.{AreLoopFree, loop_violation, TellsLoop, IsLoopStop, IsFirstLoopStop, Tells}
 
 -- blocks in the order of their depths
@@ -100,16 +101,44 @@ module _ {E : Type 0} (t : DepTable) (ms : List ℕ) (r : Result (Vec ℕ Global
       by (Ok v) kept before = ranked_members t depths v.items have (λ b h. (kept b).0 h) before
       by (Err e) kept before = tt
 
--- the outline of a source
-pub outline_is : (n : Parts) (s : Source) (t : DepTable) (o : Outline) → IsTableOf n s t → HasNoLoop (Needs t) → MarkPossible n s o.possible.items → ((b : ℕ) → Contains o.blocks.items b ↔ Contains t.members.items b) →
-    AllPairs (Outranks (Needs t)) o.blocks.items → IsOutline n s o
-outline_is n s t o is free mark kept ranked =
+-- the blocks of a source
+pub ordered_are : (n : Parts) (s : Source) (t : DepTable) (vs : List ℕ) → IsTableOf n s t → HasNoLoop (Needs t) → ((b : ℕ) → Contains vs b ↔ Contains t.members.items b) →
+    AllPairs (Outranks (Needs t)) vs → AreOrdered n s vs
+ordered_are n s t vs is free kept ranked =
     record {
       free = free_source n s t is.needs free;
-      possible = mark;
       exactly = λ b. (λ h. (is.members b).0 ((kept b).0 h), λ h. (kept b).1 ((is.members b).1 h));
-      ordered = ranked_precede n s t is.needs o.blocks.items ranked;
+      ordered = ranked_precede n s t is.needs vs ranked;
     }
+
+-- where nothing is needed there is no loop
+no_loop : (needs : ℕ → ℕ → Type 0) → ((c b : ℕ) → needs c b → ⊥) → HasNoLoop needs
+no_loop needs none [] h = absurd h
+no_loop needs none (x ∷ []) h = none x x h.1
+no_loop needs none (x ∷ y ∷ ys) h = none y x h.1.0
+
+-- and each is alone in the longest chain that ends at it
+one_deep : (needs : ℕ → ℕ → Type 0) → ((c b : ℕ) → needs c b → ⊥) → (c : ℕ) → IsDepth needs c 1
+one_deep needs none c = (0, refl, tt, short)
+  where
+    short : (m : ℕ) → ChainTo needs m c → m ≤ 0
+    short zero chain = omega arith
+    short (suc m) chain = absurd (none c chain.0 chain.1)
+
+-- the members of a table without needs stand in their order already
+pub members_are : (n : Parts) (s : Source) (t : DepTable) → IsTableOf n s t → (HasNeeds t → ⊥) → AreOrdered n s t.members.items
+members_are n s t is off =
+    let none : (c b : ℕ) → Needs t c b → ⊥ = λ c b h. off (record { member = c; need = b; needs = h }) in
+    let rise = AllPairs-from_increasing t.members.items is.well_formed.rising in
+    ordered_are n s t t.members.items is (no_loop (Needs t) none) (λ b. (λ h. h, λ h. h))
+    (λ i j d l h.
+    record {
+      depth = 1;
+      later_depth = 1;
+      has = one_deep (Needs t) none (get_or t.members.items i d);
+      later_has = one_deep (Needs t) none (get_or t.members.items j d);
+      less = inr (refl, rise i j d l h);
+    })
 
 pub sorted_loop : (t : DepTable) (o : Sorted) (v : Vec ℕ Global) → o ≡ Loop v → IsSorted t o → IsLoop (Needs t) v.items × IsFromLeast v.items
 sorted_loop t o v is h = subst (IsSorted t) is h

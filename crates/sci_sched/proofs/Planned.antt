@@ -11,7 +11,6 @@ use Rattle.sci_net.specs.Sources.{sources_of, source_of}
 use Rattle.sci_net.proofs.TypedSpecs.{sources_few, all_typed}
 use Rattle.sci_reaction.specs.Schedule.{Entry as PlainEntry, IsSchedule}
 use Rattle.sci_reaction.proofs.Schedules.{some_schedule}
-use Rattle.sci_inherit.specs.Origins.{Origins, AreOrigins}
 use Rattle.sci_sched.specs.declared.outline.Outline.{Outline}
 use Rattle.sci_sched.specs.declared.stop.PlanStop.{PlanStop}
 use Rattle.sci_sched.specs.declared.stop.PlanStop.TheVariants.{Refused, Memory}
@@ -44,7 +43,7 @@ some_at (x ∷ xs) i h = x
 pub outlines_free : (n : Parts) (k : ℕ) (os : List Outline) → AreOutlines n k os → AreLoopFree n k
 outlines_free n k os are i h =
     let d = some_at os i (let e = are.long in omega (arith, h, e)) in
-    let o = are.each i d h in o.free
+    let o = are.each i d h in o.blocks.free
 
 -- the first source that has a loop stops them
 pub first_stopped : {T U : Type 0} (n : Parts) (s : Source) (at : ℕ) (os : List Outline) (r : Result T PlanStop) (q : Result U PlanStop) (e : PlanStop) → r ≡ Err e → q ≡ Err e → at < length (sources_of n) → AreOutlines n at os →
@@ -64,24 +63,24 @@ length_is_stop : (n : Parts) (count : ℕ) (e : PlanStop) → BreaksLength n (le
 length_is_stop n count (Refused r) breaks told = inr (subst (BreaksLength n) (sym told) breaks)
 length_is_stop n count Memory breaks told = tt
 
-module _ (n : Parts) (net : IsNet n) (r : Origins) (origins : AreOrigins n r) (os : List Outline) (are : AreOutlines n (length (sources_of n)) os) where
+module _ (n : Parts) (net : IsNet n) (os : List Outline) (are : AreOutlines n (length (sources_of n)) os) where
   pub sources_small : length (sources_of n) < 2 ^ 32
   sources_small = let few = sources_few 1 n.specs (all_typed n net) in let most = net.wired.few in omega (arith, few, most)
 
-  pub total_fits : sum_by (outline_size r) os < 2 ^ 63
-  total_fits = total_small n net r origins os are sources_small
+  pub total_fits : sum_by outline_size os < 2 ^ 63
+  total_fits = total_small n net os are sources_small
 
   -- all rows together are too long
-  pub too_long : (count : ℕ) (e : PlanStop) → count ≡ sum_by (outline_size r) os → 262144 < count → Tells (length_violation count) e → IsPlanStop n e
+  pub too_long : (count : ℕ) (e : PlanStop) → count ≡ sum_by outline_size os → 262144 < count → Tells (length_violation count) e → IsPlanStop n e
   too_long count e is long told =
       let free = outlines_free n (length (sources_of n)) os are in
       let some = some_schedule n net.wired free in
-      let size : count ≡ size_of some.0 = is ∙ sym (schedule_sized n net r origins os some.0 are some.1) in
+      let size : count ≡ size_of some.0 = is ∙ sym (schedule_sized n net os some.0 are some.1) in
       length_is_stop n count e
       (record { free = free; rows = some.0; schedule = some.1; long = subst (λ m. 262144 < m) size long; told = ap length_violation size }) told
 
   -- they aren't
-  pub planned : (count : ℕ) (rows : List (List PlainEntry)) → count ≡ sum_by (outline_size r) os → count ≤ 262144 → IsSchedule n rows → IsPlan n rows
+  pub planned : (count : ℕ) (rows : List (List PlainEntry)) → count ≡ sum_by outline_size os → count ≤ 262144 → IsSchedule n rows → IsPlan n rows
   planned count rows is short ok =
-      let size = schedule_sized n net r origins os rows are ok in
+      let size = schedule_sized n net os rows are ok in
       record { free = outlines_free n (length (sources_of n)) os are; schedule = ok; short = omega (arith, size, is, short) }

@@ -1,5 +1,5 @@
 -- How long the rows of a net are, from what is found before they are built.
-use Rattle.std.proofs.Common.{◌≡◌, ℕ, zero, suc, ◌+◌, ◌-◌, ◌*◌, ◌^◌, ◌<◌, ◌≤◌, ⊎_elim, List, [], ◌∷◌, length, get_or, map, Contains, All, AllPairs, refl, sym, ap, ap₂, subst, ◌∙◌, arith}
+use Rattle.std.proofs.Common.{◌≡◌, ℕ, zero, suc, ◌+◌, ◌-◌, ◌*◌, ◌^◌, ◌<◌, ◌≤◌, ◌↔◌, ⊎_elim, List, [], ◌∷◌, length, get_or, map, Contains, AllPairs, refl, sym, ap, ap₂, subst, ◌∙◌, arith}
 use Rattle.std.specs.List.{sum_by}
 use Rattle.std.proofs.lemmas.Bool.{cases_order, cases_lt}
 use Rattle.std.proofs.lemmas.List.{get_or_default, length-map, get_or-map}
@@ -7,12 +7,13 @@ use Rattle.std.proofs.lemmas.List.Elements.{All-contains}
 use Rattle.std.proofs.lemmas.List.Sums.{sum_by-cons, sum_by-le, count_by-le-length}
 use Rattle.std.proofs.lemmas.Map.Steps.{length-le_from_distinct_below}
 use Rattle.sci_relation.proofs.Rounds.{distinct_by_places}
+use Rattle.sci_walk.specs.Walk.{Found}
 use Rattle.sci_net.specs.declared.Feed.{Feed}
 use Rattle.sci_net.specs.declared.Source.{Source}
 use Rattle.sci_net.specs.Parts.{Parts, numbered, spec_of, IsBlock, IsActivationOutput, AreRising}
 use Rattle.sci_net.specs.Net.{IsNet}
 use Rattle.sci_net.specs.Sources.{sources_of, source_of}
-use Rattle.sci_reaction.specs.Active.{Reaches, seeded, passed}
+use Rattle.sci_reaction.specs.Active.{Reaches, Possible, seeded, passed}
 use Rattle.sci_reaction.specs.Depends.{Precedes}
 use Rattle.sci_reaction.specs.Schedule.{Entry as PlainEntry, blocks_of, IsEntry, IsRow, IsSchedule}
 use Rattle.sci_reaction.proofs.Spreading.{Spread-block}
@@ -23,8 +24,8 @@ use Rattle.sci_inherit.specs.Origins.{Origins, AreOrigins}
 use Rattle.sci_sched.specs.declared.outline.Outline.{Outline}
 use Rattle.sci_sched.specs.Guards.{is_possible}
 use Rattle.sci_sched.specs.Size.{guards_in, size_of}
-use Rattle.sci_sched.specs.Outlines.{IsOutline, AreOutlines, guards_at, outline_size, IsCounted}
-use Rattle.sci_sched.proofs.Guarded.{before_of, guards_counted}
+use Rattle.sci_sched.specs.Outlines.{AreOrdered, IsOutline, AreOutlines, guards_at, outline_size, AreCounted}
+use Rattle.sci_sched.proofs.Guarded.{before_of, guards_counted, marked}
 use Rattle.sci_sched.proofs.Members.{pairs_map, head_in}
 use Rattle.sci_sched.proofs.Ports.{evtout_few}
 use Rattle.sci_reaction.proofs.Lists.{cons-Contains}
@@ -97,77 +98,94 @@ reach_output : (n : Parts) → IsNet n → (q : Feed) {b : ℕ} → Reaches n q 
 reach_output n net q (seeded b f) = net.wired.feeds_lead b f.input q f.within f.fed
 reach_output n net q (passed a b h i u) = reach_output n net q h
 
-module _ (n : Parts) (net : IsNet n) (r : Origins) (origins : AreOrigins n r) where
-  pub branch_output : (b : ℕ) (q : Feed) → Contains (numbered [] r.branches b) q → IsActivationOutput n q.block q.port
-  branch_output b q has = reach_output n net q ((origins.branches_are b q).0 has).1
+-- ---- the possible blocks of a source
 
-  module _ (s : Source) (o : Outline) (is : IsOutline n s o) where
-    block_of : (b : ℕ) → Contains o.blocks.items b → IsBlock n b
-    block_of b has = Spread-block n s _ ((is.exactly b).0 has)
+module _ (n : Parts) (net : IsNet n) (s : Source) (bs : List ℕ) (is : AreOrdered n s bs) where
+  pub block_of : (b : ℕ) → Contains bs b → IsBlock n b
+  block_of b has = Spread-block n s _ ((is.exactly b).0 has)
 
-    few_blocks : length o.blocks.items ≤ 2049
-    few_blocks =
-        let bs = o.blocks.items in
-        length-le_from_distinct_below bs 2049
-        (distinct_by_places bs (λ i j hi hj e.
-        ⊎_elim (λ same. same)
-        (λ apart. absurd (⊎_elim
-        (λ less. irreflexive n s is.free (get_or bs i 0) (subst (Precedes n s (get_or bs i 0)) (sym e) (is.ordered i j 0 less hj)))
-        (λ more. irreflexive n s is.free (get_or bs j 0) (subst (Precedes n s (get_or bs j 0)) e (is.ordered j i 0 more hi)))
-        apart))
-        (cases_order i j)))
-        (λ q has. let b = block_of q (has-Contains bs q has) in let most = b.most in let few = net.wired.few in omega (arith, most, few))
+  few_blocks : length bs ≤ 2049
+  few_blocks =
+      length-le_from_distinct_below bs 2049
+      (distinct_by_places bs (λ i j hi hj e.
+      ⊎_elim (λ same. same)
+      (λ apart. absurd (⊎_elim
+      (λ less. irreflexive n s is.free (get_or bs i 0) (subst (Precedes n s (get_or bs i 0)) (sym e) (is.ordered i j 0 less hj)))
+      (λ more. irreflexive n s is.free (get_or bs j 0) (subst (Precedes n s (get_or bs j 0)) e (is.ordered j i 0 more hi)))
+      apart))
+      (cases_order i j)))
+      (λ q has. let b = block_of q (has-Contains bs q has) in let most = b.most in let few = net.wired.few in omega (arith, most, few))
 
-    guards_few : (b : ℕ) → guards_at r o.possible.items b ≤ 133185
+  row_blocks : (row : List PlainEntry) → IsRow n s row → blocks_of row ≡ bs
+  row_blocks row ok =
+      same_lists (Precedes n s) (irreflexive n s is.free) (precedes_trans n s is.free) (blocks_of row) bs
+      (pairs_map (Precedes n s) (λ (e : PlainEntry). e.block) row ok.ordered) is.ordered
+      (λ b. (λ h. (is.exactly b).1 ((ok.exactly b).0 h), λ h. (ok.exactly b).1 ((is.exactly b).0 h)))
+
+  pub row_long : (row : List PlainEntry) → IsRow n s row → length row ≡ length bs
+  row_long row ok = sym (length-map row (λ (e : PlainEntry). e.block)) ∙ ap length (row_blocks row ok)
+
+  module _ (r : Origins) (origins : AreOrigins n r) (w : Found) (are : (b : ℕ) → Contains w.found b ↔ Possible n s b) where
+    branch_output : (b : ℕ) (q : Feed) → Contains (numbered [] r.branches b) q → IsActivationOutput n q.block q.port
+    branch_output b q has = reach_output n net q ((origins.branches_are b q).0 has).1
+
+    guards_few : (b : ℕ) → guards_at r w.found b ≤ 133185
     guards_few b =
         let short = rising_feeds n net (numbered [] r.branches b) (origins.branches_rise b) (branch_output b) in
-        let fewer = count_by-le-length (is_possible o.possible.items) (numbered [] r.branches b) in
+        let fewer = count_by-le-length (is_possible w.found) (numbered [] r.branches b) in
         omega (arith, short, fewer)
 
-    pub size_small : outline_size r o ≤ 2 ^ 29
-    size_small =
-        let all = sum_by-le (guards_at r o.possible.items) 133185 o.blocks.items (λ k d h. guards_few (get_or o.blocks.items k d)) in
+    guards_small : length bs + sum_by (guards_at r w.found) bs ≤ 2 ^ 29
+    guards_small =
+        let all = sum_by-le (guards_at r w.found) 133185 bs (λ k d h. guards_few (get_or bs k d)) in
         let few = few_blocks in
         omega (arith, all, few)
 
-    pub is_counted : IsCounted r o
-    is_counted = record {
-      within = λ b has. let k = block_of b has in let e = origins.enough in let most = k.most in (k.least, omega (arith, most, e));
-      known = λ b q has. let k = branch_output b q has in let most = k.block.most in let e = is.possible.long in omega (arith, most, e);
-      small = let s = size_small in omega (arith, s);
+    pub are_counted : w.count ≡ length n.specs + 1 → AreCounted r w bs
+    are_counted long = record {
+      within = λ b has. let k = block_of b has in let e = origins.one_each.branches in let most = k.most in (k.least, omega (arith, most, e));
+      known = λ b q has. let k = branch_output b q has in let most = k.block.most in omega (arith, most, long);
+      small = let s = guards_small in omega (arith, s);
     }
 
-    -- the size of the row
-    pub row_sized : (row : List PlainEntry) → IsRow n s row → length row + guards_in row ≡ outline_size r o
-    row_sized row ok =
-        let same : blocks_of row ≡ o.blocks.items =
-        same_lists (Precedes n s) (irreflexive n s is.free) (precedes_trans n s is.free) (blocks_of row) o.blocks.items
-        (pairs_map (Precedes n s) (λ (e : PlainEntry). e.block) row ok.ordered) is.ordered
-        (λ b. (λ h. (is.exactly b).1 ((ok.exactly b).0 h), λ h. (ok.exactly b).1 ((is.exactly b).0 h))) in
-        let long : length row ≡ length o.blocks.items = sym (length-map row (λ (e : PlainEntry). e.block)) ∙ ap length same in
-        let guards : guards_in row ≡ sum_by (guards_at r o.possible.items) o.blocks.items =
-        sum_by-members (λ (e : PlainEntry). length e.guards) (guards_at r o.possible.items) (λ (e : PlainEntry). e.block) row
+    row_guards : (row : List PlainEntry) → IsRow n s row → guards_in row ≡ sum_by (guards_at r w.found) bs
+    row_guards row ok =
+        sum_by-members (λ (e : PlainEntry). length e.guards) (guards_at r w.found) (λ (e : PlainEntry). e.block) row
         (λ e has.
-        guards_counted n s e.block o.possible.items (numbered [] r.branches e.block) (origins.branches_rise e.block) (origins.branches_are e.block) is.possible.exactly net.wired
-        (block_of e.block (subst (λ bs. Contains bs e.block) same (block_in row e has))) e refl (All-contains (IsEntry n s) row e ok.entries has))
-        ∙ ap (λ bs. sum_by (guards_at r o.possible.items) bs) same in
-        ap₂ (λ a b. a + b) long guards
+        guards_counted n s e.block w.found (numbered [] r.branches e.block) (origins.branches_rise e.block) (origins.branches_are e.block) (marked n s w.found are) net.wired
+        (block_of e.block (subst (λ xs. Contains xs e.block) (row_blocks row ok) (block_in row e has))) e refl (All-contains (IsEntry n s) row e ok.entries has))
+        ∙ ap (λ xs. sum_by (guards_at r w.found) xs) (row_blocks row ok)
 
+    -- the outline of the source
+    pub outline_is : (o : Outline) → o.blocks.items ≡ bs → o.guards ≡ sum_by (guards_at r w.found) bs → IsOutline n s o
+    outline_is o same count =
+        record {
+          blocks = subst (AreOrdered n s) (sym same) is;
+          guards = λ row ok. row_guards row ok ∙ sym count;
+          few = let small = guards_small in let long : length o.blocks.items ≡ length bs = ap length same in omega (arith, small, long, count);
+        }
+
+-- the branches of a block are activation outputs
+pub branches_known : (n : Parts) (net : IsNet n) (r : Origins) → AreOrigins n r → (b : ℕ) (q : Feed) → Contains (numbered [] r.branches b) q → q.block ≤ length n.specs
+branches_known n net r origins b q has = let o = reach_output n net q ((origins.branches_are b q).0 has).1 in o.block.most
+
+-- ---- all sources
+
+module _ (n : Parts) (net : IsNet n) where
   -- the size of the schedule
-  pub schedule_sized : (os : List Outline) (rows : List (List PlainEntry)) → AreOutlines n (length (sources_of n)) os → IsSchedule n rows → size_of rows ≡ sum_by (outline_size r) os
+  pub schedule_sized : (os : List Outline) (rows : List (List PlainEntry)) → AreOutlines n (length (sources_of n)) os → IsSchedule n rows → size_of rows ≡ sum_by outline_size os
   schedule_sized os rows are ok =
       let long : length rows ≡ length os = ok.enough ∙ sym are.long in
       sum_by-plus (λ (row : List PlainEntry). length row) guards_in rows
-      ∙ sum_by-places (λ (row : List PlainEntry). length row + guards_in row) (outline_size r) rows os long
+      ∙ sum_by-places (λ (row : List PlainEntry). length row + guards_in row) outline_size rows os long
       (λ i d e h.
       let inside : i < length (sources_of n) = omega (arith, ok.enough, h) in
-      row_sized (source_of n i) (get_or os i e) (are.each i e inside) (get_or rows i d) (subst (IsRow n (source_of n i)) (get_or_default rows i [] d h) (ok.each i h)))
+      let o = are.each i e inside in
+      let row = subst (IsRow n (source_of n i)) (get_or_default rows i [] d h) (ok.each i h) in
+      ap₂ (λ a b. a + b) (row_long n net (source_of n i) (get_or os i e).blocks.items o.blocks (get_or rows i d) row) (o.guards (get_or rows i d) row))
 
-  pub all_counted : (os : List Outline) → AreOutlines n (length (sources_of n)) os → All (IsCounted r) os
-  all_counted os are k d h = is_counted (source_of n k) (get_or os k d) (are.each k d (let e = are.long in omega (arith, e, h)))
-
-  pub total_small : (os : List Outline) → AreOutlines n (length (sources_of n)) os → length (sources_of n) < 2 ^ 32 → sum_by (outline_size r) os < 2 ^ 63
+  pub total_small : (os : List Outline) → AreOutlines n (length (sources_of n)) os → length (sources_of n) < 2 ^ 32 → sum_by outline_size os < 2 ^ 63
   total_small os are few =
-      let all = sum_by-le (outline_size r) (2 ^ 29) os (λ k d h. size_small (source_of n k) (get_or os k d) (are.each k d (let e = are.long in omega (arith, e, h)))) in
+      let all = sum_by-le outline_size (2 ^ 29) os (λ k d h. let o = are.each k d (let e = are.long in omega (arith, e, h)) in o.few) in
       let e = are.long in
       omega (arith, all, few, e)

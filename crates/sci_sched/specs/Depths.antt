@@ -1,5 +1,5 @@
 -- Depths by number, and the order that they give.
-use Rattle.std.specs.Prelude.{◌≡◌, ℕ, ◌<◌, ◌≤◌, ◌⊎◌, List, length, Contains, slice_index}
+use Rattle.std.specs.Prelude.{◌≡◌, ℕ, ◌<◌, ◌≤◌, ◌⊎◌, List, Contains, slice_index}
 use Rattle.sci_relation.specs.Depth.{IsDepth}
 use Rattle.sci_loop.specs.declared.table.DepTable.{DepTable}
 use Rattle.sci_loop.specs.Table.{Needs}
@@ -19,11 +19,10 @@ pub record IsDeepest (depths blocks : List ℕ) (d : ℕ) : Type 0 where
 abbrev pub HaveDepths : DepTable → List ℕ → Type 0
 HaveDepths t depths = (c : ℕ) → Contains t.members.items c → IsDepth (Needs t) c (slice_index depths c)
 
--- the first k of the order have their depths, and no depth is more than k
-pub record DepthsTo (t : DepTable) (order : List ℕ) (size k : ℕ) (depths : List ℕ) : Type 0 where
-  pub long : length depths ≡ size
+-- the first k of the order have their depths, none of which is more than k
+pub record DepthsTo (t : DepTable) (order : List ℕ) (k : ℕ) (depths : List ℕ) : Type 0 where
   pub known : (m : ℕ) → m < k → IsDepth (Needs t) (slice_index order m) (slice_index depths (slice_index order m))
-  pub low : (b : ℕ) → slice_index depths b ≤ k
+  pub low : (m : ℕ) → m < k → slice_index depths (slice_index order m) ≤ k
 
 abbrev pub rank : List ℕ → ℕ → Rank
 rank depths b = record { depth = slice_index depths b; block = b }

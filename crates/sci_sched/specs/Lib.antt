@@ -5,4 +5,5 @@ pub mod Guards
 pub mod Text
 pub mod Answer
 pub mod Outlines
+pub mod Marks
 pub mod Rows

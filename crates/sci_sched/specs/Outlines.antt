@@ -1,38 +1,45 @@
 -- What is found of each source before its row is built.
-use Rattle.std.specs.Prelude.{◌≡◌, ℕ, ◌+◌, ◌<◌, ◌≤◌, ◌^◌, ◌↔◌, Bool, List, [], length, AllPairs, Contains, sum_by, count_by, slice_index_or}
+use Rattle.std.specs.Prelude.{◌≡◌, ℕ, ◌+◌, ◌<◌, ◌≤◌, ◌^◌, ◌↔◌, List, [], length, AllPairs, Contains, sum_by, count_by, slice_index_or}
+use Rattle.sci_walk.specs.Walk.{Found}
 use Rattle.sci_net.specs.declared.Feed.{Feed}
 use Rattle.sci_net.specs.declared.Source.{Source}
 use Rattle.sci_net.specs.Parts.{Parts, numbered}
 use Rattle.sci_net.specs.Sources.{source_of}
 use Rattle.sci_reaction.specs.Active.{Possible}
 use Rattle.sci_reaction.specs.Depends.{IsLoopFree, Precedes}
+use Rattle.sci_reaction.specs.Schedule.{Entry, IsRow}
 use Rattle.sci_inherit.specs.Origins.{Origins}
-use Rattle.sci_dep.specs.Tables.{MarkPossible}
 use Rattle.sci_sched.specs.declared.outline.Outline.{Outline}
 use Rattle.sci_sched.specs.Guards.{is_possible}
+use Rattle.sci_sched.specs.Size.{guards_in}
 
--- a source without a loop: its possible blocks, by depth and number
-pub record IsOutline (n : Parts) (s : Source) (o : Outline) : Type 0 where
+-- the possible blocks of a source without a loop, by depth and number
+pub record AreOrdered (n : Parts) (s : Source) (bs : List ℕ) : Type 0 where
   pub free : IsLoopFree n s
-  pub possible : MarkPossible n s o.possible.items
-  pub exactly : (b : ℕ) → Contains o.blocks.items b ↔ Possible n s b
-  pub ordered : AllPairs (Precedes n s) o.blocks.items
+  pub exactly : (b : ℕ) → Contains bs b ↔ Possible n s b
+  pub ordered : AllPairs (Precedes n s) bs
+
+-- how many entries and guards the row has
+abbrev pub outline_size : Outline → ℕ
+outline_size o = length o.blocks.items + o.guards
+
+-- a source without a loop: its blocks, and as many guards as its row has
+pub record IsOutline (n : Parts) (s : Source) (o : Outline) : Type 0 where
+  pub blocks : AreOrdered n s o.blocks.items
+  pub guards : (row : List Entry) → IsRow n s row → guards_in row ≡ o.guards
+  pub few : outline_size o ≤ 2 ^ 29
 
 -- of each of the first k sources
 pub record AreOutlines (n : Parts) (k : ℕ) (os : List Outline) : Type 0 where
   pub long : length os ≡ k
   pub each : (i : ℕ) (d : Outline) → i < k → IsOutline n (source_of n i) (slice_index_or os i d)
 
--- how many guards block b has
-abbrev pub guards_at : Origins → List Bool → ℕ → ℕ
-guards_at r marks b = count_by (is_possible marks) (numbered [] r.branches b)
+-- how many guards block b has, where these are the possible blocks
+abbrev pub guards_at : Origins → List ℕ → ℕ → ℕ
+guards_at r possible b = count_by (is_possible possible) (numbered [] r.branches b)
 
--- how many entries and guards the row has
-abbrev pub outline_size : Origins → Outline → ℕ
-outline_size r o = length o.blocks.items + sum_by (guards_at r o.possible.items) o.blocks.items
-
--- the blocks and their branches are in range, and they are few
-pub record IsCounted (r : Origins) (o : Outline) : Type 0 where
-  pub within : (b : ℕ) → Contains o.blocks.items b → (1 ≤ b) × (b ≤ length r.reaching)
-  pub known : (b : ℕ) (q : Feed) → Contains (numbered [] r.branches b) q → q.block < length o.possible.items
-  pub small : outline_size r o < 2 ^ 63
+-- the blocks and their branches are in range, and the guards are few
+pub record AreCounted (r : Origins) (w : Found) (bs : List ℕ) : Type 0 where
+  pub within : (b : ℕ) → Contains bs b → (1 ≤ b) × (b ≤ length r.branches)
+  pub known : (b : ℕ) (q : Feed) → Contains (numbered [] r.branches b) q → q.block < w.count
+  pub small : sum_by (guards_at r w.found) bs < 2 ^ 63

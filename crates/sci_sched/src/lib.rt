@@ -3,6 +3,7 @@
 #![tactic(auto)]
 
 mod depth;
+mod marks;
 mod masks;
 mod outline;
 mod planning;

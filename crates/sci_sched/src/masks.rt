@@ -1,14 +1,14 @@
-// The activation inputs of a block that an activation output feeds, and the guards of a block.
+// The activation inputs of a block that a branch feeds, and the guards of a block.
 ghost use Rattle.std.specs.Prelude.{◌≡◌, ◌+◌, ◌≤◌, ◌<◌, All, Contains, length, IfOk, count_by, slice_index_or, false};
 ghost use Rattle.sci_net.specs.Parts.{spec_of, feeds_of};
 ghost use Rattle.sci_reaction.specs.Equations.{HasBits};
-ghost use Rattle.sci_reaction.specs.Links.{SourceFeeds};
 ghost use Rattle.sci_sched.specs.Guards.{AreGuards, HasBitsTo, is_possible};
 
 use crate::Guard;
 use sci_base::bits::set_bit;
 use sci_inherit::contains;
-use sci_net::{Feed, Net, Source};
+use sci_net::{Feed, Net};
+use sci_walk::Walk;
 use std::alloc::{AllocError, Global};
 
 // The mask with activation input `at + 1`, if the activation output feeds it.
@@ -41,34 +41,22 @@ pub fn fed_mask(net: &Net, block: u32, feed: Feed) -> u64
     mask
 }
 
-/// The activation inputs that a source feeds.
-pub fn source_mask(net: &Net, source: Source, block: u32) -> u64
-    requires least { 1 ≤ block }
-    requires most { block ≤ length net.now.specs }
-    ensures { HasBits result (SourceFeeds net.now source block) }
-{
-    match source {
-        Source::Start => 0,
-        Source::Port(feed) => fed_mask(net, block, feed),
-    }
-}
-
 /// A guard for each of these branches whose block is possible.
 pub fn guards(
     alloc: Global,
     net: &Net,
-    possible: &[bool],
+    possible: &Walk,
     branches: &[Feed],
     block: u32,
 ) -> Result<Vec<Guard>, AllocError>
     requires least { 1 ≤ block }
     requires most { block ≤ length net.now.specs }
-    requires known { All (λ q. q.block < length possible.now) branches.now }
-    ensures { IfOk result (λ v. AreGuards net.now possible.now branches.now block v.items) }
+    requires known { All (λ q. q.block < possible.now.count) branches.now }
+    ensures { IfOk result (λ v. AreGuards net.now possible.now.found branches.now block v.items) }
 {
     let mut guards = Vec::new(alloc);
     for branch in branches {
-        if possible[branch.block as usize] {
+        if possible.has(branch.block) {
             guards.push(Guard {
                 block: branch.block,
                 port: branch.port,
@@ -80,12 +68,15 @@ pub fn guards(
 }
 
 /// How many these are.
-pub fn guard_count(possible: &[bool], branches: &[Feed]) -> usize
-    requires { All (λ q. q.block < length possible.now) branches.now }
-    ensures { result ≡ count_by (is_possible possible.now) branches.now }
+pub fn guard_count(possible: &Walk, branches: &[Feed]) -> usize
+    requires { All (λ q. q.block < possible.now.count) branches.now }
+    ensures { result ≡ count_by (is_possible possible.now.found) branches.now }
 {
-    branches
-        .iter()
-        .filter(|branch| possible[branch.block as usize])
-        .count()
+    let mut count = 0;
+    for branch in branches {
+        if possible.has(branch.block) {
+            count += 1;
+        }
+    }
+    count
 }

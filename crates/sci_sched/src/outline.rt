@@ -1,31 +1,33 @@
 // What is found of each source before its row is built: its loop, or its blocks in their order.
-ghost use Rattle.std.specs.Prelude.{◌≡◌, ℕ, ◌<◌, ◌↔◌, All, AllPairs, Contains, ◌++◌, ◌∷◌, [], length, IfOk, OnOk, IfErr};
+ghost use Rattle.std.specs.Prelude.{◌≡◌, ℕ, ◌<◌, ◌+◌, ◌↔◌, All, AllPairs, Contains, ◌++◌, ◌∷◌, [], length, IfOk, OnOk, IfErr};
 ghost use Rattle.sci_loop.specs.Table.{IsTable, Needs};
 ghost use Rattle.sci_loop.specs.Sorted.{IsOrder};
-ghost use Rattle.sci_net.specs.Sources.{sources_of};
+ghost use Rattle.sci_net.specs.Sources.{sources_of, source_of};
 ghost use Rattle.sci_inherit.specs.Origins.{AreOrigins};
-ghost use Rattle.sci_dep.specs.Tables.{AreWaits};
+ghost use Rattle.sci_dep.specs.Tables.{AreWaits, IsTableOf};
 ghost use Rattle.sci_sched.specs.Depths.{Outranks};
 ghost use Rattle.sci_sched.specs.Answer.{IsLoopStop, IsFirstLoopStop};
-ghost use Rattle.sci_sched.specs.Outlines.{IsOutline, AreOutlines};
+ghost use Rattle.sci_sched.specs.Outlines.{AreOrdered, IsOutline, AreOutlines};
 
 use crate::PlanStop;
-use crate::depth::depths;
+use crate::depth::set_depths;
 use crate::ranks::by_depth;
 use crate::refusals::loop_stop;
+use crate::sizes::guards_among;
 use sci_dep::{Waits, depends, possible};
 use sci_inherit::Reach;
 use sci_loop::{DepTable, Sorted, sort};
 use sci_net::{Net, Source};
+use sci_walk::Walk;
 use std::alloc::{AllocError, Global};
 
 /// What a source without a loop may activate.
 #[derive(Drop)]
 pub struct Outline {
-    /// One mark for each number, from 0, which is no block.
-    pub possible: Vec<bool>,
     /// The possible blocks, by depth and number.
     pub blocks: Vec<u32>,
+    /// How many guards their entries have.
+    pub guards: u64,
 }
 
 // The members of a table without a loop, by depth and number.
@@ -33,40 +35,87 @@ fn in_order(
     alloc: Global,
     table: &DepTable,
     order: &[u32],
-    size: usize,
+    depths: &mut [usize],
 ) -> Result<Vec<u32>, AllocError>
     requires table { IsTable table.now }
     requires order { IsOrder table.now order.now }
-    requires below { All (λ b. b < size) table.now.members.items }
+    requires below { All (λ b. b < length depths.old) table.now.members.items }
     ensures exactly { IfOk result (λ v. (b : ℕ) → Contains v.items b ↔ Contains table.now.members.items b) }
     ensures ordered { IfOk result (λ v. AllPairs (Outranks (Needs table.now)) v.items) }
 {
-    let depths = depths(alloc, table, order, size)?;
-    by_depth(alloc, &depths, &table.members)
+    set_depths(table, order, depths);
+    by_depth(alloc, depths, &table.members)
 }
 
+// The members of the table of a source, by depth and number; or the refusal of a loop.
+fn ranked(
+    alloc: Global,
+    net: &Net,
+    source: Source,
+    table: &DepTable,
+    depths: &mut [usize],
+) -> Result<Vec<u32>, PlanStop>
+    requires table { IsTableOf net.now source table.now }
+    requires depths { length depths.old ≡ length net.now.specs + 1 }
+    ensures ok { IfOk result (λ v. AreOrdered net.now source v.items) }
+    ensures stop { IfErr result (λ e. IsLoopStop net.now source e) }
+{
+    net.well_formed();
+    match sort(alloc, table)? {
+        Sorted::Loop(found) => Err(loop_stop(alloc, net, source, &found)),
+        Sorted::Order(order) => {
+            let blocks = in_order(alloc, table, &order, depths)?;
+            Ok(blocks)
+        }
+    }
+}
+
+// The same. Where no block depends on another, all have one depth, and stand by number already.
+fn ordered(
+    alloc: Global,
+    net: &Net,
+    source: Source,
+    table: DepTable,
+    depths: &mut [usize],
+) -> Result<Vec<u32>, PlanStop>
+    requires table { IsTableOf net.now source table }
+    requires depths { length depths.old ≡ length net.now.specs + 1 }
+    ensures ok { IfOk result (λ v. AreOrdered net.now source v.items) }
+    ensures stop { IfErr result (λ e. IsLoopStop net.now source e) }
+{
+    if table.has_needs() {
+        ranked(alloc, net, source, &table, depths)
+    } else {
+        let DepTable { members, needs: _ } = table;
+        Ok(members)
+    }
+}
+
+// The outline of the source at this place. The walk is over all numbers, and there is a depth for each; what they hold does not count.
 fn outline_of(
     alloc: Global,
     net: &Net,
     reach: &Reach,
     waits: &Waits,
-    source: Source,
+    at: u32,
+    walk: &mut Walk,
+    depths: &mut [usize],
 ) -> Result<Outline, PlanStop>
     requires reach { AreOrigins net.now reach.now }
     requires waits { AreWaits net.now waits.now }
-    ensures ok { IfOk result (λ o. IsOutline net.now source o) }
-    ensures stop { IfErr result (λ e. IsLoopStop net.now source e) }
+    requires at { at < length (sources_of net.now) }
+    requires count { walk.old.count ≡ length net.now.specs + 1 }
+    requires depths { length depths.old ≡ length net.now.specs + 1 }
+    ensures ok { IfOk result (λ o. IsOutline net.now (source_of net.now at) o) }
+    ensures count { IfOk result (λ o. walk.new.count ≡ length net.now.specs + 1) }
+    ensures stop { IfErr result (λ e. IsLoopStop net.now (source_of net.now at) e) }
 {
     net.well_formed();
-    let possible = possible(alloc, net, reach, source)?;
-    let table = depends(alloc, net, waits, source, &possible)?;
-    match sort(alloc, &table)? {
-        Sorted::Loop(found) => Err(loop_stop(alloc, net, source, &found)),
-        Sorted::Order(order) => {
-            let blocks = in_order(alloc, &table, &order, net.len() as usize + 1)?;
-            Ok(Outline { possible, blocks })
-        }
-    }
+    possible(net, reach, at, walk)?;
+    let table = depends(alloc, net, waits, at, walk)?;
+    let blocks = ordered(alloc, net, net.source(at), table, depths)?;
+    let guards = guards_among(reach, walk, &blocks);
+    Ok(Outline { blocks, guards })
 }
 
 fn keep(outlines: &mut Vec<Outline>, outline: Outline) -> Result<(), AllocError>
@@ -88,9 +137,12 @@ pub fn outlines(
     ensures ok { IfOk result (λ v. AreOutlines net.now (length (sources_of net.now)) v.items) }
     ensures stop { IfErr result (λ e. IsFirstLoopStop net.now e) }
 {
+    net.well_formed();
+    let mut walk = Walk::new(alloc, net.len() as usize + 1)?;
+    let mut depths = vec![in alloc; 0; net.len() as usize + 1]?;
     let mut outlines = Vec::new(alloc);
     for at in 0..net.source_count() {
-        let outline = outline_of(alloc, net, reach, waits, net.source(at))?;
+        let outline = outline_of(alloc, net, reach, waits, at, &mut walk, &mut depths)?;
         keep(&mut outlines, outline)?;
     }
     Ok(outlines)

@@ -25,7 +25,7 @@ pub fn plan(alloc: Global, net: &Net) -> Result<Schedule, PlanStop>
     let reach = origins(alloc, net)?;
     let waits = waits(alloc, net, &reach)?;
     let outlines = outlines(alloc, net, &reach, &waits)?;
-    let size = total(&reach, &outlines);
+    let size = total(&outlines);
     if size > 262144 {
         return Err(length_stop(alloc, size));
     }

@@ -1,80 +1,89 @@
 // The rows of a schedule.
-ghost use Rattle.std.specs.Prelude.{◌≡◌, ◌≤◌, ◌↔◌, IsTrue, length, IfOk};
-ghost use Rattle.sci_net.specs.Sources.{sources_of};
-ghost use Rattle.sci_reaction.specs.Active.{IsAlways};
-ghost use Rattle.sci_reaction.specs.Schedule.{IsEntry, IsRow, IsSchedule};
+ghost use Rattle.std.specs.Prelude.{◌≡◌, ◌≤◌, ◌<◌, ◌+◌, [], All, length, IfOk};
+ghost use Rattle.sci_net.specs.Parts.{IsBlock};
+ghost use Rattle.sci_net.specs.Sources.{sources_of, source_of};
+ghost use Rattle.sci_reaction.specs.Schedule.{IsRow, IsSchedule};
 ghost use Rattle.sci_inherit.specs.Origins.{AreOrigins};
-ghost use Rattle.sci_dep.specs.Tables.{MarkPossible};
-ghost use Rattle.sci_sched.specs.Plain.{entry_of, row_of, lists_of};
+ghost use Rattle.sci_sched.specs.Plain.{row_of, lists_of};
+ghost use Rattle.sci_sched.specs.Marks.{HaveFed, AreSized};
 ghost use Rattle.sci_sched.specs.Outlines.{IsOutline, AreOutlines};
+ghost use Rattle.sci_sched.specs.Rows.{IsMarkedEntry, AreEntries};
 
 use crate::Entry;
-use crate::masks::{guards, source_mask};
+use crate::marks::Marks;
+use crate::masks::guards;
 use crate::outline::Outline;
-use sci_inherit::{Reach, contains};
-use sci_net::{Net, Source};
+use sci_inherit::Reach;
+use sci_net::Net;
 use std::alloc::{AllocError, Global};
 
-// Whether the source activates the block whatever the values are.
-fn is_always(net: &Net, reach: &Reach, source: Source, block: u32) -> bool
-    requires reach { AreOrigins net.now reach.now }
-    requires least { 1 ≤ block }
-    requires most { block ≤ length net.now.specs }
-    ensures { IsTrue result ↔ IsAlways net.now source block }
-{
-    net.well_formed();
-    match source {
-        Source::Start => reach.at_start(block),
-        Source::Port(feed) => contains(reach.of(block), feed),
-    }
-}
-
-// The entry of a possible block.
+// The entry of a possible block of the source that is marked.
 fn entry_for(
     alloc: Global,
     net: &Net,
     reach: &Reach,
-    source: Source,
-    possible: &[bool],
+    marks: &Marks,
     block: u32,
 ) -> Result<Entry, AllocError>
     requires reach { AreOrigins net.now reach.now }
-    requires possible { MarkPossible net.now source possible.now }
+    requires marks { AreSized (length net.now.specs + 1) marks.now }
     requires least { 1 ≤ block }
     requires most { block ≤ length net.now.specs }
     ensures block { IfOk result (λ e. e.block ≡ block) }
-    ensures entry { IfOk result (λ e. IsEntry net.now source (entry_of e)) }
+    ensures entry { IfOk result (λ e. IsMarkedEntry net.now reach.now marks.now e) }
 {
     net.well_formed();
-    let always = is_always(net, reach, source, block);
-    let mask = source_mask(net, source, block);
-    let guards = guards(alloc, net, possible, reach.branches(block), block)?;
+    let guards = guards(alloc, net, &marks.possible, reach.branches(block), block)?;
     Ok(Entry {
         block,
-        always,
-        mask,
+        always: marks.always.has(block),
+        mask: marks.masks[block as usize],
         guards,
     })
 }
 
-// The row of a source.
+// The entries of these blocks.
+fn entries(
+    alloc: Global,
+    net: &Net,
+    reach: &Reach,
+    marks: &Marks,
+    blocks: &[u32],
+) -> Result<Vec<Entry>, AllocError>
+    requires reach { AreOrigins net.now reach.now }
+    requires marks { AreSized (length net.now.specs + 1) marks.now }
+    requires blocks { All (IsBlock net.now) blocks.now }
+    ensures { IfOk result (λ v. AreEntries net.now reach.now marks.now blocks.now v.items) }
+{
+    let mut entries = Vec::with_capacity(alloc, blocks.len())?;
+    for block in blocks {
+        entries.push(entry_for(alloc, net, reach, marks, *block)?)?;
+    }
+    Ok(entries)
+}
+
+// The row of the source at this place. The masks have no bits before and after.
 fn row(
     alloc: Global,
     net: &Net,
     reach: &Reach,
-    source: Source,
+    at: u32,
     outline: &Outline,
+    marks: &mut Marks,
 ) -> Result<Vec<Entry>, AllocError>
     requires reach { AreOrigins net.now reach.now }
-    requires outline { IsOutline net.now source outline.now }
-    ensures { IfOk result (λ v. IsRow net.now source (row_of v.items)) }
+    requires at { at < length (sources_of net.now) }
+    requires outline { IsOutline net.now (source_of net.now at) outline.now }
+    requires sized { AreSized (length net.now.specs + 1) marks.old }
+    requires clear { HaveFed [] marks.old.masks.items }
+    ensures row { IfOk result (λ v. IsRow net.now (source_of net.now at) (row_of v.items)) }
+    ensures sized { IfOk result (λ v. AreSized (length net.now.specs + 1) marks.new) }
+    ensures clear { IfOk result (λ v. HaveFed [] marks.new.masks.items) }
 {
     net.well_formed();
-    let blocks = outline.blocks.as_slice();
-    let mut row = Vec::new(alloc);
-    for block in blocks {
-        row.push(entry_for(alloc, net, reach, source, &outline.possible, *block)?)?;
-    }
+    marks.mark(net, reach, at, &outline.blocks)?;
+    let row = entries(alloc, net, reach, marks, &outline.blocks)?;
+    marks.clear(net, reach, at);
     Ok(row)
 }
 
@@ -89,9 +98,12 @@ pub fn rows(
     requires outlines { AreOutlines net.now (length (sources_of net.now)) outlines.now }
     ensures { IfOk result (λ v. IsSchedule net.now (lists_of v.items)) }
 {
-    let mut rows = Vec::new(alloc);
+    net.well_formed();
+    let mut marks = Marks::new(alloc, net.len() as usize + 1)?;
+    let mut rows = Vec::with_capacity(alloc, outlines.len())?;
     for at in 0..net.source_count() {
-        rows.push(row(alloc, net, reach, net.source(at), &outlines[at as usize])?)?;
+        let outline = &outlines[at as usize];
+        rows.push(row(alloc, net, reach, at, outline, &mut marks)?)?;
     }
     Ok(rows)
 }

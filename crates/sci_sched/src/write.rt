@@ -59,11 +59,33 @@ fn put_end<S: Sink>(guards: &[Guard], out: &mut S) -> Result<(), Failed>
     out.put("\n".as_bytes())
 }
 
-fn put_entry<S: Sink>(entry: &Entry, out: &mut S) -> Result<(), Failed>
+// A line without guards, which takes fewer pieces.
+fn put_alone<S: Sink>(block: u32, always: bool, out: &mut S) -> Result<(), Failed>
+    ensures { Writes (S.state out.old) (S.state out.new) (block_text block always ++ codes "\n") result }
+{
+    if always {
+        put_number(block, " always\n", out)
+    } else {
+        put_number(block, "\n", out)
+    }
+}
+
+// A line with guards.
+fn put_guarded<S: Sink>(entry: &Entry, out: &mut S) -> Result<(), Failed>
     ensures { Writes (S.state out.old) (S.state out.new) (entry_text (entry_of entry.now)) result }
 {
     put_block(entry.block, entry.always, out)?;
     put_end(&entry.guards, out)
+}
+
+fn put_entry<S: Sink>(entry: &Entry, out: &mut S) -> Result<(), Failed>
+    ensures { Writes (S.state out.old) (S.state out.new) (entry_text (entry_of entry.now)) result }
+{
+    if entry.guards.is_empty() {
+        put_alone(entry.block, entry.always, out)
+    } else {
+        put_guarded(entry, out)
+    }
 }
 
 fn put_entries<S: Sink>(row: &[Entry], out: &mut S) -> Result<(), Failed>

@@ -45,7 +45,7 @@ impl Walk {
         ensures steps { self.new.steps ≡ self.old.steps }
         ensures blocks { self.new.blocks ≡ self.old.blocks }
     {
-        let mut seats = Vec::new(alloc);
+        let mut seats = Vec::with_capacity(alloc, d.objs.len())?;
         for obj in &d.objs {
             let Some(seat) = seat_of(obj, self.next) else {
                 return Err(NoRoom);

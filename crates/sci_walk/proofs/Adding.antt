@@ -1,5 +1,5 @@
 -- Lists by number, as they are filled.
-use Rattle.std.proofs.Common.{◌≡◌, ◌≢◌, ◌<◌, ◌≤◌, ◌+◌, ℕ, zero, suc, List, [], ◌∷◌, ◌++◌, length, Vec, ◌⊎◌, ◌↔◌, inl, inr, refl, sym, ap, ◌∙◌, subst, arith, get_or, get_or-set_same, get_or-set_other, length-set}
+use Rattle.std.proofs.Common.{◌≡◌, ◌≢◌, ◌<◌, ℕ, zero, suc, List, [], ◌∷◌, ◌++◌, length, Vec, ◌⊎◌, ◌↔◌, inl, inr, refl, sym, ap, ◌∙◌, subst, arith, get_or, get_or-set_same, get_or-set_other, length-set}
 use Rattle.std.proofs.Math.ListN.{set, replicate}
 use Rattle.std.specs.Prelude.{Contains}
 use Rattle.std.specs.declared.alloc.Global.{Global}
@@ -15,6 +15,12 @@ plain-set {X} vs i old new x h is e =
     map-set (λ (v : Vec X Global). v.items) vs i new
     ∙ ap (λ (l : List X). set (plain vs) i l)
     (e ∙ ap (λ (l : List X). l ++ x ∷ []) (sym (get_or-map (λ (v : Vec X Global). v.items) vs i old [] h ∙ ap (λ (v : Vec X Global). v.items) (sym is))))
+
+-- the list at i stays
+pub plain-set_same : {X : Type 0} (vs : List (Vec X Global)) (i : ℕ) (old new : Vec X Global) → i < length vs → old ≡ get_or vs i old → new.items ≡ old.items → plain (set vs i new) ≡ plain vs
+plain-set_same [] i old new h is e = absurd (omega arith)
+plain-set_same (v ∷ vs) zero old new h is e = ap (λ l. l ∷ plain vs) (e ∙ ap (λ w. w.items) is)
+plain-set_same (v ∷ vs) (suc i) old new h is e = ap (λ ls. v.items ∷ ls) (plain-set_same vs i old new (omega arith) is e)
 
 -- a list of lists at a place
 pub list_at-plain : {X : Type 0} (vs : List (Vec X Global)) (i : ℕ) (v : Vec X Global) → i < length vs → v ≡ get_or vs i v → list_at (plain vs) i ≡ v.items

@@ -1,8 +1,14 @@
--- What a walk has come to.
-use Rattle.std.specs.Prelude.{◌≡◌, ℕ, ◌+◌, ◌⊎◌, Bool, true, false, List, [], ◌∷◌, ◌++◌, length, Contains, slice_index_or, slice_set, if◌then◌else◌}
-use Rattle.sci_walk.specs.declared.walk.Walk.{Walk}
+-- What a walk has found, and what it has come to.
+use Rattle.std.specs.Prelude.{◌≡◌, ℕ, ◌+◌, ◌≤◌, ◌⊎◌, ◌↔◌, Bool, true, false, List, [], ◌∷◌, ◌++◌, length, take, Contains, slice_index_or, nat_eq, if◌then◌else◌}
+use Rattle.std.specs.List.{IsDistinct}
 use Rattle.sci_walk.specs.Lists.{list_at}
 use Rattle.sci_walk.specs.Reached.{IsReached}
+
+-- numbers from 0 on, and which of them were found
+pub record Found : Type 0 where
+  pub count : ℕ
+  -- each once
+  pub found : List ℕ
 
 abbrev pub IsMarked : List Bool → ℕ → Type 0
 IsMarked marks p = slice_index_or marks p false ≡ true
@@ -15,26 +21,23 @@ abbrev pub unmarked : List Bool → ℕ
 unmarked [] = 0
 unmarked (b ∷ bs) = one_not b + unmarked bs
 
--- a number that had no mark gets it, and is pending
-pub record Enters (p : ℕ) (old new : Walk) : Type 0 where
-  pub marks : new.marks.items ≡ slice_set old.marks.items p true
-  pub pending : new.pending.items ≡ old.pending.items ++ p ∷ []
+-- the marks are those of what was found
+pub record AreMarks (marks : List Bool) (found : List ℕ) : Type 0 where
+  pub exactly : (q : ℕ) → IsMarked marks q ↔ Contains found q
+  pub distinct : IsDistinct nat_eq found
+  pub sum : unmarked marks + length found ≡ length marks
 
--- what entering these numbers does
-pub record Visits (ps : List ℕ) (old new : Walk) : Type 0 where
-  pub long : length new.marks.items ≡ length old.marks.items
-  pub from : (q : ℕ) → IsMarked new.marks.items q → IsMarked old.marks.items q ⊎ Contains ps q
-  pub all : (q : ℕ) → Contains ps q → IsMarked new.marks.items q
-  pub kept : (q : ℕ) → IsMarked old.marks.items q → IsMarked new.marks.items q
-  pub waits : (q : ℕ) → IsMarked new.marks.items q → IsMarked old.marks.items q ⊎ Contains new.pending.items q
-  pub pending_kept : (q : ℕ) → Contains old.pending.items q → Contains new.pending.items q
-  pub pending_from : (q : ℕ) → Contains new.pending.items q → Contains old.pending.items q ⊎ IsMarked new.marks.items q
-  pub count : unmarked new.marks.items + length new.pending.items ≡ unmarked old.marks.items + length old.pending.items
+-- what adding these numbers does
+pub record AddsNumbers (numbers : List ℕ) (old new : Found) : Type 0 where
+  pub count : new.count ≡ old.count
+  pub more : List ℕ
+  pub found : new.found ≡ old.found ++ more
+  pub exactly : (q : ℕ) → Contains new.found q ↔ (Contains old.found q ⊎ Contains numbers q)
 
--- what a walk from the starts has come to
-pub record Walking (ls : List (List ℕ)) (starts : List ℕ) (n : ℕ) (w : Walk) : Type 0 where
-  pub long : length w.marks.items ≡ n
-  pub sound : (q : ℕ) → IsMarked w.marks.items q → IsReached ls starts q
-  pub begun : (q : ℕ) → Contains starts q → IsMarked w.marks.items q
-  pub pending_in : (q : ℕ) → Contains w.pending.items q → IsMarked w.marks.items q
-  pub goes_on : (q r : ℕ) → IsMarked w.marks.items q → Contains (list_at ls q) r → IsMarked w.marks.items r ⊎ Contains w.pending.items q
+-- what a walk from the starts has come to that went on from the first numbers that it found
+pub record Walking (ls : List (List ℕ)) (starts : List ℕ) (n at : ℕ) (f : Found) : Type 0 where
+  pub count : f.count ≡ n
+  pub done : at ≤ length f.found
+  pub sound : (q : ℕ) → Contains f.found q → IsReached ls starts q
+  pub begun : (q : ℕ) → Contains starts q → Contains f.found q
+  pub goes_on : (p q : ℕ) → Contains (take at f.found) p → Contains (list_at ls p) q → Contains f.found q

@@ -5,11 +5,11 @@ mod lists;
 mod walk;
 
 pub use lists::{empty_lists, push_at};
-pub use walk::reached;
+pub use walk::{Walk, reached};
 
 #[cfg(test)]
 mod tests {
-    use super::{empty_lists, push_at, reached};
+    use super::{Walk, empty_lists, push_at, reached};
     use std::test::Fail;
 
     // 1 leads to 2, 2 to 4, 4 back to 2, and 3 to 1.
@@ -30,6 +30,29 @@ mod tests {
         ];
         let marks = reached(rt.alloc(), &table, &[2])?;
         assert_eq!(rt; marks.as_slice(), [false, true, true, false].as_slice());
+        Ok(())
+    }
+
+    // The same numbers, walked over twice: from 3 to 1 and 2, and then from 0 and from 2.
+    #[test]
+    fn a_walk_after_another(rt: HostRuntime) -> Result<(), Fail> {
+        let table = [
+            vec![in rt.alloc(); 0]?,
+            vec![in rt.alloc(); 2]?,
+            vec![in rt.alloc(); 1, 2]?,
+            vec![in rt.alloc(); 1, 1]?,
+        ];
+        let mut walk = Walk::new(rt.alloc(), 4)?;
+        walk.walk(&table, &[3])?;
+        assert_eq!(rt; walk.found(), [3, 1, 2].as_slice());
+        walk.walk(&table, &[0, 0])?;
+        assert_eq!(rt; walk.found(), [0].as_slice());
+        assert_eq!(rt; walk.has(3), false);
+        walk.grow()?;
+        walk.add(4)?;
+        assert_eq!(rt; walk.has(4), true);
+        walk.forget();
+        assert_eq!(rt; walk.found().len(), 0);
         Ok(())
     }
 }

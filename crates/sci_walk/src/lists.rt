@@ -1,5 +1,5 @@
 // Lists by number.
-ghost use Rattle.std.specs.Prelude.{◌≡◌, ℕ, ◌<◌, [], ◌∷◌, ◌++◌, IfOk, OnOk, vec_len, replicate, slice_set};
+ghost use Rattle.std.specs.Prelude.{◌≡◌, ℕ, ◌<◌, [], ◌∷◌, ◌++◌, IfOk, OnOk, OnErr, vec_len, replicate, slice_set};
 ghost use Rattle.sci_walk.specs.Lists.{plain, list_at};
 
 use std::alloc::{AllocError, Global};
@@ -16,11 +16,12 @@ pub fn empty_lists<T: Drop>(alloc: Global, count: usize) -> Result<Vec<Vec<T>>, 
     Ok(lists)
 }
 
-/// Puts an item at the end of a list.
+/// Puts an item at the end of a list. An error leaves the lists as they were.
 pub fn push_at<T: Drop>(lists: &mut Vec<Vec<T>>, at: usize, item: T) -> Result<(), AllocError>
     requires { at < vec_len lists.old }
     ensures lists { OnOk result (plain lists.new.items
         ≡ slice_set (plain lists.old.items) at (list_at (plain lists.old.items) at ++ item ∷ [])) }
+    ensures err { OnErr result (plain lists.new.items ≡ plain lists.old.items) }
     ensures len { OnOk result (vec_len lists.new ≡ vec_len lists.old) }
 {
     lists[at].push(item)?;

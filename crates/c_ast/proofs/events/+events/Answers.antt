@@ -1,4 +1,4 @@
-use Rattle.std.proofs.Common.{arith, ap, ◌∙◌, sym, ◌-◌, ◌+◌, length}
+use Rattle.std.proofs.Common.{arith, ap}
 use Rattle.std.proofs.lemmas.Result.{on_ok_weaker}
 use Rattle.c_ast.proofs.Sizes.{sizes_of, choice_sizes, loop_sizes, item_size}
 use Rattle.c_ast.proofs.Listing.{if_listed, for_listed}

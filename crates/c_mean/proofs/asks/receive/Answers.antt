@@ -11,9 +11,9 @@ pub returns : goal.returns
 returns c =
     let rest : Column = record { left = c.in-Some-split_first.rest } in
     let blank : Column = record { left = record { ref_ptr = (0, 0); now = [] } } in
-    let fits : SFits w64 c.in-Some.k = search rules in
-    let fits_value : SFits w64 c.in-Some-split_first.v.now = search rules in
-    let here = rw (to_z-of_z w64 c.in-Some.k fits) at c.place.ensures in
-    let given = rw (to_z-of_z w64 c.in-Some-split_first.v.now fits_value) at (rw c.if-not-give.false at c.give.ensures) in
-    received_is (place_of c.args.target.now) (exp_of c.args.e.now) c.args.memory.now c.give.new.memory c.args.columns.now c.in-Some.k c.in-Some-place.i c.in-Some-split_first.v.now rest blank rest
+    let fits : SFits w64 c.in-Some.number = search rules in
+    let fits_value : SFits w64 c.in-Some-split_first.value.now = search rules in
+    let here = rw (to_z-of_z w64 c.in-Some.number fits) at c.place.ensures in
+    let given = rw (to_z-of_z w64 c.in-Some-split_first.value.now fits_value) at (rw c.if-not-give.false at c.give.ensures) in
+    received_is (place_of c.args.target.now) (exp_of c.args.column.now) c.args.memory.now c.give.new.memory c.args.columns.now c.in-Some.number c.in-Some-place.i c.in-Some-split_first.value.now rest blank rest
     (sym c.eval.ensures ∙ c.in-Some.is) (sym here ∙ c.in-Some-place.is) (omega arith) c.in-Some-split_first.ensures.cases.0 (sym given) refl

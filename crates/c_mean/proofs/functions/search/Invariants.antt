@@ -3,4 +3,4 @@ use Rattle.c_mean.specs.Calls.{latest}
 use Rattle.c_mean.proofs.functions.search.Given as goal
 
 abbrev pub invariant-loop-k : goal.invariant-loop-k
-invariant-loop-k l = latest l.f l.k l.routines ≡ latest l.f l.fn.from l.routines
+invariant-loop-k l = latest l.name l.k l.routines ≡ latest l.name l.fn.from l.routines

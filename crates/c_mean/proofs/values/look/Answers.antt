@@ -11,7 +11,7 @@ use Rattle.c_mean.proofs.values.look.Goals as goal
 pub returns-in-None : goal.returns-in-None
 returns-in-None c =
     let cells = c.args.memory.now.cells.items in
-    sym (lookup_is (map declared_of c.args.memory.now.decls.now) cells c.args.x c.args.i ∙ ap (λ (o : Option ℕ). o >>= slice_get cells) (sym c.place.ensures.value ∙ c.in-None.is))
+    sym (lookup_is (map declared_of c.args.memory.now.decls.now) cells c.args.name c.args.index ∙ ap (λ (o : Option ℕ). o >>= slice_get cells) (sym c.place.ensures.value ∙ c.in-None.is))
 
 pub returns-in-Some : goal.returns-in-Some
 returns-in-Some c =
@@ -19,4 +19,4 @@ returns-in-Some c =
     let fits : SFits w64 c.index.result.now = search rules in
     ap Some (to_z-of_z w64 c.index.result.now fits ∙ c.index.ensures)
     ∙ get_here cells c.in-Some.k c.index.result.now c.in-Some.ensures.within
-    ∙ sym (lookup_is (map declared_of c.args.memory.now.decls.now) cells c.args.x c.args.i ∙ ap (λ (o : Option ℕ). o >>= slice_get cells) (sym c.place.ensures.value ∙ c.in-Some.is))
+    ∙ sym (lookup_is (map declared_of c.args.memory.now.decls.now) cells c.args.name c.args.index ∙ ap (λ (o : Option ℕ). o >>= slice_get cells) (sym c.place.ensures.value ∙ c.in-Some.is))

@@ -12,11 +12,11 @@ pub returns-in-None : goal.returns-in-None
 returns-in-None c =
     let ds = map declared_of c.args.memory.now.decls.now in
     let cells = c.args.memory.now.cells.items in
-    sym (store_is ds cells c.args.x c.args.i c.args.v ∙ ap (λ (o : Option ℕ). o >>= λ k. Some (cut ds (slice_set cells k c.args.v))) (sym c.place.ensures.value ∙ c.in-None.is))
+    sym (store_is ds cells c.args.name c.args.index c.args.value ∙ ap (λ (o : Option ℕ). o >>= λ k. Some (cut ds (slice_set cells k c.args.value))) (sym c.place.ensures.value ∙ c.in-None.is))
 
 pub returns-in-Some : goal.returns-in-Some
 returns-in-Some c =
     let ds = map declared_of c.args.memory.now.decls.now in
     let cells = c.args.memory.now.cells.items in
-    ap (λ (z : ℤ). Some (cut ds (slice_set cells c.in-Some.k z))) (to_z-of_z w64 c.args.v c.ranges.v)
-    ∙ sym (store_is ds cells c.args.x c.args.i c.args.v ∙ ap (λ (o : Option ℕ). o >>= λ k. Some (cut ds (slice_set cells k c.args.v))) (sym c.place.ensures.value ∙ c.in-Some.is))
+    ap (λ (z : ℤ). Some (cut ds (slice_set cells c.in-Some.k z))) (to_z-of_z w64 c.args.value c.ranges.value)
+    ∙ sym (store_is ds cells c.args.name c.args.index c.args.value ∙ ap (λ (o : Option ℕ). o >>= λ k. Some (cut ds (slice_set cells k c.args.value))) (sym c.place.ensures.value ∙ c.in-Some.is))

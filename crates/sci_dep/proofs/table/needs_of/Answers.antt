@@ -1,19 +1,20 @@
-use Rattle.std.proofs.Common.{◌∙◌, ℕ, ◌<◌, ◌++◌, List, ◌∷◌, [], ap, sym, length, get_or}
-use Rattle.std.specs.Prelude.{filter}
-use Rattle.std.proofs.lemmas.List.{take_all}
-use Rattle.std.proofs.lemmas.List.Elements.{All-get_or, filter_more}
-use Rattle.sci_dep.specs.Building.{is_marked}
+use Rattle.std.proofs.Common.{◌∙◌, ℕ, ◌+◌, sym, subst, take, true≢false, Vec}
+use Rattle.std.specs.declared.alloc.Global.{Global}
+use Rattle.sci_dep.specs.Building.{KeepsFound}
+use Rattle.sci_dep.proofs.Tabled.{keeps_more, keeps_other}
 use Rattle.sci_dep.proofs.table.needs_of.Goals as goal
-
-pub push_possible-requires : goal.push_possible-requires
-push_possible-requires c = All-get_or (λ (b : ℕ). b < length c.args.possible.now) c.args.blocks.now c.loop-block.block-index 0 c.loop-block-test.true c.requires
+use Rattle.sci_dep.proofs.table.needs_of.Goals.{then-has+in_ok-push, else-has}
 
 pub loop-block-preserved : goal.loop-block-preserved
 loop-block-preserved c =
-    let p = is_marked c.args.possible.now in
+    let found = c.args.walk.now.found in
+    let blocks = c.args.blocks.now in
     let i = c.loop-block.block-index in
-    let more = filter_more p c.args.blocks.now i 0 c.loop-block-test.true in
-    c.in_ok-push_possible.ensures ∙ (ap (λ (l : List ℕ). l ++ filter p (get_or c.args.blocks.now i 0 ∷ [])) c.loop-block.invariant ∙ sym more)
-
-pub returns : goal.returns
-returns c = c.loop-block.invariant ∙ ap (filter (is_marked c.args.possible.now)) (take_all c.loop-block.block-index c.args.blocks.now c.loop-block-test.false)
+    elim c.if-has.branch [
+      | then-has+in_ok-push w ↦
+          subst (λ (v : Vec ℕ Global). KeepsFound found (take (i + 1) blocks) v.items) (sym w.needs-is)
+          (keeps_more found blocks c.loop-block.needs.items w.push.new.self.items i c.requires.rising c.loop-block-test.true (c.has.ensures.0 w.if-has.true) w.in_ok-push.ensures.items c.loop-block.invariant)
+      | else-has w ↦
+          subst (λ (v : Vec ℕ Global). KeepsFound found (take (i + 1) blocks) v.items) (sym w.needs-is)
+          (keeps_other found blocks c.loop-block.needs.items i c.loop-block-test.true (λ h. true≢false (sym (c.has.ensures.1 h) ∙ w.if-has.false)) c.loop-block.invariant)
+    ]

@@ -8,8 +8,8 @@ loop-branch-init c = subst (AreBlocksOf (take 0 c.args.branches.now)) (sym c.new
 
 pub loop-branch-preserved : goal.loop-branch-preserved
 loop-branch-preserved c =
-    blocks_next c.args.branches.now c.loop-branch.branch-index (record { block = 0; port = 0 }) c.loop-branch.blocks.items c.push.new.self.items c.loop-branch-test.true
-    c.in_ok-push.ensures.items c.loop-branch.invariant
+    blocks_next c.args.branches.now c.loop-branch.branch-index (record { block = 0; port = 0 }) c.loop-branch.blocks.items c.push_other.new.blocks.items c.loop-branch-test.true
+    c.in_ok-push_other.ensures c.loop-branch.invariant
 
 pub returns : goal.returns
 returns c = blocks_all c.args.branches.now c.loop-branch.branch-index c.loop-branch.blocks.items c.loop-branch-test.false c.loop-branch.invariant

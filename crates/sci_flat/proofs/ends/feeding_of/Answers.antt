@@ -1,5 +1,6 @@
 use Rattle.std.proofs.Common.{◌≡◌, ◌∙◌, ℕ, ◌<◌, List, length, ap, sym, subst}
 use Rattle.std.specs.Prelude.{All}
+use Rattle.sci_reach.specs.Successors.{AreSuccessors}
 use Rattle.sci_flat.proofs.Reaching.{numbers_within, are_feeding, marks_at}
 use Rattle.sci_flat.proofs.ends.feeding_of.Goals as goal
 
@@ -16,6 +17,12 @@ reached-requires-clause-sources c =
     let P : List ℕ → Type 0 = All (λ n. n < c.args.ports) in
     let Q : ℕ → Type 0 = λ m. All (λ n. n < m) c.deref-2.result.now in
     subst Q (sym long) (subst P (sym is) (numbers_within c.args.ports c.args.from c.args.seats.now c.requires.inside))
+
+pub reached-requires-clause-successors : goal.reached-requires-clause-successors
+reached-requires-clause-successors c =
+    let long : length c.deref-3.result.now ≡ c.args.ports = ap length c.deref-3.ensures.value ∙ c.in_ok-wanted.ensures.long in
+    let P : ℕ → Type 0 = λ m. AreSuccessors c.args.steps.now m c.args.successors.now in
+    subst P (sym long) c.requires.successors
 
 pub returns : goal.returns
 returns c =

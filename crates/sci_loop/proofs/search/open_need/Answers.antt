@@ -1,31 +1,37 @@
-use Rattle.std.proofs.Common.{subst, sym}
-use Rattle.std.specs.List.Sorted.{IsStrictlyIncreasing}
-use Rattle.sci_loop.proofs.Places.{closed_at, seen_at, some_open, some_seen, none_met}
+use Rattle.std.proofs.Common.{ℕ, ◌<◌, length, get_or, refl, sym, subst, below_more}
+use Rattle.sci_loop.specs.Progress.{IsSettled}
+use Rattle.sci_loop.proofs.Places.{need_listed, need_open, need_settled, to_seen, all_met}
 use Rattle.sci_loop.proofs.search.open_need.Goals as goal
 
-pub open_need_from-requires-clause-rising : goal.open_need_from-requires-clause-rising
-open_need_from-requires-clause-rising c = subst IsStrictlyIncreasing (sym c.deref.ensures.value) c.requires.table.rising
+pub bounds-places-needs : goal.bounds-places-needs
+bounds-places-needs c =
+    (need_listed c.args.table.now c.args.at c.loop-index.index c.index.result.now c.args.places.now c.as_slice-needs.result.now c.requires.table c.requires.places c.requires.within c.index.ensures
+    c.as_slice-needs.ensures.value c.loop-index-test.true).0
 
-pub open_need_from-requires-clause-members : goal.open_need_from-requires-clause-members
-open_need_from-requires-clause-members c =
-    closed_at c.args.table.now c.args.at c.index.result.now c.deref.result.now c.deref-2.result.now c.requires.table c.requires.within c.index.ensures c.deref.ensures.value c.deref-2.ensures.value
+pub bounds-settled-place : goal.bounds-settled-place
+bounds-settled-place c =
+    subst (λ n. get_or c.args.places.now (get_or c.as_slice-needs.result.now c.loop-index.index 0) 0 < n) (sym c.requires.settled)
+    (need_listed c.args.table.now c.args.at c.loop-index.index c.index.result.now c.args.places.now c.as_slice-needs.result.now c.requires.table c.requires.places c.requires.within c.index.ensures
+    c.as_slice-needs.ensures.value c.loop-index-test.true).1
 
-pub open_need_from-requires-clause-seen : goal.open_need_from-requires-clause-seen
-open_need_from-requires-clause-seen c =
-    seen_at c.args.table.now c.args.settled.now c.args.at c.args.from c.index.result.now c.deref.result.now c.deref-2.result.now c.requires.table c.requires.within c.index.ensures
-    c.deref.ensures.value c.deref-2.ensures.value c.requires.seen
+pub returns-then-not-settled-place-clause-some : goal.returns-then-not-settled-place-clause-some
+returns-then-not-settled-place-clause-some c =
+    need_open c.args.table.now c.args.settled.now c.args.at c.loop-index.index c.index.result.now c.args.places.now c.as_slice-needs.result.now c.requires.table c.requires.places c.requires.within
+    c.index.ensures c.as_slice-needs.ensures.value c.loop-index-test.true c.if-not-settled-place.true
 
-pub returns-clause-some : goal.returns-clause-some
-returns-clause-some c =
-    some_open c.args.table.now c.args.settled.now c.args.at c.index.result.now c.deref.result.now c.deref-2.result.now c.open_need_from.result c.requires.table c.requires.within c.index.ensures
-    c.deref.ensures.value c.deref-2.ensures.value c.open_need_from.ensures.within c.open_need_from.ensures.off c.open_need_from.ensures.needed
+pub returns-then-not-settled-place-clause-seen : goal.returns-then-not-settled-place-clause-seen
+returns-then-not-settled-place-clause-seen c =
+    to_seen c.args.table.now c.args.settled.now c.args.at c.loop-index.index c.index.result.now c.args.table.now.members.items c.as_slice-needs.result.now c.requires.table c.requires.within
+    c.index.ensures refl c.as_slice-needs.ensures.value c.loop-index.invariant
 
-pub returns-clause-seen : goal.returns-clause-seen
-returns-clause-seen c =
-    some_seen c.args.table.now c.args.settled.now c.args.at c.index.result.now c.deref.result.now c.deref-2.result.now c.open_need_from.result c.requires.table c.requires.within c.index.ensures
-    c.deref.ensures.value c.deref-2.ensures.value c.open_need_from.ensures.seen
+pub loop-index-preserved : goal.loop-index-preserved
+loop-index-preserved c =
+    let P : ℕ → Type 0 = λ m. m < length c.as_slice-needs.result.now → IsSettled c.args.table.now.members.items c.args.settled.now (get_or c.as_slice-needs.result.now m 0) in
+    below_more P _ c.loop-index.invariant
+    (λ h. need_settled c.args.table.now c.args.settled.now c.args.at c.loop-index.index c.index.result.now c.args.places.now c.as_slice-needs.result.now c.requires.table c.requires.places
+    c.requires.within c.index.ensures c.as_slice-needs.ensures.value h c.if-not-settled-place.false)
 
 pub returns-clause-none : goal.returns-clause-none
 returns-clause-none c =
-    none_met c.args.table.now c.args.settled.now c.args.at c.index.result.now c.deref.result.now c.deref-2.result.now c.open_need_from.result c.requires.table c.requires.within c.index.ensures
-    c.deref.ensures.value c.deref-2.ensures.value c.open_need_from.ensures.none
+    all_met c.args.table.now c.args.settled.now c.args.at c.loop-index.index c.index.result.now c.as_slice-needs.result.now c.requires.table c.requires.within c.index.ensures
+    c.as_slice-needs.ensures.value c.loop-index-test.false c.loop-index.invariant

@@ -1,36 +1,21 @@
-use Rattle.std.proofs.Common.{◌≤◌, ◌+◌, length, get_or, ap, subst, sym}
-use Rattle.sci_sched.specs.Answer.{loop_violation, Tells}
-use Rattle.sci_sched.proofs.Outlining.{sorted_loop, sorted_order, loop_source, loop_block, loop_told, below_size, outline_is}
+use Rattle.std.proofs.Common.{refl, subst, sym, ap, ◌∙◌}
+use Rattle.std.specs.List.{sum_by}
+use Rattle.sci_net.specs.Sources.{source_of}
+use Rattle.sci_sched.specs.Outlines.{AreOrdered, AreCounted, guards_at}
+use Rattle.sci_sched.proofs.Sized.{are_counted, outline_is}
 use Rattle.sci_sched.proofs.outline.outline_of.Goals as goal
 
-pub loop_stop-requires-clause-least : goal.loop_stop-requires-clause-least
-loop_stop-requires-clause-least c =
-    let t = c.in_ok-table.table in let n = c.args.net.now in let s = c.args.source in
-    let h = sorted_loop t c.in_ok-found.field-0 c.in-Loop.found c.in-Loop.is c.in_ok-found.ensures in
-    let b = loop_block n s c.in-Loop.found.items (loop_source n s t c.in_ok-table.ensures.needs c.in-Loop.found.items h.0) in
-    subst (λ xs. 1 ≤ get_or xs 0 0) (sym c.deref-in-Loop.ensures.value) b.least
+pub guards_among-guards-requires : goal.guards_among-guards-requires
+guards_among-guards-requires c =
+    let n = c.args.net.now in let s = source_of n c.args.at in let bs = c.in_ok-blocks.blocks.items in
+    let is : AreOrdered n s bs = subst (λ v. AreOrdered n v bs) c.source.ensures c.in_ok-blocks.ensures.ok in
+    subst (AreCounted c.args.reach.now c.possible.new.walk) (sym c.deref.ensures.value)
+    (are_counted n c.well_formed-2.ensures s bs is c.args.reach.now c.requires.reach c.possible.new.walk c.in_ok-possible.ensures.possible (c.possible.ensures.count ∙ c.requires.count))
 
-pub loop_stop-requires-clause-most : goal.loop_stop-requires-clause-most
-loop_stop-requires-clause-most c =
-    let t = c.in_ok-table.table in let n = c.args.net.now in let s = c.args.source in
-    let h = sorted_loop t c.in_ok-found.field-0 c.in-Loop.found c.in-Loop.is c.in_ok-found.ensures in
-    let b = loop_block n s c.in-Loop.found.items (loop_source n s t c.in_ok-table.ensures.needs c.in-Loop.found.items h.0) in
-    subst (λ xs. get_or xs 0 0 ≤ length n.specs) (sym c.deref-in-Loop.ensures.value) b.most
-
-pub in_order-requires-clause-below : goal.in_order-requires-clause-below
-in_order-requires-clause-below c =
-    below_size c.in_ok-table.table c.args.net.now c.args.source (c.len.result + 1) c.in_ok-table.ensures.members c.well_formed-2.ensures.wired (ap (λ m. m + 1) c.len.ensures)
-
-pub returns-in-Loop-clause-stop : goal.returns-in-Loop-clause-stop
-returns-in-Loop-clause-stop c =
-    let t = c.in_ok-table.table in let n = c.args.net.now in let s = c.args.source in
-    let h = sorted_loop t c.in_ok-found.field-0 c.in-Loop.found c.in-Loop.is c.in_ok-found.ensures in
-    loop_told n s c.in-Loop.found.items c.loop_stop.result (loop_source n s t c.in_ok-table.ensures.needs c.in-Loop.found.items h.0) h.1
-    (subst (λ xs. Tells (loop_violation n s xs) c.loop_stop.result) c.deref-in-Loop.ensures.value c.loop_stop.ensures)
-
-pub returns-in_ok-blocks-in-Order-clause-ok : goal.returns-in_ok-blocks-in-Order-clause-ok
-returns-in_ok-blocks-in-Order-clause-ok c =
-    let t = c.in_ok-table.table in
-    let h = sorted_order t c.in_ok-found.field-0 c.in-Order.order c.in-Order.is c.in_ok-found.ensures in
-    outline_is c.args.net.now c.args.source t (record { possible = c.in_ok-possible.possible; blocks = c.in_ok-blocks-in-Order.blocks }) c.in_ok-table.ensures h.0 c.in_ok-possible.ensures
-    c.in_ok-blocks-in-Order.ensures.exactly c.in_ok-blocks-in-Order.ensures.ordered
+pub returns-clause-ok : goal.returns-clause-ok
+returns-clause-ok c =
+    let n = c.args.net.now in let s = source_of n c.args.at in let bs = c.in_ok-blocks.blocks.items in
+    let is : AreOrdered n s bs = subst (λ v. AreOrdered n v bs) c.source.ensures c.in_ok-blocks.ensures.ok in
+    outline_is n c.well_formed-2.ensures s bs is c.args.reach.now c.requires.reach c.possible.new.walk c.in_ok-possible.ensures.possible
+    (record { blocks = c.in_ok-blocks.blocks; guards = c.guards_among-guards.result }) refl
+    (c.guards_among-guards.ensures ∙ ap (λ xs. sum_by (guards_at c.args.reach.now c.possible.new.walk.found) xs) c.deref.ensures.value)

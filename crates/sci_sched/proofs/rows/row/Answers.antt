@@ -1,34 +1,18 @@
-use Rattle.std.proofs.Common.{take, get_or, Contains, subst, subst₂, sym}
-use Rattle.std.proofs.lemmas.List.{get_or_default, take_more, take_all}
-use Rattle.sci_dep.specs.Tables.{MarkPossible}
-use Rattle.sci_reaction.proofs.Spreading.{Spread-block}
+use Rattle.std.proofs.Common.{All, subst, sym}
+use Rattle.sci_net.specs.Parts.{IsBlock}
+use Rattle.sci_net.specs.Sources.{source_of}
 use Rattle.sci_sched.specs.Rows.{AreEntries}
-use Rattle.sci_sched.proofs.Building.{entries_more, row_is}
+use Rattle.sci_sched.proofs.Building.{row_is}
+use Rattle.sci_sched.proofs.Marking.{possible_blocks}
 use Rattle.sci_sched.proofs.rows.row.Goals as goal
 
-pub entry_for-requires-clause-possible : goal.entry_for-requires-clause-possible
-entry_for-requires-clause-possible c = subst (MarkPossible c.args.net.now c.args.source) (sym c.deref.ensures.value) c.requires.outline.possible
+pub entries-requires-clause-blocks : goal.entries-requires-clause-blocks
+entries-requires-clause-blocks c =
+    let n = c.args.net.now in
+    subst (All (IsBlock n)) (sym c.deref-2.ensures.value) (possible_blocks n (source_of n c.args.at) c.args.outline.now.blocks.items c.requires.outline.blocks.exactly)
 
-pub entry_for-requires-clause-least : goal.entry_for-requires-clause-least
-entry_for-requires-clause-least c =
-    let blocks = c.as_slice-blocks.result.now in let i = c.loop-block.block-index in let b = get_or blocks i 0 in
-    (Spread-block c.args.net.now c.args.source _ ((c.requires.outline.exactly b).0 (subst (λ xs. Contains xs b) c.as_slice-blocks.ensures.value (i, c.loop-block-test.true, get_or_default blocks i b 0 c.loop-block-test.true)))).least
-
-pub entry_for-requires-clause-most : goal.entry_for-requires-clause-most
-entry_for-requires-clause-most c =
-    let blocks = c.as_slice-blocks.result.now in let i = c.loop-block.block-index in let b = get_or blocks i 0 in
-    (Spread-block c.args.net.now c.args.source _ ((c.requires.outline.exactly b).0 (subst (λ xs. Contains xs b) c.as_slice-blocks.ensures.value (i, c.loop-block-test.true, get_or_default blocks i b 0 c.loop-block-test.true)))).most
-
-pub loop-block-preserved : goal.loop-block-preserved
-loop-block-preserved c =
-    let n = c.args.net.now in let s = c.args.source in
-    let blocks = c.as_slice-blocks.result.now in let i = c.loop-block.block-index in let b = get_or blocks i 0 in
-    subst₂ (λ bs es. AreEntries n s bs es) (sym (take_more blocks i 0 c.loop-block-test.true)) (sym c.in_ok-push.ensures.items)
-    (entries_more n s (take i blocks) c.loop-block.row.items b c.in_ok-entry_for.field-0 c.loop-block.invariant c.in_ok-entry_for.ensures.block c.in_ok-entry_for.ensures.entry)
-
-pub returns : goal.returns
-returns c =
-    let n = c.args.net.now in let s = c.args.source in
-    let blocks = c.as_slice-blocks.result.now in
-    row_is n s c.args.outline.now blocks c.loop-block.row.items c.requires.outline c.as_slice-blocks.ensures.value
-    (subst (λ bs. AreEntries n s bs c.loop-block.row.items) (take_all c.loop-block.block-index blocks c.loop-block-test.false) c.loop-block.invariant)
+pub returns-clause-row : goal.returns-clause-row
+returns-clause-row c =
+    let n = c.args.net.now in let r = c.args.reach.now in let es = c.in_ok-row.row.items in
+    row_is n r (source_of n c.args.at) c.mark.new.self c.args.outline.now.blocks.items es c.requires.reach c.in_ok-mark.ensures.marks c.requires.outline.blocks
+    (subst (λ bs. AreEntries n r c.mark.new.self bs es) c.deref-2.ensures.value c.in_ok-row.ensures)

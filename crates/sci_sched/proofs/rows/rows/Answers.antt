@@ -1,9 +1,8 @@
-use Rattle.std.proofs.Common.{◌<◌, ◌+◌, ◌≡◌, List, length, Vec, subst, subst₂, sym, arith}
+use Rattle.std.proofs.Common.{◌<◌, ◌+◌, ◌≡◌, List, length, Vec, subst, sym, arith}
 use Rattle.std.specs.declared.alloc.Global.{Global}
-use Rattle.sci_net.specs.Sources.{sources_of}
-use Rattle.sci_reaction.specs.Schedule.{IsRow}
+use Rattle.sci_net.specs.Sources.{sources_of, source_of}
 use Rattle.sci_sched.specs.declared.schedule.Entry.{Entry}
-use Rattle.sci_sched.specs.Plain.{row_of, lists_of}
+use Rattle.sci_sched.specs.Plain.{lists_of}
 use Rattle.sci_sched.specs.Outlines.{IsOutline}
 use Rattle.sci_sched.specs.Rows.{AreRows}
 use Rattle.sci_sched.proofs.Building.{rows_more, rows_are}
@@ -13,17 +12,19 @@ pub row-requires-clause-outline : goal.row-requires-clause-outline
 row-requires-clause-outline c =
     let n = c.args.net.now in let i = c.loop-at.at in
     let low : i < length (sources_of n) = subst (λ m. i < m) c.source_count-at-end.ensures c.loop-at-test.true in
-    subst₂ (IsOutline n) (sym c.source.ensures) (sym c.index-outlines-at.is) (c.requires.outlines.each i c.index-outlines-at.result low)
+    subst (IsOutline n (source_of n i)) (sym c.index-outlines-at.is) (c.requires.outlines.each i c.index-outlines-at.result low)
 
 pub loop-at-preserved : goal.loop-at-preserved
 loop-at-preserved c =
     let n = c.args.net.now in let i = c.loop-at.at in
-    let v : Vec Entry Global = c.in_ok-row.field-0 in
-    subst (λ (vs : List (Vec Entry Global)). AreRows n (i + 1) (lists_of vs)) (sym c.in_ok-push.ensures.items)
-    (rows_more n i c.loop-at.rows.items v c.loop-at.invariant (subst (λ s. IsRow n s (row_of v.items)) c.source.ensures c.in_ok-row.ensures))
+    let v : Vec Entry Global = c.in_ok-row.field-0 in (
+      subst (λ (vs : List (Vec Entry Global)). AreRows n (i + 1) (lists_of vs)) (sym c.in_ok-push.ensures.items) (rows_more n i c.loop-at.rows.items v c.loop-at.invariant.0 c.in_ok-row.ensures.row),
+      c.in_ok-row.ensures.sized,
+      c.in_ok-row.ensures.clear,
+    )
 
 pub returns : goal.returns
 returns c =
     let n = c.args.net.now in let i = c.loop-at.at in
     let all : i ≡ length (sources_of n) = omega (arith, c.loop-at.auto.at-end, c.loop-at-test.false, c.source_count-at-end.ensures) in
-    rows_are n i (lists_of c.loop-at.rows.items) c.loop-at.invariant all
+    rows_are n i (lists_of c.loop-at.rows.items) c.loop-at.invariant.0 all

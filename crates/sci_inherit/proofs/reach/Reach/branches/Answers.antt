@@ -12,7 +12,7 @@ returns c =
     let vs = c.self.inside.branches.items in
     let long = length-map vs (λ (v : Vec Feed Global). v.items) in
     let same = ap (λ (o : Origins). length o.branches) c.self.view_is in
-    let most : c.args.block ≤ length vs = omega (arith, long, same, ap (λ (o : Origins). length o.reaching) c.self.view_is, c.self.invariant.branches, c.requires.most) in
+    let most : c.args.block ≤ length vs = omega (arith, long, same, c.requires.most) in
     c.as_slice.ensures.value
     ∙ (sym (numbered_map (λ (v : Vec Feed Global). v.items) [] vs c.args.block c.index.result.now c.requires.least most c.index.ensures)
     ∙ ap (λ (o : Origins). numbered [] o.branches c.args.block) c.self.view_is)

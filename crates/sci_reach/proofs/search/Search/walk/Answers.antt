@@ -1,39 +1,24 @@
-use Rattle.std.proofs.Common.{◌≡◌, ◌∙◌, ℕ, ◌<◌, List, [], ◌∷◌, ◌++◌, length, sym, ap, subst, refl, arith, length-append}
-use Rattle.std.specs.Prelude.{All}
+use Rattle.std.proofs.Common.{◌≡◌, ℕ, [], ◌∷◌, ◌++◌, length, ap, refl, arith, length-append}
 use Rattle.std.proofs.lemmas.List.{nil_from_length}
-use Rattle.sci_reach.specs.Lists.{plain}
-use Rattle.sci_reach.specs.Search.{Visits}
-use Rattle.sci_reach.proofs.Filling.{list_at-plain}
+use Rattle.sci_reach.specs.Successors.{targets}
 use Rattle.sci_reach.proofs.Searching.{walking_begins, walking_more, walking_ends, popped_inside, nothing_left}
 use Rattle.sci_reach.proofs.search.Search.walk.Goals as goal
 
 pub loop-port-init : goal.loop-port-init
 loop-port-init c =
-    walking_begins (plain c.args.successors.now) c.args.wanted.now c.args.source c.args.start c.args.self.now c.visit.new.self c.requires.start c.requires.ready
+    walking_begins (targets c.args.steps.now) c.args.wanted.now c.args.source c.args.start c.args.self.now c.visit.new.self c.requires.start c.requires.ready
     (c.in_ok-visit.ensures.first (λ s. absurd (omega (arith, s, c.requires.ready.below c.args.start))))
 
-pub bounds-successors-port : goal.bounds-successors-port
-bounds-successors-port c =
+pub visit_all-requires-clause-port : goal.visit_all-requires-clause-port
+visit_all-requires-clause-port c =
     let last : c.loop-port.self.pending.items ≡ c.pop.new.self.items ++ c.in-Some.port ∷ [] = c.in-Some.ensures.items in
-    let inside = popped_inside (plain c.args.successors.now) c.args.wanted.now c.args.source c.args.start c.in-Some.port (length c.args.successors.now) c.args.self.now c.loop-port.self c.pop.new.self.items last c.loop-port.invariant c.requires.ready c.requires.long in
-    inside
-
-pub visit_all-requires-clause-ports : goal.visit_all-requires-clause-ports
-visit_all-requires-clause-ports c =
-    let last : c.loop-port.self.pending.items ≡ c.pop.new.self.items ++ c.in-Some.port ∷ [] = c.in-Some.ensures.items in
-    let inside = popped_inside (plain c.args.successors.now) c.args.wanted.now c.args.source c.args.start c.in-Some.port (length c.args.successors.now) c.args.self.now c.loop-port.self c.pop.new.self.items last c.loop-port.invariant c.requires.ready c.requires.long in
-    let is = c.deref.ensures.value ∙ sym (list_at-plain c.args.successors.now c.in-Some.port c.index-successors-port.result inside c.index-successors-port.is) in
-    let Within : List ℕ → Type 0 = All (λ q. q < length c.loop-port.self.stamps.items) in
-    subst Within (sym is) (λ k d h. let low = c.requires.within c.in-Some.port k d h in omega (arith, low, c.loop-port.invariant.stamps_long, c.requires.ready.stamps_long))
+    popped_inside (targets c.args.steps.now) c.args.wanted.now c.args.source c.args.start c.in-Some.port (length c.args.wanted.now) c.args.self.now c.loop-port.self c.pop.new.self.items last c.loop-port.invariant c.requires.ready refl
 
 pub loop-port-preserved : goal.loop-port-preserved
 loop-port-preserved c =
     let last : c.loop-port.self.pending.items ≡ c.pop.new.self.items ++ c.in-Some.port ∷ [] = c.in-Some.ensures.items in
-    let inside = popped_inside (plain c.args.successors.now) c.args.wanted.now c.args.source c.args.start c.in-Some.port (length c.args.successors.now) c.args.self.now c.loop-port.self c.pop.new.self.items last c.loop-port.invariant c.requires.ready c.requires.long in
-    let is = c.deref.ensures.value ∙ sym (list_at-plain c.args.successors.now c.in-Some.port c.index-successors-port.result inside c.index-successors-port.is) in
-    let P : List ℕ → Type 0 = λ l. Visits c.args.wanted.now c.args.source l (record { stamps = c.loop-port.self.stamps; lists = c.loop-port.self.lists; pending = c.pop.new.self }) c.visit_all.new.self in
-    walking_more (plain c.args.successors.now) c.args.wanted.now c.args.source c.args.start c.in-Some.port c.args.self.now c.loop-port.self c.visit_all.new.self c.pop.new.self last c.loop-port.invariant
-    (subst P is c.in_ok-visit_all.ensures)
+    walking_more (targets c.args.steps.now) c.args.wanted.now c.args.source c.args.start c.in-Some.port c.args.self.now c.loop-port.self c.visit_all.new.self c.pop.new.self last c.loop-port.invariant
+    c.in_ok-visit_all.ensures
 
 pub loop-port-smaller : goal.loop-port-smaller
 loop-port-smaller c =
@@ -47,4 +32,4 @@ returns c =
     let none = nothing_left c.pop.result _ _ c.in_default.not-Some c.pop.ensures.cases in
     let before : c.loop-port.self.pending.items ≡ [] = nil_from_length c.loop-port.self.pending.items (omega (arith, none.0, c.loop-port.self.pending.ok)) in
     let after : c.pop.new.self.items ≡ [] = nil_from_length c.pop.new.self.items (omega (arith, none.1, c.pop.new.self.ok)) in
-    walking_ends (plain c.args.successors.now) c.args.wanted.now c.args.source c.args.start c.args.self.now c.loop-port.self _ before after refl refl c.loop-port.invariant
+    walking_ends (targets c.args.steps.now) c.args.wanted.now c.args.source c.args.start c.args.self.now c.loop-port.self _ before after refl refl c.loop-port.invariant

@@ -10,7 +10,7 @@ use Rattle.sci_steps.proofs.walk.Walk.seats.Goals as goal
 
 pub loop-obj-init : goal.loop-obj-init
 loop-obj-init c =
-    let none : c.new-seats.result.items ≡ [] = c.new-seats.ensures.items in
+    let none : c.in_ok-seats.seats.items ≡ [] = c.in_ok-seats.ensures.items in
     let same : objects_of (map object_view c.deref-obj-items.result.now) ≡ diagram_view c.args.d.now = ap (λ (l : List Obj). objects_of (map object_view l)) c.deref-obj-items.ensures.value ∙ sym (diagram_opens c.args.d.now) in
     let Fit : List Seat → Type 0 = All (λ s. past s < 2 ^ 32) in
     record {

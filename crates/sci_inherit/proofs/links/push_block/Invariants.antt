@@ -1,0 +1,5 @@
+use Rattle.sci_inherit.specs.Links.{Upto, plain_rows, Fills, InputFed}
+use Rattle.sci_inherit.proofs.links.push_block.Given as goal
+
+abbrev pub invariant-loop-at : goal.invariant-loop-at
+invariant-loop-at l = Fills (Upto (InputFed l.net l.block) l.at) (plain_rows l.initial.rows.items) (plain_rows l.rows.items)

@@ -1,5 +1,0 @@
-use Rattle.sci_loop.specs.Progress.{SeenBelow}
-use Rattle.sci_loop.proofs.search.open_need_from.Given as goal
-
-abbrev pub invariant-loop-index : goal.invariant-loop-index
-invariant-loop-index l = SeenBelow l.members l.settled l.needs l.index

@@ -1,5 +1,0 @@
-use Rattle.sci_sched.specs.Depths.{DepthsTo}
-use Rattle.sci_sched.proofs.depth.depths.Given as goal
-
-abbrev pub invariant-loop-block : goal.invariant-loop-block
-invariant-loop-block l = DepthsTo l.table l.order l.size l.block-index l.depths.items

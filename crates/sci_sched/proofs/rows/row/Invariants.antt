@@ -1,6 +1,0 @@
-use Rattle.std.proofs.Common.{take}
-use Rattle.sci_sched.specs.Rows.{AreEntries}
-use Rattle.sci_sched.proofs.rows.row.Given as goal
-
-abbrev pub invariant-loop-block : goal.invariant-loop-block
-invariant-loop-block l = AreEntries l.net l.source (take l.block-index l.blocks) l.row.items

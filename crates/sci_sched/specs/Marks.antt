@@ -1,0 +1,37 @@
+-- What is marked of a source while its row is built.
+use Rattle.std.specs.Prelude.{◌≡◌, ℕ, ◌+◌, ◌<◌, ◌≤◌, ◌↔◌, List, length, Contains, slice_index, slice_index_or}
+use Rattle.std.specs.Int.{bit_at}
+use Rattle.sci_net.specs.declared.Source.{Source}
+use Rattle.sci_net.specs.Parts.{Parts}
+use Rattle.sci_reaction.specs.Links.{SourceFeeds}
+use Rattle.sci_reaction.specs.Active.{Possible, IsAlways}
+use Rattle.sci_reaction.specs.Equations.{HasBits}
+use Rattle.sci_inherit.specs.declared.Fed.{Fed}
+use Rattle.sci_sched.specs.declared.marks.Marks.{Marks}
+
+-- the input has a bit, in a mask of one of the first `count` numbers
+pub record IsFitting (count : ℕ) (f : Fed) : Type 0 where
+  pub block : f.block < count
+  pub least : 1 ≤ f.input
+  pub most : f.input ≤ 64
+
+-- the masks have the bits of these activation inputs, and no other
+pub record HaveFed (feds : List Fed) (masks : List ℕ) : Type 0 where
+  pub exactly : (b p : ℕ) → (bit_at (slice_index masks b) p ≡ 1) ↔ Contains feds (record { block = b; input = p + 1 })
+
+-- the masks of the first k of these are cleared, and the others have no other bits
+pub record ClearedTo (feds : List Fed) (k : ℕ) (masks : List ℕ) : Type 0 where
+  pub bits : (b p : ℕ) → bit_at (slice_index masks b) p ≡ 1 → Contains feds (record { block = b; input = p + 1 })
+  pub cleared : (m : ℕ) (d : Fed) → m < k → slice_index masks (slice_index_or feds m d).block ≡ 0
+
+-- marks for so many numbers
+pub record AreSized (count : ℕ) (m : Marks) : Type 0 where
+  pub possible : m.possible.count ≡ count
+  pub always : m.always.count ≡ count
+  pub masks : length m.masks.items ≡ count
+
+-- what the source does
+pub record MarkSource (n : Parts) (s : Source) (m : Marks) : Type 0 where
+  pub possible : (b : ℕ) → Contains m.possible.found b ↔ Possible n s b
+  pub always : (b : ℕ) → Contains m.always.found b ↔ IsAlways n s b
+  pub masks : (b : ℕ) → HasBits (slice_index m.masks.items b) (SourceFeeds n s b)
