@@ -97,3 +97,43 @@ REFUSALS = [
     ('outputs of 65,537 elements', [constant(0, rows=256)] * 256 + [constant(0)], '23 SignalTooLarge at - 0 65537'),
     ('another kind', [CLOCK, TEXT, superblock([TEXT, constant(1)])], '30 Unbuilt at 3/2'),
 ]
+
+
+def object_with(model):
+    """A diagram of one block of no kind, whose model is this text."""
+    return b'{"objs":[{"obj":"Block","gui":"SCOPE","model":{%s}}]}' % model
+
+
+# name, bytes, what is due behind 'refused ': 1 where the bytes are no JSON, and what comes next where they are
+TEXTS = [
+    ('127 levels', b'{"unread":' + b'[' * 126 + b']' * 126 + b'}', '2 MissingField at - 1'),
+    ('128 levels', b'{"unread":' + b'[' * 127 + b']' * 127 + b'}', '1 NotJson at -'),
+    ('200 brackets', b'[' * 200 + b']' * 200, '1 NotJson at -'),
+    ('a number near the greatest float', b'{"unread":1.7e308}', '2 MissingField at - 1'),
+    ('a number too large for a float', b'{"unread":1e400}', '1 NotJson at -'),
+    ('a number too small for a float', b'{"unread":1e-400}', '2 MissingField at - 1'),
+    ('a zero before a digit', b'{"unread":01}', '1 NotJson at -'),
+    ('a mark of the byte order', b'\xef\xbb\xbf{"objs":[]}', '1 NotJson at -'),
+    ('a byte that is no UTF-8', b'{"\xff":1}', '1 NotJson at -'),
+    ('half of a pair', b'{"unread":"\\ud800"}', '1 NotJson at -'),
+    ('both of a pair', b'{"unread":"\\ud83d\\ude00"}', '2 MissingField at - 1'),
+    ('a second value', b'{"objs":[]} {}', '1 NotJson at -'),
+    ('a comma at the end', b'{"objs":[],}', '1 NotJson at -'),
+    ('a list for the diagram', b'[{"objs":[]}]', '3 WrongField at - 1'),
+    ('the last of two lists', b'{"objs":[{"obj":1}],"objs":[{}]}', '2 MissingField at 1 2'),
+    ('the last is no list', b'{"objs":[{}],"objs":1}', '3 WrongField at - 1'),
+    ('an escape in a name', b'{"\\u006fbjs":[{"obj":"Link"}]}', '2 MissingField at 1 19'),
+    ('numbers for objects', b'{"objs":[{"obj":"Text"},7]}', '3 WrongField at 2 2'),
+    ('minus zero', object_with(b'"evtin":-0'), '3 WrongField at 1 12'),
+    ('a float for a whole number', object_with(b'"evtin":[1,1.0]'), '3 WrongField at 1 12'),
+    ('an exponent', object_with(b'"dstate":1e0'), '3 WrongField at 1 14'),
+    ('2^63 - 1', object_with(b'"dstate":9223372036854775807'), '7 UnknownBlock at 1'),
+    ('2^63', object_with(b'"dstate":9223372036854775808'), '3 WrongField at 1 14'),
+    ('-2^63', object_with(b'"ipar":[-9223372036854775808]'), '7 UnknownBlock at 1'),
+    ('below -2^63', object_with(b'"ipar":[-9223372036854775809]'), '3 WrongField at 1 16'),
+    ('-2^31', object_with(b'"in":-2147483648'), '7 UnknownBlock at 1'),
+    ('below -2^31', object_with(b'"in":-2147483649'), '3 WrongField at 1 6'),
+    ('three flags', object_with(b'"dep_ut":[true,false,false]'), '3 WrongField at 1 18'),
+    ('an end of a link with four numbers', b'{"objs":[{"obj":"Link","from":[1,1,0,0],"to":[1,1],"ct":[1,1]}]}', '3 WrongField at 1 19'),
+    ('a type of a link with one number', b'{"objs":[{"obj":"Link","from":[1,1,0],"to":[1,1],"ct":[1]}]}', '3 WrongField at 1 21'),
+]

@@ -5,3 +5,4 @@ pub mod Bytes
 pub mod Values
 pub mod Few
 pub mod Standing
+pub mod Items

@@ -1,11 +1,9 @@
 -- The weight of a value bounds its parts.
-use Rattle.std.proofs.Common.{◌≡◌, ℕ, suc, ◌+◌, ◌<◌, ◌≤◌, ℤ, zero, get_or, List, [], ◌∷◌, length, Bool, true, false, cond, Option, Some, None, option_map, option_and_then, Ordering, Less, Equal, Greater, subst, arith}
+use Rattle.std.proofs.Common.{◌≡◌, ℕ, ◌+◌, ◌≤◌, ℤ, List, [], ◌∷◌, length, Bool, true, false, cond, Option, Some, None, option_map, option_and_then, Ordering, Less, Equal, Greater, subst, arith}
 use Rattle.std.specs.Prelude.{⊤}
 use Rattle.std.specs.List.{list_all}
 use Rattle.std.specs.Ordering.{match_ordering}
 use Rattle.serde_json.specs.Data.{Data, null, boolean, number, string, array, object, Items, no_items, item, Members, no_members, member}
-use Rattle.serde_json.specs.View.{view, items_view}
-use Rattle.serde_json.specs.declared.value.Value.{Value}
 use Rattle.serde_json.specs.Find.{get, get_member, as_i64}
 use Rattle.sci_json.specs.Field.{whole, wholes, as_ints}
 use Rattle.sci_diagram.specs.Tree.{is_small}
@@ -86,13 +84,3 @@ counted_short (Some zs) m h = tested (list_all is_small zs)
 -- a list has no more numbers than it weighs
 pub count_short : (d : Data) (n : ℕ) → small_count d ≡ Some n → n ≤ weight d
 count_short d n e = at_most (λ k. k) (weight d) (small_count d) n (counted_short (as_ints d) (weight d) (ints_short d)) e
-
--- each item is a value, so the list is no longer than it weighs
-pub items_long : (vs : List Value) → length vs ≤ items_weight (items_view vs)
-items_long [] = omega arith
-items_long (v ∷ vs) = omega (arith, positive (view v), items_long vs)
-
-pub item_light : (vs : List Value) (i : ℕ) (d : Value) → i < length vs → weight (view (get_or vs i d)) ≤ items_weight (items_view vs)
-item_light [] i d h = absurd (omega arith)
-item_light (v ∷ vs) zero d h = omega arith
-item_light (v ∷ vs) (suc i) d h = omega (arith, item_light vs i d (omega arith))

@@ -1,41 +1,19 @@
 -- What the numbers of a field say where they stand is what the list of them says.
-use Rattle.std.proofs.Common.{◌≡◌, ℕ, suc, ◌<◌, ℤ, pos, codes, List, [], ◌∷◌, length, Bool, true, false, cond, ◌&&◌, Option, Some, None, option_map, option_and_then, Ok, Err, refl, arith}
+use Rattle.std.proofs.Common.{◌≡◌, ℕ, ◌+◌, ℤ, pos, codes, List, [], ◌∷◌, length, Bool, true, false, cond, ◌&&◌, Option, Some, None, option_map, option_and_then, Ok, Err, refl}
 use Rattle.std.specs.Prelude.{is_some}
 use Rattle.std.specs.List.{list_all}
 use Rattle.serde_json.specs.Data.{Data, null, boolean, number, string, array, object, Items, no_items, item}
-use Rattle.serde_json.specs.View.{items_view, view}
-use Rattle.serde_json.specs.declared.value.Value.{Value}
-use Rattle.serde_json.specs.Find.{get, as_i64}
+use Rattle.serde_json.specs.Find.{get, as_array, as_i64}
 use Rattle.sci_base.specs.Outcome.{◌>>=◌}
 use Rattle.sci_json.specs.Field.{whole, wholes, as_ints, formed}
 use Rattle.sci_diagram.specs.Tree.{required, optional, if_small, is_small, count_of, end_from, link_end, second, missing, wrong}
-use Rattle.sci_diagram.specs.Numbers.{small_whole, all_small, all_whole, count_small, small_count, end_in, as_end, kind_in, as_kind, link_kind}
+use Rattle.sci_diagram.specs.Numbers.{all_whole, count_small, small_count, side_in, end_in, as_end, kind_in, as_kind, link_kind}
 
 -- ---- counts
 
-one_more : (b c : Bool) (m n : ℕ) → cond b (Some m) None ≡ cond c (Some n) None → cond b (Some (suc m)) None ≡ cond c (Some (suc n)) None
-one_more true true m n h = grind arith
-one_more true false m n h = cc
-one_more false true m n h = cc
-one_more false false m n h = refl
-
-step : (o : Option ℤ) (r : Option (List ℤ)) (b : Bool) (n : ℕ) → count_small r ≡ cond b (Some n) None → count_small (option_and_then (λ z. option_map (λ zs. z ∷ zs) r) o) ≡ cond (small_whole o && b) (Some (suc n)) None
-step None r b n h = refl
-step (Some z) None b n h = none (is_small z) b h
-  where
-    none : (a b : Bool) → None ≡ cond b (Some n) None → None ≡ cond (a && b) (Some (suc n)) None
-    none true true k = cc
-    none true false k = refl
-    none false b k = refl
-step (Some z) (Some zs) b n h = tested (is_small z)
-  where
-    tested : (a : Bool) → cond (a && list_all is_small zs) (Some (suc (length zs))) None ≡ cond (a && b) (Some (suc n)) None
-    tested true = one_more (list_all is_small zs) b (length zs) n h
-    tested false = refl
-
-pub small_values : (vs : List Value) → count_small (wholes (items_view vs)) ≡ cond (all_small (items_view vs)) (Some (length vs)) None
-small_values [] = refl
-small_values (v ∷ vs) = step (whole (view v)) (wholes (items_view vs)) (all_small (items_view vs)) (length vs) (small_values vs)
+-- so many numbers, and then those of the items
+abbrev pub counted_on : ℕ → Items → Option ℕ
+counted_on k ds = option_map (λ n. k + n) (count_small (wholes ds))
 
 counted : (at : List ℕ) (code : ℤ) (o : Option (List ℤ)) → (optional at code (formed o) >>= if_small at code >>= λ xs. Ok (length xs)) ≡ required at code (formed (count_small o))
 counted at code None = refl
@@ -54,7 +32,7 @@ count_found at code name m d h = rw h (counted at code (as_ints d))
 -- ---- ends of links
 
 module _ (at : List ℕ) (code side : ℤ) where
-  two : (x y : Option ℤ) → (required at code (formed (option_and_then (λ a. option_map (λ zs. a ∷ zs) (option_and_then (λ b. option_map (λ zs. b ∷ zs) (Some [])) y)) x)) >>= end_from at code side) ≡ required at code (formed (option_and_then (λ a. option_map (λ b. record { block = a; port = b; side = side }) y) x))
+  two : (x y : Option ℤ) → (required at code (formed (option_and_then (λ a. option_map (λ zs. a ∷ zs) (option_and_then (λ b. option_map (λ zs. b ∷ zs) (Some [])) y)) x)) >>= end_from at code side) ≡ required at code (formed (option_and_then (λ a. option_and_then (λ b. Some (record { block = a; port = b; side = side })) y) x))
   two None y = refl
   two (Some a) None = refl
   two (Some a) (Some b) = refl
@@ -65,7 +43,7 @@ module _ (at : List ℕ) (code side : ℤ) where
   three (Some a) (Some b) None = refl
   three (Some a) (Some b) (Some c) = refl
 
-  more : (x y z w : Option ℤ) (r : Option (List ℤ)) → (required at code (formed (option_and_then (λ a. option_map (λ zs. a ∷ zs) (option_and_then (λ b. option_map (λ zs. b ∷ zs) (option_and_then (λ c. option_map (λ zs. c ∷ zs) (option_and_then (λ d. option_map (λ zs. d ∷ zs) r) w)) z)) y)) x)) >>= end_from at code side) ≡ Err (wrong at code)
+  more : (x y z w : Option ℤ) (r : Option (List ℤ)) → (required at code (formed (option_and_then (λ a. option_map (λ zs. a ∷ zs) (option_and_then (λ b. option_map (λ zs. b ∷ zs) (option_and_then (λ c. option_map (λ zs. c ∷ zs) (option_and_then (λ d. option_map (λ zs. d ∷ zs) r) w)) z)) y)) x)) >>= end_from at code side) ≡ required at code (formed (option_and_then (λ a. option_and_then (λ b. None) y) x))
   more None y z w r = refl
   more (Some a) None z w r = refl
   more (Some a) (Some b) None w r = refl
@@ -101,6 +79,9 @@ module _ (at : List ℕ) (code side : ℤ) where
 
   pub end_found : (name : List ℕ) (d e : Data) → get name d ≡ Some e → link_end at code side name d ≡ required at code (formed (as_end side e))
   end_found name d e h = rw h (end_data e)
+
+pub end_taken : (side : ℤ) (d : Data) (ds es fs : Items) (a b : Data) (x y z : ℤ) → as_array d ≡ Some ds → ds ≡ item a es → es ≡ item b fs → whole a ≡ Some x → whole b ≡ Some y → side_in side fs ≡ Some z → as_end side d ≡ Some (record { block = x; port = y; side = z })
+end_taken side d ds es fs a b x y z h i j k l m = rw (h, i, j, k, l, m) refl
 
 -- ---- types of links
 
@@ -148,26 +129,3 @@ module _ (at : List ℕ) where
 
   pub kind_found : (d e : Data) → get (codes "ct") d ≡ Some e → link_kind at d ≡ required at (pos 21) (formed (as_kind e))
   kind_found d e h = rw h (kind_data e)
-
--- ---- lists of another length
-
-pub end_short : (side : ℤ) (vs : List Value) → length vs < 2 → end_in side (items_view vs) ≡ None
-end_short side [] h = refl
-end_short side (a ∷ []) h = refl
-end_short side (a ∷ b ∷ vs) h = absurd (omega arith)
-
-pub end_long : (side : ℤ) (vs : List Value) → 3 < length vs → end_in side (items_view vs) ≡ None
-end_long side [] h = absurd (omega arith)
-end_long side (a ∷ []) h = absurd (omega arith)
-end_long side (a ∷ b ∷ []) h = absurd (omega arith)
-end_long side (a ∷ b ∷ c ∷ []) h = absurd (omega arith)
-end_long side (a ∷ b ∷ c ∷ d ∷ vs) h = refl
-
-short : (b : Bool) → ◌≡◌ {A = Option ℤ} (cond b None None) None
-short true = refl
-short false = refl
-
-pub kind_short : (vs : List Value) → length vs < 2 → kind_in (items_view vs) ≡ None
-kind_short [] h = refl
-kind_short (a ∷ []) h = short (all_whole (items_view (a ∷ [])))
-kind_short (a ∷ b ∷ vs) h = absurd (omega arith)

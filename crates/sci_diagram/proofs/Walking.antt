@@ -1,11 +1,9 @@
 -- Steps of the walk through a diagram's objects.
-use Rattle.std.proofs.Common.{◌≡◌, ℕ, zero, suc, ◌+◌, ◌-◌, ◌<◌, ◌≤◌, List, [], ◌∷◌, ◌++◌, length, drop, get_or, map, Bool, true, false, cond, codes, pos, ℤ, Option, Some, None, Result, Ok, Err, refl, sym, ap, ◌∙◌, subst, Vec, Global, rules, arith}
+use Rattle.std.proofs.Common.{◌≡◌, ℕ, zero, suc, ◌+◌, ◌-◌, ◌<◌, ◌≤◌, List, [], ◌∷◌, ◌++◌, length, map, length-append, Bool, true, false, cond, codes, pos, ℤ, Option, Some, None, Result, Ok, Err, refl, sym, ap, ◌∙◌, subst, Vec, Global, rules, arith}
 use Rattle.std.specs.Prelude.{⊤, is_some}
-use Rattle.std.proofs.lemmas.List.{drop_all, drop_more}
-use Rattle.serde_json.specs.Data.{Data, null, boolean, number, string, array, object, Items}
+use Rattle.std.proofs.lemmas.List.{map-append}
+use Rattle.serde_json.specs.Data.{Data, null, boolean, number, string, array, object, Items, no_items, item}
 use Rattle.serde_json.specs.Find.{get, as_array, as_object}
-use Rattle.serde_json.specs.View.{view, items_view}
-use Rattle.serde_json.specs.declared.value.Value.{Value}
 use Rattle.sci_base.specs.Plain.{Violation}
 use Rattle.sci_base.specs.Outcome.{Outcome, ◌>>=◌}
 use Rattle.sci_json.specs.Field.{formed, field_of, field}
@@ -17,7 +15,7 @@ use Rattle.sci_diagram.specs.Tree.{wrong, too_deep, required, whole_object, Inne
 use Rattle.sci_diagram.specs.Stops.{Stops}
 use Rattle.sci_diagram.specs.Weight.{weight, items_weight}
 use Rattle.sci_diagram.proofs.Stopping.{stops_then}
-use Rattle.sci_diagram.proofs.Light.{AtMost, get_light, item_light}
+use Rattle.sci_diagram.proofs.Light.{AtMost, get_light, positive}
 
 -- ---- levels
 
@@ -88,34 +86,58 @@ onto-none : (xs : List Object) → onto xs no_objects ≡ objects_of xs
 onto-none [] = refl
 onto-none (x ∷ xs) = ap (one_object x) (onto-none xs)
 
--- the objects read so far, and then those from place i on
-abbrev pub rest : Inner → List ℕ → List Object → ℕ → List Value → Outcome Objects
-rest inner at xs i vs = walk inner at (i + 1) (items_view (drop i vs)) >>= λ os. Ok (onto xs os)
+-- the objects read so far, and then the items, the first of them at position k
+abbrev pub rest : Inner → List ℕ → List Object → ℕ → Items → Outcome Objects
+rest inner at xs k ds = walk inner at k ds >>= λ os. Ok (onto xs os)
 
 regroup : (o : Object) (xs : List Object) (r : Result Objects Violation) → (r >>= λ os. Ok (onto (xs ++ o ∷ []) os)) ≡ ((r >>= λ os. Ok (one_object o os)) >>= λ os. Ok (onto xs os))
 regroup o xs (Err e) = refl
 regroup o xs (Ok os) = ap Ok (onto-append xs o os)
 
-pub rest_end : (inner : Inner) (at : List ℕ) (xs : List Object) (i : ℕ) (vs : List Value) → length vs ≤ i → rest inner at xs i vs ≡ Ok (objects_of xs)
+pub rest_whole : (inner : Inner) (at : List ℕ) (ds : Items) → rest inner at [] 1 ds ≡ walk inner at 1 ds
+rest_whole inner at ds = same (walk inner at 1 ds)
+  where
+    same : (r : Result Objects Violation) → (r >>= λ os. Ok os) ≡ r
+    same (Err e) = refl
+    same (Ok os) = refl
+
+pub rest_end : (inner : Inner) (at : List ℕ) (xs : List Object) (k : ℕ) → rest inner at xs k no_items ≡ Ok (objects_of xs)
 unfolding walk
-rest_end inner at xs i vs h = rw (drop_all i vs h) (ap Ok (onto-none xs))
+rest_end inner at xs k = ap Ok (onto-none xs)
 
--- r is the value at place i, and its place in the diagram is here
-module _ (inner : Inner) (at : List ℕ) (xs : List Object) (i : ℕ) (vs : List Value) (h : i < length vs) (r : Value) (is : r ≡ get_or vs i r) (here : List ℕ) (there : here ≡ at ++ (i + 1) ∷ []) where
-  opens : rest inner at xs i vs ≡ ((read_object inner here (view r) >>= λ o. walk inner at ((i + 1) + 1) (items_view (drop (i + 1) vs)) >>= λ os. Ok (one_object o os)) >>= λ os. Ok (onto xs os))
+pub place : (at : List ℕ) {m n : ℕ} → m ≡ n → at ++ (m + 1) ∷ [] ≡ at ++ (n + 1) ∷ []
+place at e = ap (λ k. at ++ (k + 1) ∷ []) e
+
+-- the items begin with d, whose place in the diagram is here
+module _ (inner : Inner) (at : List ℕ) (ds : Items) (d : Data) (es : Items) (is : ds ≡ item d es) (here : List ℕ) where
+  opens : (xs : List Object) (k : ℕ) → here ≡ at ++ k ∷ [] → rest inner at xs k ds ≡ ((read_object inner here d >>= λ o. walk inner at (k + 1) es >>= λ os. Ok (one_object o os)) >>= λ os. Ok (onto xs os))
   unfolding walk
-  opens = rw (drop_more vs i r h, ← is, there) refl
+  opens xs k there = rw (is, there) refl
 
-  pub rest_more : (o : Object) → read_object inner here (view r) ≡ Ok o → rest inner at (xs ++ o ∷ []) (i + 1) vs ≡ rest inner at xs i vs
-  rest_more o e = rw (opens, e) (regroup o xs _)
+  pub rest_stops : (xs : List Object) (k : ℕ) → here ≡ at ++ k ∷ [] → (w : Outcome Objects) → rest inner at xs k ds ≡ w → (e : ReadStop) → Stops (read_object inner here d) e → Stops w e
+  rest_stops xs k there w whole e s = rw (sym whole ∙ opens xs k there) (stops_then _ _ e (stops_then _ _ e s))
 
-  pub rest_stops : (w : Outcome Objects) → rest inner at xs i vs ≡ w → (e : ReadStop) → Stops (read_object inner here (view r)) e → Stops w e
-  rest_stops w whole e s = rw (sym whole ∙ opens) (stops_then _ _ e (stops_then _ _ e s))
+  one_more : (xs : List Object) (k : ℕ) → here ≡ at ++ k ∷ [] → (o : Object) → read_object inner here d ≡ Ok o → rest inner at (xs ++ o ∷ []) (k + 1) es ≡ rest inner at xs k ds
+  one_more xs k there o e = rw (opens xs k there, e) (regroup o xs (walk inner at (k + 1) es))
 
-pub item_weighs : (vs : List Value) (i : ℕ) (r : Value) → i < length vs → r ≡ get_or vs i r → weight (view r) ≤ items_weight (items_view vs)
-item_weighs vs i r h is = let P : Value → Type 0 = λ v. weight (view v) ≤ items_weight (items_view vs) in subst P (sym is) (item_light vs i r h)
+  pub rest_more : (xs ys : List Obj) (o : Obj) → here ≡ at ++ (length xs + 1) ∷ [] → read_object inner here d ≡ Ok (object_view o) → ys ≡ xs ++ o ∷ [] → rest inner at (map object_view ys) (length ys + 1) es ≡ rest inner at (map object_view xs) (length xs + 1) ds
+  rest_more xs ys o there e f = rw (f, map-append object_view xs (o ∷ []), length-append xs (o ∷ [])) (one_more (map object_view xs) (length xs + 1) there (object_view o) e)
+
+-- each object takes an item, which weighs at least 1
+pub fewer : (xs ys : List Obj) (o : Obj) (ds : Items) (d : Data) (es : Items) → ds ≡ item d es → ys ≡ xs ++ o ∷ [] → length ys + items_weight es ≤ length xs + items_weight ds
+fewer xs ys o ds d es is f = omega (arith, ap length f, length-append xs (o ∷ []), ap items_weight is, positive d)
 
 -- ---- plain forms
 
 pub diagram_rolls : (v : Vec Obj Global) → diagram_view (roll-Diagram (record { objs = v })) ≡ objects_of (map object_view v.items)
 diagram_rolls v = search (rules, the_lemmas)
+
+-- ---- what is inside an object
+
+pub object_whole : (d : Data) → whole_object d ≡ cond (is_some (as_object d)) (Some d) None
+object_whole null = refl
+object_whole (boolean b) = refl
+object_whole (number n) = refl
+object_whole (string s) = refl
+object_whole (array ds) = refl
+object_whole (object ms) = refl

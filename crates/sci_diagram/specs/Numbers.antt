@@ -13,10 +13,6 @@ abbrev pub small_whole : Option ℤ → Bool
 small_whole None = false
 small_whole (Some z) = is_small z
 
-abbrev pub all_small : Items → Bool
-all_small no_items = true
-all_small (item d ds) = small_whole (whole d) && all_small ds
-
 abbrev pub all_whole : Items → Bool
 all_whole no_items = true
 all_whole (item d ds) = is_some (whole d) && all_whole ds
@@ -29,10 +25,15 @@ count_small (Some zs) = if list_all is_small zs then Some (length zs) else None
 abbrev pub small_count : Data → Option ℕ
 small_count d = count_small (as_ints d)
 
+-- the side of an end: the one number that is left, or else the side that it has without it
+abbrev pub side_in : ℤ → Items → Option ℤ
+side_in side no_items = Some side
+side_in side (item c no_items) = whole c
+side_in side _ = None
+
 -- an end of a link, of which the third number is the side where it is there
 abbrev pub end_in : ℤ → Items → Option End
-end_in side (item a (item b no_items)) = option_and_then (λ x. option_map (λ y. record { block = x; port = y; side = side }) (whole b)) (whole a)
-end_in side (item a (item b (item c no_items))) = option_and_then (λ x. option_and_then (λ y. option_map (λ z. record { block = x; port = y; side = z }) (whole c)) (whole b)) (whole a)
+end_in side (item a (item b ds)) = option_and_then (λ x. option_and_then (λ y. option_map (λ z. record { block = x; port = y; side = z }) (side_in side ds)) (whole b)) (whole a)
 end_in side _ = None
 
 abbrev pub as_end : ℤ → Data → Option End

@@ -1,7 +1,7 @@
 ghost use Rattle.std.specs.Prelude.{◌≡◌, ◌∷◌, [], Ok, Err, IfOk, IfErr, string_bytes, ◌<◌, ◌^◌};
 ghost use Rattle.std.specs.List.{list_all};
-ghost use Rattle.serde_json.specs.View.{view};
 ghost use Rattle.serde_json.specs.Find.{as_str};
+ghost use Rattle.sci_document.specs.View.{view};
 ghost use Rattle.sci_json.specs.Field.{field, as_ints};
 ghost use Rattle.sci_diagram.specs.Tree.{missing, wrong, too_deep, required, optional, small_list, is_small};
 ghost use Rattle.sci_diagram.specs.Stops.{IsViolation, Stops};
@@ -9,8 +9,8 @@ ghost use Rattle.sci_diagram.specs.Count.{too_many};
 
 use crate::stop::ReadStop;
 use sci_base::{Place, Refusal, Rule};
+use sci_document::Value;
 use sci_json::FieldStop;
-use serde_json::Value;
 use smallvec::SmallVec;
 use std::alloc::{AllocError, Global};
 
@@ -54,7 +54,7 @@ pub(crate) fn wrong(alloc: Global, at: &[u32], code: i64) -> ReadStop
 #[inline(always)]
 pub(crate) fn required_text(
     alloc: Global,
-    v: &Value,
+    v: &Value<'_, '_>,
     name: &str,
     code: i64,
     at: &[u32],
@@ -75,7 +75,7 @@ pub(crate) fn required_text(
 #[inline(always)]
 pub(crate) fn optional_ints(
     alloc: Global,
-    v: &Value,
+    v: &Value<'_, '_>,
     name: &str,
     code: i64,
     at: &[u32],
@@ -102,7 +102,7 @@ pub(crate) fn is_small(n: i64) -> bool
 #[inline(always)]
 pub(crate) fn small_ints(
     alloc: Global,
-    v: &Value,
+    v: &Value<'_, '_>,
     name: &str,
     code: i64,
     at: &[u32],

@@ -1,9 +1,9 @@
 ghost use Rattle.std.specs.Prelude.{◌≡◌, ◌≤◌, Ok, Some, IfOk, IfErr, length, ◌<◌, ◌^◌};
+ghost use Rattle.sci_document.specs.View.{view};
 ghost use Rattle.sci_diagram.specs.Objects.{diagram_view};
 ghost use Rattle.sci_diagram.specs.Reading.{judge_value, IsRead};
 ghost use Rattle.sci_diagram.specs.Count.{counted, objects_in};
 ghost use Rattle.sci_diagram.specs.Weight.{weight};
-ghost use Rattle.serde_json.specs.View.{view};
 ghost use Rattle.sci_diagram.specs.Stops.{Stops};
 
 use crate::counts::{count_blocks, count_links};
@@ -11,8 +11,9 @@ use crate::diagram::Diagram;
 use crate::fields::too_many;
 use crate::stop::ReadStop;
 use crate::walk::read_diagram;
+use json::Scratch;
 use sci_base::{Refusal, Rule};
-use serde_json::Value;
+use sci_document::{Document, ParseStop, Value};
 use std::alloc::Global;
 
 /// Reads a diagram from the bytes of its file. Refused are, in this order: bytes that are no JSON (rule 1); in the order of
@@ -22,18 +23,19 @@ pub fn read(alloc: Global, bytes: &[u8]) -> Result<Diagram, ReadStop>
     requires short { length bytes.now ≤ 16777216 }
     ensures { IsRead bytes.now result }
 {
-    match Value::from_slice(alloc, bytes) {
-        Ok(v) => read_value(alloc, &v),
-        Err(e) => if e.is_memory() {
-            Err(ReadStop::Memory)
-        } else {
-            Err(ReadStop::Refused(Refusal::of_the_whole(alloc, Rule::NotJson)))
-        },
+    let mut scratch = Scratch::new(alloc);
+    match Document::parse(alloc, bytes, &mut scratch) {
+        Ok(document) => read_value(alloc, &document.root()),
+        Err(ParseStop::Invalid) => Err(ReadStop::Refused(Refusal::of_the_whole(
+            alloc,
+            Rule::NotJson,
+        ))),
+        Err(ParseStop::Memory) => Err(ReadStop::Memory),
     }
 }
 
 #[tactic(auto, using(crate::proofs::Stopping::stops_then))]
-fn read_value(alloc: Global, v: &Value) -> Result<Diagram, ReadStop>
+fn read_value(alloc: Global, v: &Value<'_, '_>) -> Result<Diagram, ReadStop>
     requires light { weight (view v.now) < 2 ^ 32 }
     ensures ok { IfOk result (λ d. judge_value (Some (view v.now)) ≡ Ok (diagram_view d)) }
     ensures stop { IfErr result (λ e. Stops (judge_value (Some (view v.now))) e) }

@@ -1,5 +1,5 @@
 ghost use Rattle.std.specs.Prelude.{◌≡◌, Ok, IfOk, IfErr};
-ghost use Rattle.serde_json.specs.View.{view};
+ghost use Rattle.sci_document.specs.View.{view};
 ghost use Rattle.sci_diagram.specs.Objects.{link};
 ghost use Rattle.sci_diagram.specs.Numbers.{link_kind};
 ghost use Rattle.sci_diagram.specs.Tree.{link_end, read_link};
@@ -9,11 +9,11 @@ use crate::diagram::{End, LinkObj};
 use crate::fields::{missing, wrong};
 use crate::numbers::{end_of, kind_of};
 use crate::stop::ReadStop;
-use serde_json::Value;
+use sci_document::Value;
 use std::alloc::Global;
 
 #[tactic(auto, using(crate::proofs::Stopping::stops_then), unfolding(crate::specs::Tree::read_link))]
-pub(crate) fn read_link(alloc: Global, v: &Value, at: &[u32]) -> Result<LinkObj, ReadStop>
+pub(crate) fn read_link(alloc: Global, v: &Value<'_, '_>, at: &[u32]) -> Result<LinkObj, ReadStop>
     ensures ok { IfOk result
         (λ l. read_link at.now (view v.now) ≡ Ok (link l.from l.to l.kind)) }
     ensures stop { IfErr result (λ e. Stops (read_link at.now (view v.now)) e) }
@@ -27,7 +27,7 @@ pub(crate) fn read_link(alloc: Global, v: &Value, at: &[u32]) -> Result<LinkObj,
 #[inline]
 fn read_end(
     alloc: Global,
-    v: &Value,
+    v: &Value<'_, '_>,
     name: &str,
     code: i64,
     side: i64,
@@ -38,7 +38,7 @@ fn read_end(
 {
     match v.get(name) {
         None => Err(missing(alloc, at, code)),
-        Some(found) => match end_of(found, side) {
+        Some(found) => match end_of(&found, side) {
             None => Err(wrong(alloc, at, code)),
             Some(end) => Ok(end),
         },
@@ -46,13 +46,13 @@ fn read_end(
 }
 
 #[inline]
-fn read_kind(alloc: Global, v: &Value, at: &[u32]) -> Result<i64, ReadStop>
+fn read_kind(alloc: Global, v: &Value<'_, '_>, at: &[u32]) -> Result<i64, ReadStop>
     ensures ok { IfOk result (λ k. link_kind at.now (view v.now) ≡ Ok k) }
     ensures stop { IfErr result (λ e. Stops (link_kind at.now (view v.now)) e) }
 {
     match v.get("ct") {
         None => Err(missing(alloc, at, 21)),
-        Some(found) => match kind_of(found) {
+        Some(found) => match kind_of(&found) {
             None => Err(wrong(alloc, at, 21)),
             Some(kind) => Ok(kind),
         },

@@ -1,7 +1,7 @@
 ghost use Rattle.std.specs.Prelude.{◌≡◌, ◌^◌, ◌<◌, Ok, IfOk, IfErr, codes, option_map};
-ghost use Rattle.serde_json.specs.View.{view};
 ghost use Rattle.serde_json.specs.Find.{get};
 ghost use Rattle.sci_base.specs.Plain.{fields_of};
+ghost use Rattle.sci_document.specs.View.{view};
 ghost use Rattle.sci_json.specs.Field.{field, as_flags};
 ghost use Rattle.sci_diagram.specs.Tree.{is_super_name, sim_name, is_super, list_where, inner_there, flags_of, count_of, read_fields};
 ghost use Rattle.sci_diagram.specs.Stops.{Stops};
@@ -12,7 +12,7 @@ use crate::numbers::small_count;
 use crate::sorts::Role;
 use crate::stop::ReadStop;
 use sci_base::BlockFields;
-use serde_json::Value;
+use sci_document::Value;
 use std::alloc::Global;
 
 fn is_super_name(name: &str) -> bool
@@ -21,21 +21,17 @@ fn is_super_name(name: &str) -> bool
     name == "super" || name == "csuper"
 }
 
-fn sim_name(v: &Value) -> Option<&str>
+fn sim_name<'a>(v: &Value<'_, 'a>) -> Option<&'a str>
     ensures { option_map (λ s. s.now) result ≡ sim_name (view v.now) }
 {
-    match v {
-        Value::String(s) => Some(s.as_str()),
-        Value::Array(items) => match items.as_slice() {
-            [first, ..] => first.as_str(),
-            [] => None,
-        },
-        _ => None,
+    match v.items() {
+        Some(mut items) => items.next()?.as_str(),
+        None => v.as_str(),
     }
 }
 
 /// Whether the block is a superblock.
-pub(crate) fn is_super(alloc: Global, model: &Value, at: &[u32]) -> Result<bool, ReadStop>
+pub(crate) fn is_super(alloc: Global, model: &Value<'_, '_>, at: &[u32]) -> Result<bool, ReadStop>
     ensures ok { IfOk result
         (λ b. is_super at.now (field sim_name (codes "sim") (view model.now)) ≡ Ok b) }
     ensures stop { IfErr result
@@ -43,7 +39,7 @@ pub(crate) fn is_super(alloc: Global, model: &Value, at: &[u32]) -> Result<bool,
 {
     match model.get("sim") {
         None => Ok(false),
-        Some(found) => match sim_name(found) {
+        Some(found) => match sim_name(&found) {
             None => Err(wrong(alloc, at, 5)),
             Some(name) => Ok(is_super_name(name)),
         },
@@ -54,7 +50,7 @@ pub(crate) fn is_super(alloc: Global, model: &Value, at: &[u32]) -> Result<bool,
 fn ints_where(
     alloc: Global,
     looked_at: bool,
-    v: &Value,
+    v: &Value<'_, '_>,
     name: &str,
     code: i64,
     at: &[u32],
@@ -72,7 +68,7 @@ fn ints_where(
 }
 
 #[inline(always)]
-fn inner_there(alloc: Global, role: Role, model: &Value, at: &[u32]) -> Result<(), ReadStop>
+fn inner_there(alloc: Global, role: Role, model: &Value<'_, '_>, at: &[u32]) -> Result<(), ReadStop>
     ensures ok { IfOk result (λ u. inner_there role at.now (view model.now) ≡ Ok u) }
     ensures stop { IfErr result (λ e. Stops (inner_there role at.now (view model.now)) e) }
 {
@@ -86,7 +82,11 @@ fn inner_there(alloc: Global, role: Role, model: &Value, at: &[u32]) -> Result<(
 }
 
 #[inline(always)]
-fn dep_flags(alloc: Global, model: &Value, at: &[u32]) -> Result<Option<(bool, bool)>, ReadStop>
+fn dep_flags(
+    alloc: Global,
+    model: &Value<'_, '_>,
+    at: &[u32],
+) -> Result<Option<(bool, bool)>, ReadStop>
     ensures ok { IfOk result
         (λ o. flags_of at.now (field as_flags (codes "dep_ut") (view model.now)) ≡ Ok o) }
     ensures stop { IfErr result
@@ -99,16 +99,22 @@ fn dep_flags(alloc: Global, model: &Value, at: &[u32]) -> Result<Option<(bool, b
 }
 
 #[inline(always)]
-fn count(alloc: Global, v: &Value, name: &str, code: i64, at: &[u32]) -> Result<u32, ReadStop>
+fn count(
+    alloc: Global,
+    v: &Value<'_, '_>,
+    name: &str,
+    code: i64,
+    at: &[u32],
+) -> Result<u32, ReadStop>
     requires light { weight (view v.now) < 2 ^ 32 }
     ensures ok { IfOk result (λ n. count_of at.now code name.now (view v.now) ≡ Ok n) }
     ensures stop { IfErr result (λ e. Stops (count_of at.now code name.now (view v.now)) e) }
 {
     match v.get(name) {
         None => Ok(0),
-        Some(found) => match small_count(found) {
+        Some(found) => match small_count(&found) {
             None => Err(wrong(alloc, at, code)),
-            Some(n) => Ok(n as u32),
+            Some(n) => Ok(n),
         },
     }
 }
@@ -118,7 +124,7 @@ fn count(alloc: Global, v: &Value, name: &str, code: i64, at: &[u32]) -> Result<
 pub(crate) fn read_fields(
     alloc: Global,
     role: Role,
-    model: &Value,
+    model: &Value<'_, '_>,
     at: &[u32],
 ) -> Result<BlockFields, ReadStop>
     requires light { weight (view model.now) < 2 ^ 32 }

@@ -1,12 +1,12 @@
 ghost use Rattle.std.specs.Prelude.{◌≡◌, Ok, IfOk, IfErr, Some};
-ghost use Rattle.serde_json.specs.View.{view};
 ghost use Rattle.serde_json.specs.Find.{get};
+ghost use Rattle.sci_document.specs.View.{view};
 ghost use Rattle.sci_diagram.specs.Stops.{Stops};
 ghost use Rattle.sci_diagram.specs.Tree.{sort_of, as_sort, read_sort};
 
 use crate::fields::{missing, required_text, wrong};
 use crate::stop::ReadStop;
-use serde_json::Value;
+use sci_document::Value;
 use std::alloc::Global;
 
 /// What an object is.
@@ -72,14 +72,14 @@ fn sort_of(name: &str) -> Option<Sort>
     }
 }
 
-fn as_sort(v: &Value) -> Option<Sort>
+fn as_sort(v: &Value<'_, '_>) -> Option<Sort>
     ensures { result ≡ as_sort (view v.now) }
 {
     sort_of(v.as_str()?)
 }
 
 #[tactic(auto, unfolding(crate::specs::Tree::read_sort))]
-pub(crate) fn read_sort(alloc: Global, v: &Value, at: &[u32]) -> Result<Sort, ReadStop>
+pub(crate) fn read_sort(alloc: Global, v: &Value<'_, '_>, at: &[u32]) -> Result<Sort, ReadStop>
     ensures ok { IfOk result (λ s. read_sort at.now (view v.now) ≡ Ok s) }
     ensures stop { IfErr result (λ e. Stops (read_sort at.now (view v.now)) e) }
 {
@@ -88,7 +88,7 @@ pub(crate) fn read_sort(alloc: Global, v: &Value, at: &[u32]) -> Result<Sort, Re
     }
     match v.get("obj") {
         None => Err(missing(alloc, at, 2)),
-        Some(found) => match as_sort(found) {
+        Some(found) => match as_sort(&found) {
             None => Err(wrong(alloc, at, 2)),
             Some(sort) => Ok(sort),
         },

@@ -255,3 +255,11 @@ fn refuses_too_many_blocks_and_links(rt: HostRuntime) -> Result<(), Fail> {
     }
     Ok(())
 }
+
+#[test]
+fn refuses_a_million_numbers(rt: HostRuntime) -> Result<(), Fail> {
+    let alloc = rt.alloc();
+    let text = repeated(alloc, r#"{"objs":[0"#, ",0", 999999, "]}")?;
+    refused(&rt, alloc, text.as_str(), Rule::WrongField, &[1], &[2]);
+    Ok(())
+}

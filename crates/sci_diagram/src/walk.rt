@@ -1,5 +1,5 @@
 ghost use Rattle.std.specs.Prelude.{◌≡◌, ◌^◌, ◌<◌, ◌≤◌, ◌++◌, ◌∷◌, [], Ok, IfOk, IfErr, pos, codes, map, Some, None, if◌then◌else◌};
-ghost use Rattle.serde_json.specs.View.{view, items_view};
+ghost use Rattle.sci_document.specs.View.{view, items_view};
 ghost use Rattle.sci_json.specs.Field.{field};
 ghost use Rattle.sci_diagram.specs.Objects.{objects_of, object_view, block_view, diagram_view};
 ghost use Rattle.sci_diagram.specs.Tree.{required, whole_object, read_block, read_object, walk, list_of, diagram_at};
@@ -12,8 +12,8 @@ use crate::links::read_link;
 use crate::model::{is_super, read_fields};
 use crate::sorts::{Role, Sort, read_sort};
 use crate::stop::ReadStop;
+use sci_document::{Items, Value};
 use sci_json::FieldStop;
-use serde_json::Value;
 use smallvec::SmallVec;
 use std::alloc::Global;
 
@@ -22,7 +22,7 @@ use std::alloc::Global;
 #[tactic(auto, using(crate::proofs::Stopping::stops_then))]
 pub(crate) fn read_diagram(
     alloc: Global,
-    v: &Value,
+    v: &Value<'_, '_>,
     at: &[u32],
     left: u32,
 ) -> Result<Diagram, ReadStop>
@@ -42,18 +42,23 @@ pub(crate) fn read_diagram(
 
 /// The objects of a diagram, in their order.
 #[cycle(walk)]
-fn read_objs(alloc: Global, items: &[Value], at: &[u32], left: u32) -> Result<Vec<Obj>, ReadStop>
-    requires light { items_weight (items_view items.now) < 2 ^ 32 }
+fn read_objs(
+    alloc: Global,
+    mut items: Items<'_, '_>,
+    at: &[u32],
+    left: u32,
+) -> Result<Vec<Obj>, ReadStop>
+    requires light { items_weight (items_view items) < 2 ^ 32 }
     requires levels { left ≤ 16 }
-    ensures ok { IfOk result (λ os. walk (diagram_at left) at.now 1 (items_view items.now)
+    ensures ok { IfOk result (λ os. walk (diagram_at left) at.now 1 (items_view items.entry)
         ≡ Ok (objects_of (map object_view os.items))) }
     ensures stop { IfErr result
-        (λ e. Stops (walk (diagram_at left) at.now 1 (items_view items.now)) e) }
+        (λ e. Stops (walk (diagram_at left) at.now 1 (items_view items.entry)) e) }
 {
-    let mut objs = Vec::with_capacity(alloc, items.len())?;
-    for (i, item) in items.iter().enumerate() {
-        let place = child(alloc, at, i as u32 + 1)?;
-        objs.push(read_obj(alloc, item, place.as_slice(), left)?)?;
+    let mut objs = Vec::new(alloc);
+    while let Some(item) = items.next() {
+        let place = child(alloc, at, objs.len() as u32 + 1)?;
+        objs.push(read_obj(alloc, &item, place.as_slice(), left)?)?;
     }
     Ok(objs)
 }
@@ -61,7 +66,7 @@ fn read_objs(alloc: Global, items: &[Value], at: &[u32], left: u32) -> Result<Ve
 /// One object.
 #[cycle(walk)]
 #[tactic(auto, using(crate::proofs::Stopping::stops_then), unfolding(crate::specs::Tree::read_object))]
-fn read_obj(alloc: Global, v: &Value, at: &[u32], left: u32) -> Result<Obj, ReadStop>
+fn read_obj(alloc: Global, v: &Value<'_, '_>, at: &[u32], left: u32) -> Result<Obj, ReadStop>
     requires light { weight (view v.now) < 2 ^ 32 }
     requires levels { left ≤ 16 }
     ensures ok { IfOk result
@@ -80,7 +85,7 @@ fn read_obj(alloc: Global, v: &Value, at: &[u32], left: u32) -> Result<Obj, Read
 /// A block, with what is inside a superblock.
 #[cycle(walk)]
 #[tactic(auto, using(crate::proofs::Stopping::stops_then), unfolding(crate::specs::Tree::read_block))]
-fn read_block(alloc: Global, v: &Value, at: &[u32], left: u32) -> Result<BlockObj, ReadStop>
+fn read_block(alloc: Global, v: &Value<'_, '_>, at: &[u32], left: u32) -> Result<BlockObj, ReadStop>
     requires light { weight (view v.now) < 2 ^ 32 }
     requires levels { left ≤ 16 }
     ensures ok { IfOk result
@@ -90,19 +95,19 @@ fn read_block(alloc: Global, v: &Value, at: &[u32], left: u32) -> Result<BlockOb
 {
     let gui = required_text(alloc, v, "gui", 3, at)?;
     let model = model_of(alloc, v, at)?;
-    if is_super(alloc, model, at)? {
-        let fields = read_fields(alloc, Role::Super, model, at)?;
+    if is_super(alloc, &model, at)? {
+        let fields = read_fields(alloc, Role::Super, &model, at)?;
         let Some(rpar) = model.get("rpar") else {
             return Err(missing(alloc, at, 15));
         };
-        let inner = Box::new(alloc, read_diagram(alloc, rpar, at, left)?)?;
+        let inner = Box::new(alloc, read_diagram(alloc, &rpar, at, left)?)?;
         Ok(BlockObj {
             gui,
             fields,
             inner: Some(inner),
         })
     } else {
-        let fields = read_fields(alloc, Role::of(gui.as_str()), model, at)?;
+        let fields = read_fields(alloc, Role::of(gui.as_str()), &model, at)?;
         Ok(BlockObj {
             gui,
             fields,
@@ -122,8 +127,8 @@ fn child(alloc: Global, at: &[u32], position: u32) -> Result<SmallVec<u32, 16, G
 }
 
 #[tactic(auto, unfolding(crate::specs::Tree::list_of))]
-fn list_of<'a>(alloc: Global, v: &'a Value, at: &[u32]) -> Result<&'a [Value], ReadStop>
-    ensures ok { IfOk result (λ s. list_of at.now (view v.now) ≡ Ok (items_view s.now)) }
+fn list_of<'t, 'a>(alloc: Global, v: &Value<'t, 'a>, at: &[u32]) -> Result<Items<'t, 'a>, ReadStop>
+    ensures ok { IfOk result (λ s. list_of at.now (view v.now) ≡ Ok (items_view s)) }
     ensures stop { IfErr result (λ e. Stops (list_of at.now (view v.now)) e) }
 {
     if !v.is_object() {
@@ -137,15 +142,15 @@ fn list_of<'a>(alloc: Global, v: &'a Value, at: &[u32]) -> Result<&'a [Value], R
     }
 }
 
-fn model_of<'a>(alloc: Global, v: &'a Value, at: &[u32]) -> Result<&'a Value, ReadStop>
+fn model_of<'t, 'a>(alloc: Global, v: &Value<'t, 'a>, at: &[u32]) -> Result<Value<'t, 'a>, ReadStop>
     ensures ok { IfOk result
-        (λ m. required at.now (pos 4) (field whole_object (codes "model") (view v.now)) ≡ Ok (view m.now)) }
+        (λ m. required at.now (pos 4) (field whole_object (codes "model") (view v.now)) ≡ Ok (view m)) }
     ensures stop { IfErr result
         (λ e. Stops (required at.now (pos 4) (field whole_object (codes "model") (view v.now))) e) }
 {
     match v.get("model") {
         None => Err(missing(alloc, at, 4)),
-        Some(found) => if is_object(found) {
+        Some(found) => if is_object(&found) {
             Ok(found)
         } else {
             Err(wrong(alloc, at, 4))
@@ -153,8 +158,8 @@ fn model_of<'a>(alloc: Global, v: &'a Value, at: &[u32]) -> Result<&'a Value, Re
     }
 }
 
-fn is_object(v: &Value) -> bool
+fn is_object(v: &Value<'_, '_>) -> bool
     ensures { whole_object (view v.now) ≡ if result then Some (view v.now) else None }
 {
-    matches!(v, Value::Object(_))
+    v.is_object()
 }

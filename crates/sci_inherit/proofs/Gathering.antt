@@ -1,4 +1,4 @@
--- The activation outputs of synchronous blocks that reach each block, as they are gathered.
+-- The activation outputs that reach each block, as they are gathered.
 use Rattle.std.proofs.Common.{◌≡◌, ◌≢◌, ◌<◌, ◌≤◌, ◌+◌, ◌-◌, ◌↔◌, ◌∙◌, ℕ, suc, true, List, ◌∷◌, [], ◌++◌, ◌⊎◌, inl, inr, ⊎_elim, refl, sym, ap, subst, arith, length, get_or, get_or-set_same, get_or-set_other, take, replicate, true≢false}
 use Rattle.std.proofs.Math.ListN.{set}
 use Rattle.std.specs.Prelude.{Contains, All, nat_eq}
@@ -15,10 +15,11 @@ use Rattle.sci_walk.proofs.Adding.{none-there, adds-none, adds-same, adds-both, 
 use Rattle.sci_net.specs.declared.Feed.{Feed}
 use Rattle.sci_net.specs.Parts.{Parts, IsBlock, IsActivationOutput, spec_of, AreRising, precedes}
 use Rattle.sci_net.specs.Net.{IsNet}
-use Rattle.sci_reaction.specs.Active.{Inherited, seeded, passed, Reaches, IsSync}
+use Rattle.sci_reaction.specs.Active.{Inherited, seeded, passed, Reaches}
 use Rattle.sci_inherit.proofs.Ordered.{precedes_yes}
 use Rattle.sci_inherit.specs.Links.{AreHeirs}
-use Rattle.sci_inherit.specs.Gather.{Goes, Pushes, Gathered, OfBlocks, OfPorts}
+use Rattle.sci_inherit.specs.declared.gather.Senders.{Senders}
+use Rattle.sci_inherit.specs.Gather.{Goes, Pushes, IsSender, Gathered, OfBlocks, OfPorts}
 
 -- ---- one output is put into the lists
 
@@ -125,8 +126,8 @@ blocks_within n m bs count is j d h = let l = is (get_or bs j d) (Contains-get_o
 
 -- ---- what is gathered
 
-pub ports_precede : (n : Parts) (b m : ℕ) (x : Feed) → OfPorts n b m x → precedes x (record { block = b; port = m + 1 }) ≡ true
-ports_precede n b m x h = precedes_yes x (record { block = b; port = m + 1 }) h.below
+pub ports_precede : (n : Parts) (w : Senders) (b m : ℕ) (x : Feed) → OfPorts n w b m x → precedes x (record { block = b; port = m + 1 }) ≡ true
+ports_precede n w b m x h = precedes_yes x (record { block = b; port = m + 1 }) h.below
 
 pub gathered_same : (n : Parts) (done other : Feed → Type 0) (ls : List (List Feed)) → ((x : Feed) (b : ℕ) → Reaches n x b → done x ↔ other x) → Gathered n done ls → Gathered n other ls
 gathered_same n done other ls is g = record {
@@ -155,33 +156,33 @@ gathered_more n done q old new before pushes g = record {
   );
 }
 
-pub gathered_none : (n : Parts) (count : ℕ) → IsNet n → count ≡ length n.specs → length (replicate {A = List Feed} count []) ≡ count → Gathered n (OfBlocks n 0) (replicate count [])
-gathered_none n count net is long = record {
+pub gathered_none : (n : Parts) (w : Senders) (count : ℕ) → IsNet n → count ≡ length n.specs → length (replicate {A = List Feed} count []) ≡ count → Gathered n (OfBlocks n w 0) (replicate count [])
+gathered_none n w count net is long = record {
   long = long ∙ is;
   rising = λ p i j d l m. absurd (none-there count p _ (Contains-get_or (list_at (replicate count []) p) j d m));
   exactly = λ p x. ((λ h. absurd (none-there count p x h)), λ h. let o = (reaches_output n x net h.1).block.least in let l = h.0.below in absurd (omega (arith, o, l)));
 }
 
-pub gathered_begins : (n : Parts) (b : ℕ) (ls : List (List Feed)) → IsNet n → 1 ≤ b → Gathered n (OfBlocks n (b - 1)) ls → Gathered n (OfPorts n b 0) ls
-gathered_begins n b ls net least = gathered_same n (OfBlocks n (b - 1)) (OfPorts n b 0) ls is
+pub gathered_begins : (n : Parts) (w : Senders) (b : ℕ) (ls : List (List Feed)) → IsNet n → 1 ≤ b → Gathered n (OfBlocks n w (b - 1)) ls → Gathered n (OfPorts n w b 0) ls
+gathered_begins n w b ls net least = gathered_same n (OfBlocks n w (b - 1)) (OfPorts n w b 0) ls is
   where
-    is : (x : Feed) (c : ℕ) → Reaches n x c → OfBlocks n (b - 1) x ↔ OfPorts n b 0 x
+    is : (x : Feed) (c : ℕ) → Reaches n x c → OfBlocks n w (b - 1) x ↔ OfPorts n w b 0 x
     is x c r = (
-      (λ h. record { sync = h.sync; below = let l = h.below in inl (omega (arith, l, least)) }),
+      (λ h. record { sender = h.sender; below = let l = h.below in inl (omega (arith, l, least)) }),
       λ h. record {
-        sync = h.sync;
+        sender = h.sender;
         below = ⊎_elim (λ l. omega (arith, l, least)) (λ e. let o = (reaches_output n x net r).least in let l = e.1 in absurd (omega (arith, o, l))) h.below;
       },
     )
 
-pub gathered_ends : (n : Parts) (b m : ℕ) (ls : List (List Feed)) → IsNet n → m ≡ (spec_of n b).evtout → Gathered n (OfPorts n b m) ls → Gathered n (OfBlocks n b) ls
-gathered_ends n b m ls net count = gathered_same n (OfPorts n b m) (OfBlocks n b) ls is
+pub gathered_ends : (n : Parts) (w : Senders) (b m : ℕ) (ls : List (List Feed)) → IsNet n → m ≡ (spec_of n b).evtout → Gathered n (OfPorts n w b m) ls → Gathered n (OfBlocks n w b) ls
+gathered_ends n w b m ls net count = gathered_same n (OfPorts n w b m) (OfBlocks n w b) ls is
   where
-    is : (x : Feed) (c : ℕ) → Reaches n x c → OfPorts n b m x ↔ OfBlocks n b x
+    is : (x : Feed) (c : ℕ) → Reaches n x c → OfPorts n w b m x ↔ OfBlocks n w b x
     is x c r = (
-      (λ h. record { sync = h.sync; below = ⊎_elim (λ l. omega (arith, l)) (λ e. let s = e.0 in omega (arith, s)) h.below }),
+      (λ h. record { sender = h.sender; below = ⊎_elim (λ l. omega (arith, l)) (λ e. let s = e.0 in omega (arith, s)) h.below }),
       λ h. record {
-        sync = h.sync;
+        sender = h.sender;
         below = ⊎_elim
             (λ e. let o = subst (λ (y : ℕ). x.port ≤ (spec_of n y).evtout) e (reaches_output n x net r).most in inr (e, omega (arith, o, count)))
             (λ d. let l = h.below in inl (omega (arith, l, d)))
@@ -189,24 +190,24 @@ gathered_ends n b m ls net count = gathered_same n (OfPorts n b m) (OfBlocks n b
       },
     )
 
--- a block that isn't synchronous adds nothing
-pub gathered_other : (n : Parts) (b : ℕ) (ls : List (List Feed)) → 1 ≤ b → (IsSync n b → ⊥) → Gathered n (OfBlocks n (b - 1)) ls → Gathered n (OfBlocks n b) ls
-gathered_other n b ls least other = gathered_same n (OfBlocks n (b - 1)) (OfBlocks n b) ls is
+-- a block that is no sender adds nothing
+pub gathered_other : (n : Parts) (w : Senders) (b : ℕ) (ls : List (List Feed)) → 1 ≤ b → (IsSender n w b → ⊥) → Gathered n (OfBlocks n w (b - 1)) ls → Gathered n (OfBlocks n w b) ls
+gathered_other n w b ls least other = gathered_same n (OfBlocks n w (b - 1)) (OfBlocks n w b) ls is
   where
-    is : (x : Feed) (c : ℕ) → Reaches n x c → OfBlocks n (b - 1) x ↔ OfBlocks n b x
+    is : (x : Feed) (c : ℕ) → Reaches n x c → OfBlocks n w (b - 1) x ↔ OfBlocks n w b x
     is x c r = (
-      (λ h. record { sync = h.sync; below = let l = h.below in omega (arith, l, least) }),
+      (λ h. record { sender = h.sender; below = let l = h.below in omega (arith, l, least) }),
       λ h. record {
-        sync = h.sync;
-        below = ⊎_elim (λ s. absurd (other (subst (IsSync n) s h.sync))) (λ d. let l = h.below in omega (arith, l, d, least)) (cases_eq x.block b);
+        sender = h.sender;
+        below = ⊎_elim (λ s. absurd (other (subst (IsSender n w) s h.sender))) (λ d. let l = h.below in omega (arith, l, d, least)) (cases_eq x.block b);
       },
     )
 
--- one output more of a synchronous block
-pub gathered_port : (n : Parts) (b m : ℕ) (old new : List (List Feed)) → IsSync n b → Pushes (Reaches n (record { block = b; port = m + 1 })) (record { block = b; port = m + 1 }) old new
-    → Gathered n (OfPorts n b m) old → Gathered n (OfPorts n b (m + 1)) new
-gathered_port n b m old new sync pushes g =
-    gathered_same n (λ x. OfPorts n b m x ⊎ (q ≡ x)) (OfPorts n b (m + 1)) new is (gathered_more n (OfPorts n b m) q old new (ports_precede n b m) pushes g)
+-- one output more of a sender
+pub gathered_port : (n : Parts) (w : Senders) (b m : ℕ) (old new : List (List Feed)) → IsSender n w b → Pushes (Reaches n (record { block = b; port = m + 1 })) (record { block = b; port = m + 1 }) old new
+    → Gathered n (OfPorts n w b m) old → Gathered n (OfPorts n w b (m + 1)) new
+gathered_port n w b m old new sender pushes g =
+    gathered_same n (λ x. OfPorts n w b m x ⊎ (q ≡ x)) (OfPorts n w b (m + 1)) new is (gathered_more n (OfPorts n w b m) q old new (ports_precede n w b m) pushes g)
   where
     q : Feed
     q = record { block = b; port = m + 1 }
@@ -214,17 +215,17 @@ gathered_port n b m old new sync pushes g =
     mk : ℕ → ℕ → Feed
     mk c p = record { block = c; port = p }
 
-    is : (x : Feed) (c : ℕ) → Reaches n x c → (OfPorts n b m x ⊎ (q ≡ x)) ↔ OfPorts n b (m + 1) x
+    is : (x : Feed) (c : ℕ) → Reaches n x c → (OfPorts n w b m x ⊎ (q ≡ x)) ↔ OfPorts n w b (m + 1) x
     is x c r = (
       (λ h. elim h [
-        | inl o ↦ record { sync = o.sync; below = ⊎_elim (λ l. inl l) (λ e. let l = e.1 in inr (e.0, omega (arith, l))) o.below }
+        | inl o ↦ record { sender = o.sender; below = ⊎_elim (λ l. inl l) (λ e. let l = e.1 in inr (e.0, omega (arith, l))) o.below }
         | inr e ↦ record {
-          sync = subst (λ (y : Feed). IsSync n y.block) e sync;
+          sender = subst (λ (y : Feed). IsSender n w y.block) e sender;
           below = inr (sym (ap (λ (y : Feed). y.block) e), let s = ap (λ (y : Feed). y.port) e in omega (arith, s));
         }
       ]),
-      λ h. ⊎_elim (λ l. inl (record { sync = h.sync; below = inl l })) (λ e. ⊎_elim
+      λ h. ⊎_elim (λ l. inl (record { sender = h.sender; below = inl l })) (λ e. ⊎_elim
           (λ s. inr (ap (λ (i : ℕ). mk i (m + 1)) (sym e.0) ∙ ap (λ (i : ℕ). mk x.block i) (sym s)))
-          (λ d. let l = e.1 in inl (record { sync = h.sync; below = inr (e.0, omega (arith, l, d)) }))
+          (λ d. let l = e.1 in inl (record { sender = h.sender; below = inr (e.0, omega (arith, l, d)) }))
           (cases_eq x.port (m + 1))) h.below,
     )

@@ -15,7 +15,7 @@ use Rattle.sci_net.specs.declared.Source.TheVariants.{Start, Port}
 use Rattle.sci_net.specs.Parts.{Parts, IsBlock}
 use Rattle.sci_net.specs.Net.{IsNet}
 use Rattle.sci_reaction.specs.Links.{Feeds, IsConstant, SetOff}
-use Rattle.sci_reaction.specs.Active.{Inherited, seeded, passed, Reaches, IsSync}
+use Rattle.sci_reaction.specs.Active.{Inherited, seeded, passed, Reaches, IsAlways, IsSync}
 use Rattle.sci_reaction.specs.Depends.{Conditions}
 use Rattle.sci_inherit.specs.declared.Fed.{Fed}
 use Rattle.sci_inherit.specs.Links.{plain_rows, HaveRows, AreHeirs, AreFedBy, AreRows}
@@ -164,14 +164,24 @@ conditions_are n c sync b = (
   λ h. some_from n c h.branch h.reaches,
 )
 
+pub none_twice : IsDistinct nat_eq []
+unfolding IsDistinct
+none_twice = tt
+
 pub onward_none : (n : Parts) (c : ℕ) (bs : List ℕ) → (IsSync n c → ⊥) → bs ≡ [] → AreOnward n c bs
-onward_none n c bs other e b = ((λ has. absurd (nothing b (subst (λ (l : List ℕ). Contains l b) e has))), λ h. absurd (other h.sync))
+onward_none n c bs other e = record {
+  once = subst (IsDistinct nat_eq) (sym e) none_twice;
+  exactly = λ b. ((λ has. absurd (nothing b (subst (λ (l : List ℕ). Contains l b) e has))), λ h. absurd (other h.sync));
+}
 
 pub onward_of_none : (n : Parts) (bs : List ℕ) → IsNet n → bs ≡ [] → AreOnward n 0 bs
-onward_of_none n bs net e b = (
-  (λ has. absurd (nothing b (subst (λ (l : List ℕ). Contains l b) e has))),
-  λ h. let l = (reaches_output n (record { block = 0; port = h.branch }) net h.reaches).block.least in absurd (omega (arith, l)),
-)
+onward_of_none n bs net e = record {
+  once = subst (IsDistinct nat_eq) (sym e) none_twice;
+  exactly = λ b. (
+    (λ has. absurd (nothing b (subst (λ (l : List ℕ). Contains l b) e has))),
+    λ h. let l = (reaches_output n (record { block = 0; port = h.branch }) net h.reaches).block.least in absurd (omega (arith, l)),
+  );
+}
 
 -- ---- constants
 
@@ -215,17 +225,22 @@ pub set_off_block : (n : Parts) (s : Source) (b : ℕ) → SetOff n s b → IsBl
 set_off_block n Start b h = h.block
 set_off_block n (Port q) b h = h.within.block
 
-pub always_found : (n : Parts) (s : Source) (ls : List (List ℕ)) (starts found bs : List ℕ) → AreHeirs n ls → AreSetOff n s starts → ((b : ℕ) → Contains found b ↔ IsReached ls starts b)
-    → IsDistinct nat_eq found → bs ≡ found → AreAlways n s bs
-always_found n s ls starts found bs heirs off are once is = subst (AreAlways n s) (sym is) (record {
-  once = once;
-  exactly = λ b. let walked = walked_is n ls starts (SetOff n s) heirs off b in ((λ h. walked.0 ((are b).0 h)), λ h. (are b).1 (walked.1 h));
-})
+-- what a walk from what a source sets off has found
+pub always_found : (n : Parts) (s : Source) (ls : List (List ℕ)) (starts found : List ℕ) → AreHeirs n ls → AreSetOff n s starts → ((b : ℕ) → Contains found b ↔ IsReached ls starts b)
+    → (b : ℕ) → Contains found b ↔ IsAlways n s b
+always_found n s ls starts found heirs off are b =
+    let walked = walked_is n ls starts (SetOff n s) heirs off b in ((λ h. walked.0 ((are b).0 h)), λ h. (are b).1 (walked.1 h))
+
+pub always_once : (n : Parts) (s : Source) (found bs : List ℕ) → ((b : ℕ) → Contains found b ↔ IsAlways n s b) → IsDistinct nat_eq found → bs ≡ found → AreAlways n s bs
+always_once n s found bs are once is = subst (AreAlways n s) (sym is) (record { once = once; exactly = are })
 
 -- what a walk from all that a synchronous block feeds has found
 pub onward_found : (n : Parts) (c : ℕ) (ls : List (List ℕ)) (starts found bs : List ℕ) → IsSync n c → AreHeirs n ls → ((b : ℕ) → Contains starts b ↔ FeedsSome n c b)
-    → ((b : ℕ) → Contains found b ↔ IsReached ls starts b) → bs ≡ found → AreOnward n c bs
-onward_found n c ls starts found bs sync heirs seeds are is = subst (AreOnward n c) (sym is) (λ b.
-    let walked = walked_is n ls starts (FeedsSome n c) heirs seeds b in
-    let told = conditions_are n c sync b in
-    ((λ h. told.0 (walked.0 ((are b).0 h))), λ h. (are b).1 (walked.1 (told.1 h))))
+    → ((b : ℕ) → Contains found b ↔ IsReached ls starts b) → IsDistinct nat_eq found → bs ≡ found → AreOnward n c bs
+onward_found n c ls starts found bs sync heirs seeds are once is = subst (AreOnward n c) (sym is) (record {
+  once = once;
+  exactly = λ b.
+      let walked = walked_is n ls starts (FeedsSome n c) heirs seeds b in
+      let told = conditions_are n c sync b in
+      ((λ h. told.0 (walked.0 ((are b).0 h))), λ h. (are b).1 (walked.1 (told.1 h)));
+})

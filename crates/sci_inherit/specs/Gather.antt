@@ -9,6 +9,8 @@ use Rattle.sci_reaction.specs.Links.{IsConstant, SourceFeeds, SetOff}
 use Rattle.sci_reaction.specs.Active.{Reaches, IsAlways, IsSync}
 use Rattle.sci_reaction.specs.Depends.{Conditions}
 use Rattle.sci_inherit.specs.declared.Fed.{Fed}
+use Rattle.sci_inherit.specs.declared.gather.Senders.{Senders}
+use Rattle.sci_inherit.specs.declared.gather.Senders.TheVariants.{Each, Synchronous}
 
 -- each list has what it should, by its place
 abbrev pub AreEach : {X : Type 0} → (ℕ → List X → Type 0) → List (List X) → Type 0
@@ -52,14 +54,19 @@ pub record Gathered (n : Parts) (done : Feed → Type 0) (ls : List (List Feed))
   pub rising : (p : ℕ) → AreRising (list_at ls p)
   pub exactly : (p : ℕ) (q : Feed) → Contains (list_at ls p) q ↔ (done q × Reaches n q (suc p))
 
--- those of the synchronous ones of the first k blocks
-pub record OfBlocks (n : Parts) (k : ℕ) (q : Feed) : Type 0 where
-  pub sync : IsSync n q.block
+-- the activation outputs of b are gathered
+abbrev pub IsSender : Parts → Senders → ℕ → Type 0
+IsSender n Each b = Unit {0}
+IsSender n Synchronous b = IsSync n b
+
+-- those of the senders among the first k blocks
+pub record OfBlocks (n : Parts) (s : Senders) (k : ℕ) (q : Feed) : Type 0 where
+  pub sender : IsSender n s q.block
   pub below : q.block < k + 1
 
--- those of the synchronous blocks before b, and the first m of b
-pub record OfPorts (n : Parts) (b m : ℕ) (q : Feed) : Type 0 where
-  pub sync : IsSync n q.block
+-- those of the senders before b, and the first m of b
+pub record OfPorts (n : Parts) (s : Senders) (b m : ℕ) (q : Feed) : Type 0 where
+  pub sender : IsSender n s q.block
   pub below : (q.block < b) ⊎ ((q.block ≡ b) × (q.port < m + 1))
 
 -- the blocks that these activation inputs are of
@@ -73,6 +80,7 @@ pub record IsFedUpto (rows : List (List Fed)) (k b : ℕ) : Type 0 where
   pub below : port < k
   pub fed : IsFed (list_at rows port) b
 
--- the blocks that a branch of c reaches
-abbrev pub AreOnward : Parts → ℕ → List ℕ → Type 0
-AreOnward n c bs = (b : ℕ) → Contains bs b ↔ Conditions n c b
+-- the blocks that a branch of c reaches, each once
+pub record AreOnward (n : Parts) (c : ℕ) (bs : List ℕ) : Type 0 where
+  pub once : IsDistinct nat_eq bs
+  pub exactly : (b : ℕ) → Contains bs b ↔ Conditions n c b

@@ -33,4 +33,5 @@ pub record AreOrigins (n : Parts) (o : Origins) : Type 0 where
   pub feeding_are : (k : ℕ) (f : Fed) → k < length (sources_of n) → Contains (list_at o.feeding k) f ↔ SourceFeeds n (source_of n k) f.block f.input
   pub branches_rise : (b : ℕ) → AreRising (numbered [] o.branches b)
   pub branches_are : (b : ℕ) (q : Feed) → Contains (numbered [] o.branches b) q ↔ (IsSync n q.block × Reaches n q b)
+  pub onward_once : (c : ℕ) → IsDistinct nat_eq (slice_index_or o.onward c [])
   pub onward_are : (c b : ℕ) → Contains (slice_index_or o.onward c []) b ↔ Conditions n c b

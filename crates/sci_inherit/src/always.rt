@@ -1,8 +1,9 @@
 // The lists by source: the activation inputs that it feeds, and the blocks that it activates whatever the values are.
-ghost use Rattle.std.specs.Prelude.{◌≡◌, ℕ, ◌≤◌, ◌+◌, ◌-◌, ◌↔◌, ◌++◌, length, map, IfOk, OnOk, IsTrue, vec_len};
+ghost use Rattle.std.specs.Prelude.{◌≡◌, ℕ, ◌≤◌, ◌+◌, ◌-◌, ◌↔◌, ◌++◌, length, map, Contains, IfOk, OnOk, IsTrue, vec_len};
 ghost use Rattle.sci_walk.specs.Lists.{plain};
 ghost use Rattle.sci_net.specs.Sources.{sources_of, source_of};
 ghost use Rattle.sci_reaction.specs.Links.{IsConstant, IsSource};
+ghost use Rattle.sci_reaction.specs.Active.{IsAlways};
 ghost use Rattle.sci_inherit.specs.Links.{AreLinks};
 ghost use Rattle.sci_inherit.specs.Gather.{AreEach, AreFeeding, AreSetOff, AreAlways, AreConstants};
 
@@ -107,6 +108,26 @@ fn set_off(alloc: Global, net: &Net, source: Source, fed: &[Fed]) -> Result<Vec<
     }
 }
 
+/// Finds, by a walk, the blocks that a source activates whatever the values are.
+pub fn find_always(
+    alloc: Global,
+    net: &Net,
+    links: &Links,
+    walk: &mut Walk,
+    source: Source,
+    fed: &[Fed],
+) -> Result<(), AllocError>
+    requires links { AreLinks net.now links.now }
+    requires walk { walk.old.count ≡ length net.now.specs + 1 }
+    requires fed { AreFeeding net.now source fed.now }
+    ensures always { OnOk result ((b : ℕ) → Contains walk.new.found b ↔ IsAlways net.now source b) }
+    ensures count { walk.new.count ≡ walk.old.count }
+{
+    net.well_formed();
+    let starts = set_off(alloc, net, source, fed)?;
+    walk.walk(&links.heirs, &starts)
+}
+
 // The blocks that a source activates whatever the values are.
 fn always_of(
     alloc: Global,
@@ -122,9 +143,7 @@ fn always_of(
     ensures always { IfOk result (λ v. AreAlways net.now source v.items) }
     ensures count { walk.new.count ≡ walk.old.count }
 {
-    net.well_formed();
-    let starts = set_off(alloc, net, source, fed)?;
-    walk.walk(&links.heirs, &starts)?;
+    find_always(alloc, net, links, walk, source, fed)?;
     Vec::from_slice(alloc, walk.found())
 }
 

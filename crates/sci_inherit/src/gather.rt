@@ -1,10 +1,10 @@
-// The lists by block: the activation outputs of synchronous blocks that reach it, and the blocks that its own reach.
-ghost use Rattle.std.specs.Prelude.{◌≡◌, ℕ, ◌≤◌, ◌+◌, ◌-◌, ◌↔◌, length, All, Contains, IfOk, OnOk, vec_len, nat_eq};
+// The lists by block: the activation outputs, each or those of synchronous blocks, that reach it, and the blocks that its own reach.
+ghost use Rattle.std.specs.Prelude.{◌≡◌, ℕ, ◌≤◌, ◌+◌, ◌-◌, ◌↔◌, length, All, Contains, IfOk, OnOk, IsTrue, vec_len, nat_eq};
 ghost use Rattle.std.specs.List.{IsDistinct};
 ghost use Rattle.sci_walk.specs.Lists.{plain};
 ghost use Rattle.sci_reaction.specs.Active.{Reaches, IsSync};
 ghost use Rattle.sci_inherit.specs.Links.{AreFedBy, AreLinks};
-ghost use Rattle.sci_inherit.specs.Gather.{AreEach, Pushes, Gathered, OfBlocks, OfPorts, IsFedUpto, AreOnward};
+ghost use Rattle.sci_inherit.specs.Gather.{AreEach, Pushes, IsSender, Gathered, OfBlocks, OfPorts, IsFedUpto, AreOnward};
 
 use crate::Fed;
 use crate::always::{blocks_of, push_blocks};
@@ -12,6 +12,15 @@ use crate::links::Links;
 use sci_net::{Feed, Net};
 use sci_walk::{Walk, empty_lists, push_at};
 use std::alloc::{AllocError, Global};
+
+/// The blocks whose activation outputs are gathered.
+#[derive(Clone, Copy, Drop)]
+pub enum Senders {
+    /// All blocks.
+    Each,
+    /// The synchronous blocks.
+    Synchronous,
+}
 
 // Puts an activation output at the end of the lists of these blocks.
 fn push_to_all(lists: &mut Vec<Vec<Feed>>, blocks: &[u32], feed: Feed) -> Result<(), AllocError>
@@ -29,7 +38,7 @@ fn push_to_all(lists: &mut Vec<Vec<Feed>>, blocks: &[u32], feed: Feed) -> Result
 // Gathers an activation output, from what it feeds.
 fn gather_output(
     alloc: Global,
-    branches: &mut Vec<Vec<Feed>>,
+    reaching: &mut Vec<Vec<Feed>>,
     net: &Net,
     links: &Links,
     walk: &mut Walk,
@@ -39,33 +48,34 @@ fn gather_output(
     requires links { AreLinks net.now links.now }
     requires walk { walk.old.count ≡ length net.now.specs + 1 }
     requires fed { AreFedBy net.now feed fed.now }
-    requires len { vec_len branches.old ≡ length net.now.specs }
-    ensures lists { OnOk result (Pushes (Reaches net.now feed) feed (plain branches.old.items) (plain branches.new.items)) }
-    ensures len { OnOk result (vec_len branches.new ≡ vec_len branches.old) }
+    requires len { vec_len reaching.old ≡ length net.now.specs }
+    ensures lists { OnOk result (Pushes (Reaches net.now feed) feed (plain reaching.old.items) (plain reaching.new.items)) }
+    ensures len { OnOk result (vec_len reaching.new ≡ vec_len reaching.old) }
     ensures count { walk.new.count ≡ walk.old.count }
 {
     net.well_formed();
     let starts = blocks_of(alloc, fed)?;
     walk.walk(&links.heirs, &starts)?;
-    push_to_all(branches, walk.found(), feed)
+    push_to_all(reaching, walk.found(), feed)
 }
 
-// Gathers the activation outputs of a synchronous block.
+// Gathers the activation outputs of a block that is to send them.
 fn gather_ports(
     alloc: Global,
-    branches: &mut Vec<Vec<Feed>>,
+    reaching: &mut Vec<Vec<Feed>>,
     net: &Net,
     links: &Links,
     walk: &mut Walk,
+    _senders: Senders,
     block: u32,
 ) -> Result<(), AllocError>
     requires least { 1 ≤ block }
     requires most { block ≤ length net.now.specs }
-    requires sync { IsSync net.now block }
+    requires sender { IsSender net.now _senders block }
     requires links { AreLinks net.now links.now }
     requires walk { walk.old.count ≡ length net.now.specs + 1 }
-    requires gathered { Gathered net.now (OfBlocks net.now (block - 1)) (plain branches.old.items) }
-    ensures gathered { OnOk result (Gathered net.now (OfBlocks net.now block) (plain branches.new.items)) }
+    requires gathered { Gathered net.now (OfBlocks net.now _senders (block - 1)) (plain reaching.old.items) }
+    ensures gathered { OnOk result (Gathered net.now (OfBlocks net.now _senders block) (plain reaching.new.items)) }
     ensures count { walk.new.count ≡ walk.old.count }
 {
     net.well_formed();
@@ -77,7 +87,7 @@ fn gather_ports(
         };
         gather_output(
             alloc,
-            branches,
+            reaching,
             net,
             links,
             walk,
@@ -88,48 +98,62 @@ fn gather_ports(
     Ok(())
 }
 
-// Gathers the activation outputs of a block, if it is synchronous.
+// Whether the activation outputs of a block are gathered.
+fn is_sender(net: &Net, senders: Senders, block: u32) -> bool
+    requires least { 1 ≤ block }
+    requires most { block ≤ length net.now.specs }
+    ensures { IsTrue result ↔ IsSender net.now senders block }
+{
+    match senders {
+        Senders::Each => true,
+        Senders::Synchronous => net.spec(block).kind.is_sync(),
+    }
+}
+
+// Gathers the activation outputs of a block, if it is to send them.
 fn gather_block(
     alloc: Global,
-    branches: &mut Vec<Vec<Feed>>,
+    reaching: &mut Vec<Vec<Feed>>,
     net: &Net,
     links: &Links,
     walk: &mut Walk,
+    senders: Senders,
     block: u32,
 ) -> Result<(), AllocError>
     requires least { 1 ≤ block }
     requires most { block ≤ length net.now.specs }
     requires links { AreLinks net.now links.now }
     requires walk { walk.old.count ≡ length net.now.specs + 1 }
-    requires gathered { Gathered net.now (OfBlocks net.now (block - 1)) (plain branches.old.items) }
-    ensures gathered { OnOk result (Gathered net.now (OfBlocks net.now block) (plain branches.new.items)) }
+    requires gathered { Gathered net.now (OfBlocks net.now senders (block - 1)) (plain reaching.old.items) }
+    ensures gathered { OnOk result (Gathered net.now (OfBlocks net.now senders block) (plain reaching.new.items)) }
     ensures count { walk.new.count ≡ walk.old.count }
 {
-    if net.spec(block).kind.is_sync() {
-        gather_ports(alloc, branches, net, links, walk, block)
+    if is_sender(net, senders, block) {
+        gather_ports(alloc, reaching, net, links, walk, senders, block)
     } else {
         Ok(())
     }
 }
 
-/// By block, the activation outputs of synchronous blocks that reach it, by block and port.
-pub fn branches(
+/// By block, the activation outputs of the senders that reach it, by block and port.
+pub fn reaching(
     alloc: Global,
     net: &Net,
     links: &Links,
     walk: &mut Walk,
+    senders: Senders,
 ) -> Result<Vec<Vec<Feed>>, AllocError>
     requires links { AreLinks net.now links.now }
     requires walk { walk.old.count ≡ length net.now.specs + 1 }
-    ensures gathered { IfOk result (λ v. Gathered net.now (OfBlocks net.now (length net.now.specs)) (plain v.items)) }
+    ensures gathered { IfOk result (λ v. Gathered net.now (OfBlocks net.now senders (length net.now.specs)) (plain v.items)) }
     ensures count { walk.new.count ≡ walk.old.count }
 {
     net.well_formed();
-    let mut branches = empty_lists(alloc, net.len() as usize)?;
+    let mut reaching = empty_lists(alloc, net.len() as usize)?;
     for at in 0..net.len() {
-        gather_block(alloc, &mut branches, net, links, walk, at + 1)?;
+        gather_block(alloc, &mut reaching, net, links, walk, senders, at + 1)?;
     }
-    Ok(branches)
+    Ok(reaching)
 }
 
 // The blocks that the activation inputs in some rows are of.

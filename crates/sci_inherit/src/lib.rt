@@ -2,15 +2,20 @@
 #![tactic(auto)]
 
 ghost use Rattle.std.specs.Prelude.{IfOk};
+ghost use Rattle.sci_inherit.specs.ByBlock.{AreByBlock};
 ghost use Rattle.sci_inherit.specs.Origins.{AreOrigins};
 
 mod always;
+mod by_block;
 mod gather;
 mod links;
 mod reach;
+#[cfg(test)]
+mod tests;
 
 use always::{always, feeding};
-use gather::{branches, onward};
+pub use by_block::ReachByBlock;
+use gather::{Senders, onward, reaching};
 use links::Links;
 pub use reach::{Reach, contains};
 use sci_base::NoMemory;
@@ -34,7 +39,7 @@ fn made(alloc: Global, net: &Net) -> Result<Reach, AllocError>
     let mut walk = Walk::new(alloc, net.len() as usize + 1)?;
     let feeding = feeding(alloc, net, &links)?;
     let always = always(alloc, net, &links, &mut walk, &feeding)?;
-    let branches = branches(alloc, net, &links, &mut walk)?;
+    let branches = reaching(alloc, net, &links, &mut walk, Senders::Synchronous)?;
     let onward = onward(alloc, net, &links, &mut walk)?;
     Ok(Reach {
         always,
@@ -49,6 +54,17 @@ pub fn origins(alloc: Global, net: &Net) -> Result<Reach, NoMemory>
     ensures { IfOk result (λ o. AreOrigins net.now o) }
 {
     match made(alloc, net) {
+        Ok(reach) => Ok(reach),
+        Err(_) => Err(NoMemory),
+    }
+}
+
+/// What activates each block of a net, by block. It takes memory for each block that each activation output reaches. Want of memory is the
+/// only error.
+pub fn reach_by_block(alloc: Global, net: &Net) -> Result<ReachByBlock, NoMemory>
+    ensures { IfOk result (λ r. AreByBlock net.now r) }
+{
+    match by_block::made(alloc, net) {
         Ok(reach) => Ok(reach),
         Err(_) => Err(NoMemory),
     }

@@ -53,8 +53,8 @@ impl Reach {
         self.branches[block as usize - 1].as_slice()
     }
 
-    /// For each number, from 0 on, the blocks that a branch of the synchronous block of this number reaches; none for another block, and
-    /// for 0, which is no block.
+    /// For each number, from 0 on, the blocks that a branch of the synchronous block of this number reaches, each once; none for another
+    /// block, and for 0, which is no block.
     pub fn onward(&self) -> &[Vec<u32>]
         ensures { plain result.now ≡ self.now.onward }
     {

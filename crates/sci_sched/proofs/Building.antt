@@ -1,16 +1,21 @@
 -- Entries and rows, one after the other.
-use Rattle.std.proofs.Common.{◌≡◌, ℕ, ◌+◌, ◌<◌, ⊎_elim, List, [], ◌∷◌, ◌++◌, length, get_or, map, Contains, All, AllPairs, Vec, refl, sym, ap, ap₂, subst, ◌∙◌, arith, length-append}
+use Rattle.std.proofs.Common.{◌≡◌, ℕ, ◌+◌, ◌<◌, ◌↔◌, ⊎_elim, List, [], ◌∷◌, ◌++◌, length, get_or, map, Contains, All, AllPairs, Vec, refl, sym, ap, ap₂, subst, ◌∙◌, arith, length-append}
 use Rattle.std.proofs.lemmas.Bool.{cases_lt}
 use Rattle.std.proofs.lemmas.List.{get_or_default, get_or_append_left, get_or_push, map-append}
 use Rattle.std.proofs.lemmas.List.Elements.{All-contains, All-push}
 use Rattle.std.specs.declared.alloc.Global.{Global}
+use Rattle.sci_walk.specs.Lists.{plain, list_at}
+use Rattle.sci_net.specs.declared.Feed.{Feed}
 use Rattle.sci_net.specs.declared.Source.{Source}
 use Rattle.sci_net.specs.Parts.{Parts, numbered}
 use Rattle.sci_net.specs.Sources.{sources_of, source_of}
 use Rattle.sci_reaction.specs.Links.{SourceFeeds}
+use Rattle.sci_reaction.specs.Active.{IsSync, Possible, Reaches}
 use Rattle.sci_reaction.specs.Depends.{Precedes}
 use Rattle.sci_reaction.specs.Equations.{HasBits}
 use Rattle.sci_reaction.specs.Schedule.{Entry as PlainEntry, blocks_of, IsEntry, IsRow, IsSchedule}
+use Rattle.sci_reaction.proofs.Lists.{Has}
+use Rattle.sci_reaction.proofs.Rows.{Contains-has, has-Contains}
 use Rattle.sci_inherit.specs.Origins.{Origins, AreOrigins}
 use Rattle.sci_sched.specs.declared.schedule.Entry.{Entry}
 use Rattle.sci_sched.specs.declared.marks.Marks.{Marks}
@@ -19,7 +24,7 @@ use Rattle.sci_sched.specs.Marks.{MarkSource}
 use Rattle.sci_sched.specs.Outlines.{AreOrdered}
 use Rattle.sci_sched.specs.Rows.{IsMarkedEntry, AreEntries, AreRows}
 use Rattle.sci_sched.proofs.Members.{map_from, pairs_of_map}
-use Rattle.sci_sched.proofs.Guarded.{marked, guards_rise, guards_exact}
+use Rattle.sci_sched.proofs.Guarded.{guards_rise, guards_exact}
 
 -- ---- an entry
 
@@ -27,11 +32,16 @@ pub entry_is : (n : Parts) (r : Origins) (s : Source) (m : Marks) (e : Entry) �
 entry_is n r s m e origins mark is =
     let b = e.block in
     let qs = numbered [] r.branches b in
+    let conditions = list_at (plain m.conditions.items) b in
+    let known : (q : Feed) → IsSync n q.block → Reaches n q b → Has conditions q.block ↔ Possible n s q.block = λ q sync reaches. (
+      λ has. ((mark.conditions b q.block).0 (has-Contains conditions q.block has)).0,
+      λ p. Contains-has conditions q.block ((mark.conditions b q.block).1 (p, record { sync = sync; branch = q.port; reaches = reaches })),
+    ) in
     record {
       always_is = (λ on. (mark.always b).0 (is.always.0 on), λ h. is.always.1 ((mark.always b).1 h));
       mask_is = subst (λ v. HasBits v (SourceFeeds n s b)) (sym is.mask) (mark.masks b);
-      rising = guards_rise n s b m.possible.found qs (origins.branches_rise b) (origins.branches_are b) (marked n s m.possible.found mark.possible) e.guards.items is.guards;
-      guards_are = guards_exact n s b m.possible.found qs (origins.branches_rise b) (origins.branches_are b) (marked n s m.possible.found mark.possible) e.guards.items is.guards;
+      rising = guards_rise n s b conditions qs (origins.branches_rise b) (origins.branches_are b) known e.guards.items is.guards;
+      guards_are = guards_exact n s b conditions qs (origins.branches_rise b) (origins.branches_are b) known e.guards.items is.guards;
     }
 
 -- ---- a row

@@ -1,11 +1,12 @@
 -- The guards of an entry.
-use Rattle.std.proofs.Common.{◌≡◌, ℕ, ◌+◌, ◌<◌, Bool, true, false, cond, eqb, ◌⊎◌, inl, inr, ⊎_elim, ◌↔◌, List, [], ◌∷◌, ◌++◌, length, get_or, take, map, Contains, AllPairs, sym, ap, ap₂, refl, subst, ◌∙◌, arith, nat_lt, nat_eq, ◌&&◌}
-use Rattle.std.specs.List.{filter, count_by, list_any}
+use Rattle.std.proofs.Common.{◌≡◌, ℕ, ◌<◌, Bool, true, false, ◌⊎◌, inl, inr, ⊎_elim, ◌↔◌, List, [], ◌∷◌, ◌++◌, length, map, Contains, AllPairs, sym, ap, ap₂, refl, subst, ◌∙◌, arith, nat_lt, nat_eq, ◌&&◌}
+use Rattle.std.specs.List.{filter, count_by}
 use Rattle.std.proofs.lemmas.Bool.{or_cases, ltb-true, lt-ltb, eqb-true, eq-eqb}
 use Rattle.std.proofs.lemmas.List.{length-map, map-append, append-nil}
 use Rattle.std.proofs.lemmas.List.Elements.{All-contains, All-push, filter-append}
 use Rattle.std.proofs.lemmas.List.Kept.{AllPairs-filter}
-use Rattle.std.proofs.lemmas.List.Sums.{length-filter, sum_by_more}
+use Rattle.std.proofs.lemmas.List.Sums.{length-filter}
+use Rattle.std.proofs.Math.Path.{fun_ext}
 use Rattle.sci_net.specs.declared.Feed.{Feed}
 use Rattle.sci_net.specs.declared.Source.{Source}
 use Rattle.sci_net.specs.Parts.{Parts, IsBlock, IsWired, feeds_of, precedes, AreRising}
@@ -61,23 +62,14 @@ same_tests true b to from = sym (to refl)
 same_tests false true to from = from refl
 same_tests false false to from = refl
 
--- another test of the members gives the same
-pub tested : (possible : List ℕ) (c : ℕ) (t : Bool) → (t ≡ true) ↔ Contains possible c → t ≡ list_any (eqb c) possible
-tested possible c t test = same_tests t (list_any (eqb c) possible) (λ on. Contains-has possible c (test.0 on)) (λ on. test.1 (has-Contains possible c on))
+-- lists with the same members find the same branches possible
+pub alike : (xs ys : List ℕ) → ((c : ℕ) → Contains xs c ↔ Contains ys c) → is_possible xs ≡ is_possible ys
+alike xs ys same = fun_ext (λ (q : Feed). same_tests (is_possible xs q) (is_possible ys q)
+    (λ on. Contains-has ys q.block ((same q.block).0 (has-Contains xs q.block on)))
+    (λ on. Contains-has xs q.block ((same q.block).1 (has-Contains ys q.block on))))
 
--- how many branches have a possible block, one after the other
-pub count_with : (possible : List ℕ) (qs : List Feed) (i : ℕ) (none : Feed) (count : ℕ) → i < length qs → is_possible possible (get_or qs i none) ≡ true → count ≡ count_by (is_possible possible) (take i qs) →
-    count + 1 ≡ count_by (is_possible possible) (take (i + 1) qs)
-count_with possible qs i none count h on is =
-    let one : cond {A = ℕ} (is_possible possible (get_or qs i none)) 1 0 ≡ 1 = rw on refl in
-    ap₂ (λ a b. a + b) is (sym one) ∙ sym (sum_by_more (λ (q : Feed). cond (is_possible possible q) 1 0) qs i none h)
-
-pub count_without : (possible : List ℕ) (qs : List Feed) (i : ℕ) (none : Feed) (count : ℕ) → i < length qs → is_possible possible (get_or qs i none) ≡ false → count ≡ count_by (is_possible possible) (take i qs) →
-    count ≡ count_by (is_possible possible) (take (i + 1) qs)
-count_without possible qs i none count h off is =
-    let zero : cond {A = ℕ} (is_possible possible (get_or qs i none)) 1 0 ≡ 0 = rw off refl in
-    let more : count_by (is_possible possible) (take (i + 1) qs) ≡ count_by (is_possible possible) (take i qs) + cond (is_possible possible (get_or qs i none)) 1 0 = sum_by_more (λ (q : Feed). cond (is_possible possible q) 1 0) qs i none h in
-    omega (arith, is, zero, more)
+pub guards_alike : (n : Parts) (xs ys : List ℕ) (qs : List Feed) (b : ℕ) (gs : List Guard) → ((c : ℕ) → Contains xs c ↔ Contains ys c) → AreGuards n xs qs b gs → AreGuards n ys qs b gs
+guards_alike n xs ys qs b gs same is = record { branches_are = is.branches_are ∙ ap (λ p. filter p qs) (alike xs ys same); masks_are = is.masks_are }
 
 -- ---- guards, one branch after the other
 
@@ -109,7 +101,7 @@ guard_parts g h p q r =
     ap (λ (v : ℕ). record g { block = v }) p ∙ (ap (λ (v : ℕ). record g { block = h.block; port = v }) q ∙ ap (λ (v : ℕ). record h { mask = v }) r)
 
 module _ (n : Parts) (s : Source) (b : ℕ) (possible : List ℕ) (branches : List Feed) (rise : AreRising branches) (are : (q : Feed) → Contains branches q ↔ (IsSync n q.block × Reaches n q b))
-    (mark : (c : ℕ) → Has possible c ↔ Possible n s c) where
+    (mark : (q : Feed) → IsSync n q.block → Reaches n q b → Has possible q.block ↔ Possible n s q.block) where
   abbrev Precede : Feed → Feed → Type 0
   Precede p q = precedes p q ≡ true
 
@@ -123,7 +115,7 @@ module _ (n : Parts) (s : Source) (b : ℕ) (possible : List ℕ) (branches : Li
       let f = filter_from (is_possible possible) branches (branch_in x) (subst (λ qs. Contains qs (branch_in x)) is.branches_are (map_to branch_in gs x has)) in
       let a = (are (branch_in x)).0 f.0 in
       record {
-        possible = (mark x.block).0 f.1;
+        possible = (mark (branch_in x) a.0 a.1).0 f.1;
         sync = a.0;
         reaches = a.1;
         feeds = All-contains (λ (g : Guard). HasBits g.mask (λ p. Contains (feeds_of n b p) (branch_in g))) gs x is.masks_are has;
@@ -131,7 +123,7 @@ module _ (n : Parts) (s : Source) (b : ℕ) (possible : List ℕ) (branches : Li
 
   complete : (gs : List Guard) → AreGuards n possible branches b gs → (g : PlainGuard) → IsGuard n s b g → Contains (guards_of gs) g
   complete gs is g ok =
-      let inside = filter_to (is_possible possible) branches (branch_of g) ((are (branch_of g)).1 (ok.sync, ok.reaches)) ((mark g.block).1 ok.possible) in
+      let inside = filter_to (is_possible possible) branches (branch_of g) ((are (branch_of g)).1 (ok.sync, ok.reaches)) ((mark (branch_of g) ok.sync ok.reaches).1 ok.possible) in
       let r = map_from branch_in gs (branch_of g) (subst (λ qs. Contains qs (branch_of g)) (sym is.branches_are) inside) in
       let bits = All-contains (λ (h : Guard). HasBits h.mask (λ p. Contains (feeds_of n b p) (branch_in h))) gs r.0 is.masks_are r.1 in
       let same = same_mask (λ p. Contains (feeds_of n b p) (branch_of g)) r.0.mask g.mask (subst (λ q. HasBits r.0.mask (λ p. Contains (feeds_of n b p) q)) r.2 bits) ok.feeds in
@@ -157,12 +149,12 @@ module _ (n : Parts) (s : Source) (b : ℕ) (possible : List ℕ) (branches : Li
           let r = map_from branch_of e.guards q has in
           let g = subst (λ c. IsGuard n s c r.0) at ((ok.guards_are r.0).0 r.1) in
           subst (Contains (filter (is_possible possible) branches)) r.2
-          (filter_to (is_possible possible) branches (branch_of r.0) ((are (branch_of r.0)).1 (g.sync, g.reaches)) ((mark r.0.block).1 g.possible))
+          (filter_to (is_possible possible) branches (branch_of r.0) ((are (branch_of r.0)).1 (g.sync, g.reaches)) ((mark (branch_of r.0) g.sync g.reaches).1 g.possible))
 
       from : (q : Feed) → Contains (filter (is_possible possible) branches) q → Contains (map branch_of e.guards) q
       from q has =
           let f = filter_from (is_possible possible) branches q has in
           let a = (are q).0 f.0 in
           let g : PlainGuard = record { block = q.block; port = q.port; mask = guard_mask n b q } in
-          let is : IsGuard n s b g = record { possible = (mark q.block).0 f.1; sync = a.0; reaches = a.1; feeds = guard_mask-bits n wired b q inside } in
+          let is : IsGuard n s b g = record { possible = (mark q a.0 a.1).0 f.1; sync = a.0; reaches = a.1; feeds = guard_mask-bits n wired b q inside } in
           map_to branch_of e.guards g ((ok.guards_are g).1 (subst (λ c. IsGuard n s c g) (sym at) is))

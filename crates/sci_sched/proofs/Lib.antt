@@ -7,9 +7,13 @@ pub mod MaskBits
 pub mod Steps
 pub mod Members
 pub mod Guarded
+pub mod Runs
+pub mod Putting
+pub mod Exchange
 pub mod Outlining
 pub mod Ranking
 pub mod Sized
 pub mod Planned
+pub mod Measuring
 pub mod Building
 pub mod Marking

@@ -15,10 +15,11 @@ use Rattle.sci_net.specs.Net.{IsNet}
 use Rattle.sci_net.specs.Sources.{sources_of, source_of}
 use Rattle.sci_reaction.specs.Links.{SourceFeeds}
 use Rattle.sci_reaction.specs.Active.{Possible, IsAlways}
+use Rattle.sci_reaction.specs.Depends.{Conditions}
 use Rattle.sci_reaction.specs.Equations.{HasBits}
 use Rattle.sci_reaction.proofs.Bits.{bit_or-at}
 use Rattle.sci_reaction.proofs.Rows.{feeds_within}
-use Rattle.sci_reaction.proofs.Spreading.{Spread-block, from_always}
+use Rattle.sci_reaction.proofs.Spreading.{Spread-block, from_always, from_guard}
 use Rattle.sci_inherit.specs.declared.Fed.{Fed}
 use Rattle.sci_inherit.specs.Origins.{Origins, AreOrigins}
 use Rattle.sci_sched.specs.Marks.{IsFitting, HaveFed}
@@ -132,3 +133,7 @@ possible_blocks n s bs are k d l = let b = get_or bs k d in Spread-block n s _ (
 
 pub possible_below : (n : Parts) (s : Source) (bs : List ℕ) (count : ℕ) → ((b : ℕ) → Contains bs b ↔ Possible n s b) → count ≡ length n.specs + 1 → All (λ b. b < count) bs
 possible_below n s bs count are long k d l = let inside = possible_blocks n s bs are k d l in let most = inside.most in omega (arith, most, long)
+
+-- what a branch of a possible block reaches is possible
+pub reached_possible : (n : Parts) (s : Source) (c b : ℕ) → Possible n s c → Conditions n c b → Possible n s b
+reached_possible n s c b p k = from_guard n s (λ d q. ⊤) c k.branch p k.sync tt k.reaches

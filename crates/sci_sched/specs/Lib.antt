@@ -7,3 +7,5 @@ pub mod Answer
 pub mod Outlines
 pub mod Marks
 pub mod Rows
+pub mod Measured
+pub mod Laws

@@ -1,6 +1,5 @@
 -- What is found of each source before its row is built.
-use Rattle.std.specs.Prelude.{◌≡◌, ℕ, ◌+◌, ◌<◌, ◌≤◌, ◌^◌, ◌↔◌, List, [], length, AllPairs, Contains, sum_by, count_by, slice_index_or}
-use Rattle.sci_walk.specs.Walk.{Found}
+use Rattle.std.specs.Prelude.{◌≡◌, ℕ, ◌+◌, ◌<◌, ◌≤◌, ◌^◌, ◌↔◌, List, [], length, AllPairs, Contains, sum_by, count_by, slice_index, slice_index_or, take}
 use Rattle.sci_net.specs.declared.Feed.{Feed}
 use Rattle.sci_net.specs.declared.Source.{Source}
 use Rattle.sci_net.specs.Parts.{Parts, numbered}
@@ -10,7 +9,7 @@ use Rattle.sci_reaction.specs.Depends.{IsLoopFree, Precedes}
 use Rattle.sci_reaction.specs.Schedule.{Entry, IsRow}
 use Rattle.sci_inherit.specs.Origins.{Origins}
 use Rattle.sci_sched.specs.declared.outline.Outline.{Outline}
-use Rattle.sci_sched.specs.Guards.{is_possible}
+use Rattle.sci_sched.specs.Guards.{is_possible, is_of}
 use Rattle.sci_sched.specs.Size.{guards_in}
 
 -- the possible blocks of a source without a loop, by depth and number
@@ -38,8 +37,21 @@ pub record AreOutlines (n : Parts) (k : ℕ) (os : List Outline) : Type 0 where
 abbrev pub guards_at : Origins → List ℕ → ℕ → ℕ
 guards_at r possible b = count_by (is_possible possible) (numbered [] r.branches b)
 
--- the blocks and their branches are in range, and the guards are few
-pub record AreCounted (r : Origins) (w : Found) (bs : List ℕ) : Type 0 where
-  pub within : (b : ℕ) → Contains bs b → (1 ≤ b) × (b ≤ length r.branches)
-  pub known : (b : ℕ) (q : Feed) → Contains (numbered [] r.branches b) q → q.block < w.count
-  pub small : sum_by (guards_at r w.found) bs < 2 ^ 63
+-- how many guards block c gives where it is possible: one for each of its branches and each block that the branch reaches
+abbrev pub guards_by : Origins → ℕ → ℕ
+guards_by r c = sum_by (λ qs. count_by (is_of c) qs) r.branches
+
+-- a count has so many more of a block's branches
+pub record AddsBranches (branches : List Feed) (old new : List ℕ) : Type 0 where
+  pub long : length new ≡ length old
+  pub counts : (c : ℕ) → c < length old → slice_index new c ≡ slice_index old c + count_by (is_of c) branches
+
+-- by number, from 0 on, how many guards each block gives, of the first k lists of branches
+pub record CountsTo (r : Origins) (k : ℕ) (counts : List ℕ) : Type 0 where
+  pub long : length counts ≡ length r.branches + 1
+  pub counts_are : (c : ℕ) → c < length counts → slice_index counts c ≡ sum_by (λ qs. count_by (is_of c) qs) (take k r.branches)
+
+-- the same of all
+pub record AreCounts (r : Origins) (counts : List ℕ) : Type 0 where
+  pub long : length counts ≡ length r.branches + 1
+  pub counts_are : (c : ℕ) → c < length counts → slice_index counts c ≡ guards_by r c

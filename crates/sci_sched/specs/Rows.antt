@@ -1,5 +1,6 @@
 -- Rows, as they are built.
 use Rattle.std.specs.Prelude.{◌≡◌, ℕ, ◌<◌, ◌↔◌, true, List, [], length, map, All, Contains, slice_index, slice_index_or}
+use Rattle.sci_walk.specs.Lists.{plain, list_at}
 use Rattle.sci_net.specs.Parts.{Parts, numbered}
 use Rattle.sci_net.specs.Sources.{source_of}
 use Rattle.sci_reaction.specs.Schedule.{Entry as PlainEntry, IsRow}
@@ -12,7 +13,7 @@ use Rattle.sci_sched.specs.Guards.{AreGuards}
 pub record IsMarkedEntry (n : Parts) (r : Origins) (m : Marks) (e : Entry) : Type 0 where
   pub always : (e.always ≡ true) ↔ Contains m.always.found e.block
   pub mask : e.mask ≡ slice_index m.masks.items e.block
-  pub guards : AreGuards n m.possible.found (numbered [] r.branches e.block) e.block e.guards.items
+  pub guards : AreGuards n (list_at (plain m.conditions.items) e.block) (numbered [] r.branches e.block) e.block e.guards.items
 
 -- one for each of these blocks
 pub record AreEntries (n : Parts) (r : Origins) (m : Marks) (blocks : List ℕ) (es : List Entry) : Type 0 where

@@ -5,6 +5,7 @@
 mod depth;
 mod marks;
 mod masks;
+mod measured;
 mod outline;
 mod planning;
 mod ranks;
@@ -15,7 +16,8 @@ mod sizes;
 mod stop;
 mod write;
 
-pub use planning::plan;
+pub use measured::{Size, one_size};
+pub use planning::{measure, plan};
 pub use schedule::{Entry, Guard, Schedule};
 pub use stop::PlanStop;
 pub use write::write_plan;

@@ -1,14 +1,13 @@
 // The activation inputs of a block that a branch feeds, and the guards of a block.
-ghost use Rattle.std.specs.Prelude.{◌≡◌, ◌+◌, ◌≤◌, ◌<◌, All, Contains, length, IfOk, count_by, slice_index_or, false};
-ghost use Rattle.sci_net.specs.Parts.{spec_of, feeds_of};
+ghost use Rattle.std.specs.Prelude.{◌≡◌, ◌+◌, ◌≤◌, ◌<◌, List, ℕ, AllPairs, Contains, length, take, IfOk, nat_lt};
+ghost use Rattle.sci_net.specs.Parts.{spec_of, feeds_of, AreRising};
 ghost use Rattle.sci_reaction.specs.Equations.{HasBits};
-ghost use Rattle.sci_sched.specs.Guards.{AreGuards, HasBitsTo, is_possible};
+ghost use Rattle.sci_sched.specs.Guards.{AreGuards, HasBitsTo, IsFirstFrom, EndsRun};
 
 use crate::Guard;
 use sci_base::bits::set_bit;
 use sci_inherit::contains;
 use sci_net::{Feed, Net};
-use sci_walk::Walk;
 use std::alloc::{AllocError, Global};
 
 // The mask with activation input `at + 1`, if the activation output feeds it.
@@ -41,42 +40,79 @@ pub fn fed_mask(net: &Net, block: u32, feed: Feed) -> u64
     mask
 }
 
-/// A guard for each of these branches whose block is possible.
+// The place of the first of these branches that is of this block or a later one.
+fn first_of(branches: &[Feed], block: u32) -> usize
+    requires { AreRising branches.now }
+    ensures { IsFirstFrom branches.now 0 block result }
+{
+    branches.partition_point(
+        |branch: &Feed| -> bool
+            ensures { result ≡ nat_lt branch.now.block block }
+        { branch.block < block },
+    )
+}
+
+// The same of those from a place on, which is often that place.
+fn first_from(branches: &[Feed], from: usize, block: u32) -> usize
+    requires rising { AreRising branches.now }
+    requires from { from ≤ length branches.now }
+    ensures { IsFirstFrom branches.now from block result }
+{
+    if from < branches.len() && branches[from].block < block {
+        first_of(branches, block)
+    } else {
+        from
+    }
+}
+
+// Puts a guard for each branch of a synchronous block, from a place on, and tells the place after them.
+fn push_run(
+    guards: &mut Vec<Guard>,
+    net: &Net,
+    branches: &[Feed],
+    from: usize,
+    condition: u32,
+    block: u32,
+) -> Result<usize, AllocError>
+    requires least { 1 ≤ block }
+    requires most { block ≤ length net.now.specs }
+    requires from { from ≤ length branches.now }
+    ensures end { IfOk result (λ at. EndsRun branches.now from condition at) }
+    ensures guards { IfOk result (λ at. (possible : List ℕ) → Contains possible condition
+        → AreGuards net.now possible (take from branches.now) block guards.old.items → AreGuards net.now possible (take at branches.now) block guards.new.items) }
+{
+    let mut at = from;
+    while at < branches.len() && branches[at].block == condition {
+        guards.push(Guard {
+            block: branches[at].block,
+            port: branches[at].port,
+            mask: fed_mask(net, block, branches[at]),
+        })?;
+        at += 1;
+    }
+    Ok(at)
+}
+
+/// A guard for each of these branches whose block is one of the conditions. No other branch is looked at, but by halving where the next
+/// branch is not of the next condition.
 pub fn guards(
     alloc: Global,
     net: &Net,
-    possible: &Walk,
+    conditions: &[u32],
     branches: &[Feed],
     block: u32,
 ) -> Result<Vec<Guard>, AllocError>
     requires least { 1 ≤ block }
     requires most { block ≤ length net.now.specs }
-    requires known { All (λ q. q.block < possible.now.count) branches.now }
-    ensures { IfOk result (λ v. AreGuards net.now possible.now.found branches.now block v.items) }
+    requires sorted { AllPairs (λ c d. c ≤ d) conditions.now }
+    requires rising { AreRising branches.now }
+    ensures { IfOk result (λ v. AreGuards net.now conditions.now branches.now block v.items) }
 {
     let mut guards = Vec::new(alloc);
-    for branch in branches {
-        if possible.has(branch.block) {
-            guards.push(Guard {
-                block: branch.block,
-                port: branch.port,
-                mask: fed_mask(net, block, *branch),
-            })?;
-        }
+    let mut at = 0;
+    for condition in conditions {
+        let from = first_from(branches, at, *condition);
+        at = push_run(&mut guards, net, branches, from, *condition, block)?;
     }
     Ok(guards)
-}
-
-/// How many these are.
-pub fn guard_count(possible: &Walk, branches: &[Feed]) -> usize
-    requires { All (λ q. q.block < possible.now.count) branches.now }
-    ensures { result ≡ count_by (is_possible possible.now.found) branches.now }
-{
-    let mut count = 0;
-    for branch in branches {
-        if possible.has(branch.block) {
-            count += 1;
-        }
-    }
-    count
 }

@@ -7,13 +7,13 @@ ghost use Rattle.sci_inherit.specs.Origins.{AreOrigins};
 ghost use Rattle.sci_dep.specs.Tables.{AreWaits, IsTableOf};
 ghost use Rattle.sci_sched.specs.Depths.{Outranks};
 ghost use Rattle.sci_sched.specs.Answer.{IsLoopStop, IsFirstLoopStop};
-ghost use Rattle.sci_sched.specs.Outlines.{AreOrdered, IsOutline, AreOutlines};
+ghost use Rattle.sci_sched.specs.Outlines.{AreOrdered, IsOutline, AreCounts, AreOutlines};
 
 use crate::PlanStop;
 use crate::depth::set_depths;
 use crate::ranks::by_depth;
 use crate::refusals::loop_stop;
-use crate::sizes::guards_among;
+use crate::sizes::{guard_counts, guards_by};
 use sci_dep::{Waits, depends, possible};
 use sci_inherit::Reach;
 use sci_loop::{DepTable, Sorted, sort};
@@ -91,18 +91,20 @@ fn ordered(
     }
 }
 
-// The outline of the source at this place. The walk is over all numbers, and there is a depth for each; what they hold does not count.
+// The outline of the source at this place, by how many guards each block gives. The walk is over all numbers, and there is a depth for each; what they hold does not count.
 fn outline_of(
     alloc: Global,
     net: &Net,
     reach: &Reach,
     waits: &Waits,
+    counts: &[u64],
     at: u32,
     walk: &mut Walk,
     depths: &mut [usize],
 ) -> Result<Outline, PlanStop>
     requires reach { AreOrigins net.now reach.now }
     requires waits { AreWaits net.now waits.now }
+    requires counts { AreCounts reach.now counts.now }
     requires at { at < length (sources_of net.now) }
     requires count { walk.old.count ≡ length net.now.specs + 1 }
     requires depths { length depths.old ≡ length net.now.specs + 1 }
@@ -114,7 +116,7 @@ fn outline_of(
     possible(net, reach, at, walk)?;
     let table = depends(alloc, net, waits, at, walk)?;
     let blocks = ordered(alloc, net, net.source(at), table, depths)?;
-    let guards = guards_among(reach, walk, &blocks);
+    let guards = guards_by(counts, &blocks);
     Ok(Outline { blocks, guards })
 }
 
@@ -138,11 +140,21 @@ pub fn outlines(
     ensures stop { IfErr result (λ e. IsFirstLoopStop net.now e) }
 {
     net.well_formed();
+    let counts = guard_counts(alloc, net, reach)?;
     let mut walk = Walk::new(alloc, net.len() as usize + 1)?;
     let mut depths = vec![in alloc; 0; net.len() as usize + 1]?;
     let mut outlines = Vec::new(alloc);
     for at in 0..net.source_count() {
-        let outline = outline_of(alloc, net, reach, waits, at, &mut walk, &mut depths)?;
+        let outline = outline_of(
+            alloc,
+            net,
+            reach,
+            waits,
+            &counts,
+            at,
+            &mut walk,
+            &mut depths,
+        )?;
         keep(&mut outlines, outline)?;
     }
     Ok(outlines)

@@ -1,11 +1,11 @@
 // The rows of a schedule.
-ghost use Rattle.std.specs.Prelude.{◌≡◌, ◌≤◌, ◌<◌, ◌+◌, [], All, length, IfOk};
+ghost use Rattle.std.specs.Prelude.{◌≡◌, ◌≤◌, ◌<◌, ◌+◌, ◌↔◌, ℕ, All, AllPairs, Contains, length, IfOk};
 ghost use Rattle.sci_net.specs.Parts.{IsBlock};
 ghost use Rattle.sci_net.specs.Sources.{sources_of, source_of};
 ghost use Rattle.sci_reaction.specs.Schedule.{IsRow, IsSchedule};
 ghost use Rattle.sci_inherit.specs.Origins.{AreOrigins};
 ghost use Rattle.sci_sched.specs.Plain.{row_of, lists_of};
-ghost use Rattle.sci_sched.specs.Marks.{HaveFed, AreSized};
+ghost use Rattle.sci_sched.specs.Marks.{AreSized, AreClear};
 ghost use Rattle.sci_sched.specs.Outlines.{IsOutline, AreOutlines};
 ghost use Rattle.sci_sched.specs.Rows.{IsMarkedEntry, AreEntries};
 
@@ -16,6 +16,16 @@ use crate::outline::Outline;
 use sci_inherit::Reach;
 use sci_net::Net;
 use std::alloc::{AllocError, Global};
+
+// The same blocks by number.
+fn by_number(alloc: Global, blocks: &[u32]) -> Result<Vec<u32>, AllocError>
+    ensures exactly { IfOk result (λ v. (c : ℕ) → Contains v.items c ↔ Contains blocks.now c) }
+    ensures sorted { IfOk result (λ v. AllPairs (λ c d. c ≤ d) v.items) }
+{
+    let mut sorted = blocks.to_vec(alloc)?;
+    sorted.sort_unstable();
+    Ok(sorted)
+}
 
 // The entry of a possible block of the source that is marked.
 fn entry_for(
@@ -33,7 +43,8 @@ fn entry_for(
     ensures entry { IfOk result (λ e. IsMarkedEntry net.now reach.now marks.now e) }
 {
     net.well_formed();
-    let guards = guards(alloc, net, &marks.possible, reach.branches(block), block)?;
+    let conditions = by_number(alloc, &marks.conditions[block as usize])?;
+    let guards = guards(alloc, net, &conditions, reach.branches(block), block)?;
     Ok(Entry {
         block,
         always: marks.always.has(block),
@@ -62,7 +73,7 @@ fn entries(
     Ok(entries)
 }
 
-// The row of the source at this place. The masks have no bits before and after.
+// The row of the source at this place. Nothing is marked before and after.
 fn row(
     alloc: Global,
     net: &Net,
@@ -75,15 +86,15 @@ fn row(
     requires at { at < length (sources_of net.now) }
     requires outline { IsOutline net.now (source_of net.now at) outline.now }
     requires sized { AreSized (length net.now.specs + 1) marks.old }
-    requires clear { HaveFed [] marks.old.masks.items }
+    requires clear { AreClear marks.old }
     ensures row { IfOk result (λ v. IsRow net.now (source_of net.now at) (row_of v.items)) }
     ensures sized { IfOk result (λ v. AreSized (length net.now.specs + 1) marks.new) }
-    ensures clear { IfOk result (λ v. HaveFed [] marks.new.masks.items) }
+    ensures clear { IfOk result (λ v. AreClear marks.new) }
 {
     net.well_formed();
     marks.mark(net, reach, at, &outline.blocks)?;
     let row = entries(alloc, net, reach, marks, &outline.blocks)?;
-    marks.clear(net, reach, at);
+    marks.clear(net, reach, at, &outline.blocks);
     Ok(row)
 }
 

@@ -1,20 +1,48 @@
 // How many entries and guards there will be.
-ghost use Rattle.std.specs.Prelude.{◌≡◌, ◌<◌, ◌^◌, sum_by};
-ghost use Rattle.sci_sched.specs.Outlines.{AreCounted, guards_at, outline_size};
+ghost use Rattle.std.specs.Prelude.{◌≡◌, ◌<◌, ◌+◌, ◌^◌, ℕ, All, length, IfOk, sum_by, count_by, slice_index};
+ghost use Rattle.sci_inherit.specs.Origins.{AreOrigins};
+ghost use Rattle.sci_sched.specs.Guards.{is_of};
+ghost use Rattle.sci_sched.specs.Outlines.{AddsBranches, AreCounts, outline_size};
 
-use crate::masks::guard_count;
 use crate::outline::Outline;
 use sci_inherit::Reach;
-use sci_walk::Walk;
+use sci_net::{Feed, Net};
+use std::alloc::{AllocError, Global};
 
-/// How many guards the entries of these blocks have, where these are the blocks that the source may activate.
-pub fn guards_among(reach: &Reach, possible: &Walk, blocks: &[u32]) -> u64
-    requires { AreCounted reach.now possible.now blocks.now }
-    ensures { result ≡ sum_by (guards_at reach.now possible.now.found) blocks.now }
+// Counts each of these branches at the number of its block.
+fn count_branches(counts: &mut [u64], branches: &[Feed])
+    requires blocks { All (λ q. q.block < length counts.old) branches.now }
+    requires small { (c : ℕ) → slice_index counts.old c + length branches.now < 2 ^ 63 }
+    ensures { AddsBranches branches.now counts.old counts.new }
+{
+    for branch in branches {
+        counts[branch.block as usize] += 1;
+    }
+}
+
+/// By number, from 0 on, how many guards a block gives at each source that may activate it: one for each of its branches and each block
+/// that the branch reaches, which the source may activate too.
+pub fn guard_counts(alloc: Global, net: &Net, reach: &Reach) -> Result<Vec<u64>, AllocError>
+    requires { AreOrigins net.now reach.now }
+    ensures { IfOk result (λ v. AreCounts reach.now v.items) }
+{
+    net.well_formed();
+    let mut counts = vec![in alloc; 0; net.len() as usize + 1]?;
+    for at in 0..net.len() {
+        count_branches(&mut counts, reach.branches(at + 1));
+    }
+    Ok(counts)
+}
+
+/// How many guards these blocks give.
+pub fn guards_by(counts: &[u64], blocks: &[u32]) -> u64
+    requires blocks { All (λ c. c < length counts.now) blocks.now }
+    requires small { sum_by (λ c. slice_index counts.now c) blocks.now < 2 ^ 63 }
+    ensures { result ≡ sum_by (λ c. slice_index counts.now c) blocks.now }
 {
     let mut count = 0;
     for block in blocks {
-        count += guard_count(possible, reach.branches(*block)) as u64;
+        count += counts[*block as usize];
     }
     count
 }

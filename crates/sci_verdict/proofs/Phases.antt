@@ -1,7 +1,6 @@
 -- A stop of one phase is the file's verdict.
 use Rattle.std.proofs.Common.{◌≡◌, refl, sym, subst, ℕ, List}
 use Rattle.std.specs.Prelude.{Result, Ok, Err, ◌≤◌, length}
-use Rattle.sci_base.specs.Plain.{Violation, violation_of}
 use Rattle.sci_diagram.specs.Objects.{Objects, diagram_view}
 use Rattle.sci_diagram.specs.declared.diagram.Diagram.{Diagram}
 use Rattle.sci_diagram.specs.declared.stop.ReadStop.{ReadStop}
@@ -18,17 +17,18 @@ use Rattle.sci_infer.specs.Answer.{IsAnswer, IsStop}
 use Rattle.sci_pending.specs.Timer.{EventDelay}
 use Rattle.sci_sched.specs.declared.stop.PlanStop.{PlanStop}
 use Rattle.sci_sched.specs.declared.stop.PlanStop.TheVariants.{Refused as PlanRefused, Memory as PlanMemory}
-use Rattle.sci_sched.specs.declared.schedule.Schedule.{Schedule}
 use Rattle.sci_sched.specs.Plain.{rows_of}
 use Rattle.sci_sched.specs.Answer.{IsPlan, IsPlanStop}
+use Rattle.sci_sched.specs.Measured.{IsMeasured as HasSize}
 use Rattle.sci_verdict.specs.declared.checked.Checked.{Checked}
+use Rattle.sci_verdict.specs.declared.checked.Measured.{Measured}
 use Rattle.sci_timers.specs.declared.TimersStop.{TimersStop}
 use Rattle.sci_timers.specs.declared.TimersStop.TheVariants.{Refused as TimersRefused, Memory as TimersMemory}
 use Rattle.sci_timers.specs.Built.{built, IsAnswer as IsBuilt}
 use Rattle.sci_verdict.specs.declared.stop.VerdictStop.{VerdictStop}
 use Rattle.sci_verdict.specs.declared.stop.VerdictStop.TheVariants.{Refused, Memory}
 use Rattle.sci_verdict.specs.Passing.{read_stop, flat_stop, infer_stop, plan_stop, timers_stop}
-use Rattle.sci_verdict.specs.Verdict.{GivesFlat, GivesNet, BreaksNet, unread, not_flat, not_typed, Plan, Accepts, Breaks, no_net, no_plan, plan_of, AcceptsTimers, BreaksTimers, no_diagram, unbuilt, IsTyped, IsChecked, IsJudged}
+use Rattle.sci_verdict.specs.Verdict.{GivesFlat, GivesNet, unread, not_flat, not_typed, Plan, Accepts, AcceptsSize, no_net, no_plan, plan_of, AcceptsTimers, no_diagram, unbuilt, IsTyped, IsChecked, IsMeasured, IsJudged}
 use Rattle.sci_flat.proofs.Reading.{accepted_ready}
 
 -- a diagram that was read
@@ -85,22 +85,46 @@ stopped_planning bytes n e s was given h = subst (λ q. IsChecked bytes q) (sym 
 pub checked : (bytes : List ℕ) (c : Checked) → GivesNet bytes c.net → IsPlan c.net (rows_of c.schedule) → Accepts bytes (plan_of c)
 checked bytes c given h = record { given = given; planned = h }
 
-check_stops : (bytes : List ℕ) (e : VerdictStop) → IsChecked bytes (Err e) → IsJudged bytes (Err e)
-check_stops bytes (Refused r) h = no_diagram h
-check_stops bytes Memory h = tt
+-- ---- the same without the schedules
 
-pub stopped_checking : (bytes : List ℕ) (e : VerdictStop) (r : Result Checked VerdictStop) (s : Result (List EventDelay) VerdictStop) → r ≡ Err e → s ≡ Err e → IsChecked bytes r → IsJudged bytes s
-stopped_checking bytes e r s is was h = subst (λ q. IsJudged bytes q) (sym was) (check_stops bytes e (subst (λ q. IsChecked bytes q) is h))
+same_stops : (bytes : List ℕ) (e : VerdictStop) → IsChecked bytes (Err e) → IsMeasured bytes (Err e)
+same_stops bytes (Refused r) h = h
+same_stops bytes Memory h = tt
 
-pub was_checked : (bytes : List ℕ) (c : Checked) (r : Result Checked VerdictStop) → r ≡ Ok c → IsChecked bytes r → Accepts bytes (plan_of c)
-was_checked bytes c r is h = subst (λ q. IsChecked bytes q) is h
+pub unmeasured_before : (bytes : List ℕ) (e : VerdictStop) (r : Result Parts VerdictStop) (s : Result Measured VerdictStop) → r ≡ Err e → s ≡ Err e → IsTyped bytes r → IsMeasured bytes s
+unmeasured_before bytes e r s is was h = subst (λ q. IsMeasured bytes q) (sym was) (same_stops bytes e (net_stops bytes e (subst (λ q. IsTyped bytes q) is h)))
+
+pub stopped_measuring : (bytes : List ℕ) (n : Parts) (e : PlanStop) (s : Result Measured VerdictStop) → s ≡ Err (plan_stop e) → GivesNet bytes n → IsPlanStop n e → IsMeasured bytes s
+stopped_measuring bytes n e s was given h = subst (λ q. IsMeasured bytes q) (sym was) (same_stops bytes (plan_stop e) (plan_stops bytes n e given h))
+
+pub measured : (bytes : List ℕ) (m : Measured) → GivesNet bytes m.net → HasSize m.net m.size → AcceptsSize bytes m
+measured bytes m given h =
+    record { plan = record { net = m.net; rows = h.rows }; given = record { given = given; planned = h.planned }; net = refl; entries = h.entries; guards = h.guards }
+
+-- ---- timers
+
+measured_stops : (bytes : List ℕ) (e : VerdictStop) → IsMeasured bytes (Err e) → IsJudged bytes (Err e)
+measured_stops bytes (Refused r) h = no_diagram h
+measured_stops bytes Memory h = tt
+
+pub stopped_judging : (bytes : List ℕ) (e : VerdictStop) (r : Result Measured VerdictStop) (s : Result (List EventDelay) VerdictStop) → r ≡ Err e → s ≡ Err e → IsMeasured bytes r → IsJudged bytes s
+stopped_judging bytes e r s is was h = subst (λ q. IsJudged bytes q) (sym was) (measured_stops bytes e (subst (λ q. IsMeasured bytes q) is h))
+
+pub was_measured : (bytes : List ℕ) (m : Measured) (r : Result Measured VerdictStop) → r ≡ Ok m → IsMeasured bytes r → AcceptsSize bytes m
+was_measured bytes m r is h = subst (λ q. IsMeasured bytes q) is h
 
 timers_stops : (bytes : List ℕ) (p : Plan) (e : TimersStop) → Accepts bytes p → IsBuilt (built p.net) (Err e) → IsJudged bytes (Err (timers_stop e))
 timers_stops bytes p (TimersRefused r) given h = unbuilt p given h
 timers_stops bytes p TimersMemory given h = tt
 
-pub stopped_building : (bytes : List ℕ) (p : Plan) (e : TimersStop) (r : Result (List EventDelay) TimersStop) (s : Result (List EventDelay) VerdictStop) → r ≡ Err e → s ≡ Err (timers_stop e) → Accepts bytes p → IsBuilt (built p.net) r → IsJudged bytes s
-stopped_building bytes p e r s is was given h = subst (λ q. IsJudged bytes q) (sym was) (timers_stops bytes p e given (subst (λ q. IsBuilt (built p.net) q) is h))
+-- the timers of a plan are those of its net
+built_of : (bytes : List ℕ) (m : Measured) (given : AcceptsSize bytes m) (r : Result (List EventDelay) TimersStop) → IsBuilt (built m.net) r → IsBuilt (built given.plan.net) r
+built_of bytes m given r h = subst (λ (n : Parts). IsBuilt (built n) r) (sym given.net) h
 
-pub accepted : (bytes : List ℕ) (p : Plan) (ts : List EventDelay) (r : Result (List EventDelay) TimersStop) → r ≡ Ok ts → Accepts bytes p → IsBuilt (built p.net) r → AcceptsTimers bytes ts
-accepted bytes p ts r is given h = record { plan = p; given = given; built = subst (λ q. IsBuilt (built p.net) q) is h }
+pub stopped_building : (bytes : List ℕ) (m : Measured) (e : TimersStop) (r : Result (List EventDelay) TimersStop) (s : Result (List EventDelay) VerdictStop) → r ≡ Err e → s ≡ Err (timers_stop e) → AcceptsSize bytes m → IsBuilt (built m.net) r → IsJudged bytes s
+stopped_building bytes m e r s is was given h =
+    subst (λ q. IsJudged bytes q) (sym was) (timers_stops bytes given.plan e given.given (subst (λ q. IsBuilt (built given.plan.net) q) is (built_of bytes m given r h)))
+
+pub accepted : (bytes : List ℕ) (m : Measured) (ts : List EventDelay) (r : Result (List EventDelay) TimersStop) → r ≡ Ok ts → AcceptsSize bytes m → IsBuilt (built m.net) r → AcceptsTimers bytes ts
+accepted bytes m ts r is given h =
+    record { plan = given.plan; given = given.given; built = subst (λ q. IsBuilt (built given.plan.net) q) is (built_of bytes m given r h) }

@@ -10,9 +10,11 @@ use Rattle.sci_infer.specs.Answer.{IsAnswer}
 use Rattle.sci_reaction.specs.Schedule.{Entry}
 use Rattle.sci_sched.specs.Plain.{rows_of}
 use Rattle.sci_sched.specs.Answer.{IsPlan, IsPlanBreak}
+use Rattle.sci_sched.specs.Size.{entry_count, guard_count}
 use Rattle.sci_pending.specs.Timer.{EventDelay}
 use Rattle.sci_timers.specs.Built.{built}
 use Rattle.sci_verdict.specs.declared.checked.Checked.{Checked}
+use Rattle.sci_verdict.specs.declared.checked.Measured.{Measured}
 use Rattle.sci_verdict.specs.declared.stop.VerdictStop.{VerdictStop}
 use Rattle.sci_verdict.specs.declared.stop.VerdictStop.TheVariants.{Refused, Memory}
 
@@ -44,6 +46,14 @@ pub record Accepts (bytes : List ℕ) (p : Plan) : Type 0 where
   pub given : GivesNet bytes p.net
   pub planned : IsPlan p.net p.rows
 
+-- the bytes are a diagram that keeps all rules, and gives this net with schedules of this size
+pub record AcceptsSize (bytes : List ℕ) (m : Measured) : Type 0 where
+  pub plan : Plan
+  pub given : Accepts bytes plan
+  pub net : plan.net ≡ m.net
+  pub entries : entry_count plan.rows ≡ m.size.entries
+  pub guards : guard_count plan.rows ≡ m.size.guards
+
 -- the first rule that the bytes break
 pub data Breaks (bytes : List ℕ) (v : Violation) : Type 0 where
   no_net : BreaksNet bytes v → Breaks bytes v
@@ -73,6 +83,11 @@ abbrev pub IsChecked : List ℕ → Result Checked VerdictStop → Type 0
 IsChecked bytes (Ok c) = Accepts bytes (plan_of c)
 IsChecked bytes (Err (Refused r)) = Breaks bytes (violation_of r)
 IsChecked bytes (Err Memory) = Unit {0}
+
+abbrev pub IsMeasured : List ℕ → Result Measured VerdictStop → Type 0
+IsMeasured bytes (Ok m) = AcceptsSize bytes m
+IsMeasured bytes (Err (Refused r)) = Breaks bytes (violation_of r)
+IsMeasured bytes (Err Memory) = Unit {0}
 
 abbrev pub IsJudged : List ℕ → Result (List EventDelay) VerdictStop → Type 0
 IsJudged bytes (Ok timers) = AcceptsTimers bytes timers

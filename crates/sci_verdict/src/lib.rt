@@ -7,9 +7,9 @@ mod checked;
 mod stop;
 mod verdict;
 
-pub use checked::Checked;
+pub use checked::{Checked, Measured};
 pub use stop::VerdictStop;
-pub use verdict::{check, timer_net, typed_net};
+pub use verdict::{check, measure, timer_net, typed_net};
 
 /// Of each file at most one verdict holds, but that any loop of the least source that has one may be told.
 pub fn one_verdict()

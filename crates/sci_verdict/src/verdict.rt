@@ -1,15 +1,15 @@
 // A file's verdict, phase by phase.
 ghost use Rattle.std.specs.Prelude.{◌≤◌, length};
-ghost use Rattle.sci_verdict.specs.Verdict.{IsTyped, IsChecked, IsJudged};
+ghost use Rattle.sci_verdict.specs.Verdict.{IsTyped, IsChecked, IsMeasured, IsJudged};
 
-use crate::checked::Checked;
+use crate::checked::{Checked, Measured};
 use crate::stop::VerdictStop;
 use sci_diagram::read;
 use sci_flat::flatten;
 use sci_infer::infer;
 use sci_net::Net;
 use sci_pending::TimerNet;
-use sci_sched::plan;
+use sci_sched::{measure as schedule_size, plan};
 use sci_timers::timer_net as timers_of;
 use std::alloc::Global;
 
@@ -36,13 +36,24 @@ pub fn check(alloc: Global, bytes: &[u8]) -> Result<Checked, VerdictStop>
     Ok(Checked { net, schedule })
 }
 
+/// The typed net of a diagram's file with the size of its static schedules, which are not built; or the first rule that it breaks, one of
+/// those of `check`.
+pub fn measure(alloc: Global, bytes: &[u8]) -> Result<Measured, VerdictStop>
+    requires { length bytes.now ≤ 16777216 }
+    ensures { IsMeasured bytes.now result }
+{
+    let net = typed_net(alloc, bytes)?;
+    let size = schedule_size(alloc, &net)?;
+    Ok(Measured { net, size })
+}
+
 /// The net of timers of a diagram's file, or the first rule that it breaks: one of those of `check`, or else rule 30, at the
 /// first block that is no delayed event, or without a place where the timers have too many feeding events.
 pub fn timer_net(alloc: Global, bytes: &[u8]) -> Result<TimerNet, VerdictStop>
     requires { length bytes.now ≤ 16777216 }
     ensures { IsJudged bytes.now result }
 {
-    let checked = check(alloc, bytes)?;
-    let timers = timers_of(alloc, &checked.net)?;
+    let measured = measure(alloc, bytes)?;
+    let timers = timers_of(alloc, &measured.net)?;
     Ok(timers)
 }

@@ -5,11 +5,11 @@ mod lists;
 mod walk;
 
 pub use lists::{empty_lists, push_at};
-pub use walk::{Walk, reached};
+pub use walk::Walk;
 
 #[cfg(test)]
 mod tests {
-    use super::{Walk, empty_lists, push_at, reached};
+    use super::{Walk, empty_lists, push_at};
     use std::test::Fail;
 
     // 1 leads to 2, 2 to 4, 4 back to 2, and 3 to 1.
@@ -28,8 +28,12 @@ mod tests {
             vec![in rt.alloc(); 1, 1]?,
             vec![in rt.alloc(); 0]?,
         ];
-        let marks = reached(rt.alloc(), &table, &[2])?;
-        assert_eq!(rt; marks.as_slice(), [false, true, true, false].as_slice());
+        let mut walk = Walk::new(rt.alloc(), 4)?;
+        walk.walk(&table, &[2])?;
+        assert_eq!(rt; walk.has(0), false);
+        assert_eq!(rt; walk.has(1), true);
+        assert_eq!(rt; walk.has(2), true);
+        assert_eq!(rt; walk.has(3), false);
         Ok(())
     }
 

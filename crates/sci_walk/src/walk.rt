@@ -140,21 +140,3 @@ impl Walk {
         Ok(())
     }
 }
-
-/// Which numbers the starts lead to, one mark for each: the starts themselves, and all that chains of successors lead to from them. The
-/// time is that of a look at each successor of what is marked, and of a mark for each number.
-pub fn reached(
-    alloc: Global,
-    successors: &[Vec<u32>],
-    starts: &[u32],
-) -> Result<Vec<bool>, AllocError>
-    requires starts { All (λ q. q < length successors.now) starts.now }
-    requires within { (p : ℕ) → All (λ q. q < length successors.now) (list_at (plain successors.now) p) }
-    ensures long { IfOk result (λ m. length m.items ≡ length successors.now) }
-    ensures exactly { IfOk result (λ m. (q : ℕ) → IsMarked m.items q ↔ IsReached (plain successors.now) starts.now q) }
-{
-    let mut walk = Walk::new(alloc, successors.len())?;
-    walk.walk(successors, starts)?;
-    let Walk { marks, found: _ } = walk;
-    Ok(marks)
-}

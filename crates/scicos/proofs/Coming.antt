@@ -1,17 +1,19 @@
 -- What a command comes to, file by file.
-use Rattle.std.proofs.Common.{◌≡◌, ℕ, List, [], ◌∷◌, ◌++◌, ◌⊎◌, inl, inr, refl, sym, ◌∙◌, ap, subst, append_assoc, length, ◌<◌, arith}
+use Rattle.std.proofs.Common.{◌≡◌, ℕ, List, [], ◌∷◌, ◌++◌, inl, inr, refl, sym, ◌∙◌, ap, subst, append_assoc, length, ◌<◌, arith}
 use Rattle.std.proofs.lemmas.List.{append-nil}
+use Rattle.std.specs.Prelude.{Ok}
 use Rattle.sci_base.specs.Plain.{Violation}
 use Rattle.sci_io.specs.Causes.{Rose}
 use Rattle.sci_io.specs.Files.{Files, FolderState}
-use Rattle.sci_verdict.specs.Verdict.{Plan, Accepts, Breaks}
+use Rattle.sci_verdict.specs.Verdict.{Breaks}
 use Rattle.scicos.specs.declared.command.Report.{Report}
+use Rattle.scicos.specs.declared.look.Told.{Told}
 use Rattle.scicos.specs.Host.{host_text}
 use Rattle.scicos.specs.Words.{Request, report, simulate, run_c, host, Spells, files_of}
-use Rattle.scicos.specs.Answer.{Answer, prints, refused, read_fault, no_memory, report_text}
+use Rattle.scicos.specs.Answer.{Answer, prints, refused, read_fault, no_memory}
 use Rattle.scicos.specs.Due.{diagram_slot, inputs_slot, Passes, Fails, Judged, DueOf}
 use Rattle.scicos.specs.Reached.{ReadsFiles, EarlierPass, AsksFront, ReachesOf, Reaches}
-use Rattle.scicos.specs.Look.{Asks, AsksInVain, MayAsk}
+use Rattle.scicos.specs.Look.{Asks, AsksInVain, MayAsk, IsTold, told_text}
 use Rattle.scicos.specs.Prepare.{ComesTo}
 
 -- the host file is due as it is
@@ -25,8 +27,8 @@ no_file old new r d h = ([], d ∷ [], refl, h ∙ sym (append-nil old.asked), t
 one_file : (old new : FolderState) (r : Report) (d : List ℕ) → new.asked ≡ old.asked ++ d ∷ [] → AsksFront old new (report r d)
 one_file old new r d h = (d ∷ [], [], refl, h, tt)
 
-pub told : (old new : FolderState) (r : Report) (d : List ℕ) (p : Plan) (a : Answer) → Passes Accepts diagram_slot old.files d p → Asks old new d → a ≡ prints (report_text r p) → ReachesOf old new (report r d) a
-told old new r d p a passes asks is = inl (d ∷ [], inr (p, passes, (is, refl)), asks.0, asks.1)
+pub told : (old new : FolderState) (r : Report) (d : List ℕ) (t : Told) (a : Answer) → IsTold old new r d (Ok t) → a ≡ prints (told_text t) → ReachesOf old new (report r d) a
+told old new r d t a ((p, passes, (text, rows)), asks) is = inl (d ∷ [], inr (p, passes, (is ∙ sym (ap prints text), refl)), asks.0, asks.1)
 
 pub not_told : (old new : FolderState) (r : Report) (d : List ℕ) (v : Violation) (a : Answer) → Fails Breaks diagram_slot old.files d v → Asks old new d → a ≡ refused v → ReachesOf old new (report r d) a
 not_told old new r d v a fails asks is = inl (d ∷ [], inl (v, fails, is, refl), asks.0, asks.1)

@@ -4,17 +4,14 @@ use Rattle.sci_base.specs.Plain.{Violation, violation_of}
 use Rattle.sci_io.specs.Files.{FolderState}
 use Rattle.sci_pending.specs.Run.{trace}
 use Rattle.sci_sim.specs.Running.{IsAtStart}
-use Rattle.sci_verdict.specs.Verdict.{Accepts, plan_of}
 use Rattle.sci_pending.specs.Timer.{EventDelay}
 use Rattle.c_ast.specs.Syntax.{Whole}
 use Rattle.c_ast.specs.View.{whole_of}
 use Rattle.c_mean.specs.Meaning.{meaning}
-use Rattle.sci_sched.specs.Plain.{rows_of}
-use Rattle.sci_sched.specs.Answer.{IsPlan}
 use Rattle.scicos.specs.Inputs.{AcceptsInputs, BreaksInputs, AcceptsColumns, BreaksColumns}
-use Rattle.scicos.specs.Answer.{Answer, usage, prints, refused, read_fault, no_memory, report_text, ran, simulated, c_ran}
+use Rattle.scicos.specs.Answer.{Answer, usage, prints, refused, read_fault, no_memory, ran, simulated, c_ran}
 use Rattle.scicos.specs.Due.{inputs_slot, Passes, Fails}
-use Rattle.scicos.specs.Look.{Asks, AsksInVain, MayAsk}
+use Rattle.scicos.specs.Look.{Asks, AsksInVain, MayAsk, told_text, HasRows}
 use Rattle.scicos.specs.declared.prepare.Prepared.{Prepared}
 use Rattle.scicos.specs.declared.prepare.Prepared.TheVariants.{Usage, Refused, ReadFault, Memory, Print, Report as Tell, Simulate, RunC}
 
@@ -24,18 +21,18 @@ answer_of (Refused r) = refused (violation_of r)
 answer_of ReadFault = read_fault
 answer_of Memory = no_memory
 answer_of (Print text) = prints text.now
-answer_of (Tell r c) = prints (report_text r (plan_of c))
+answer_of (Tell t) = prints (told_text t)
 answer_of (RunC program columns until limit) = c_ran (meaning (whole_of program) columns (pos until) (pos limit))
 answer_of (Simulate ready until limit) = ran (trace ready.net until limit)
 
--- what it needs is there: a text isn't empty, the schedules are those of the net, a run stands at its start, within its bounds
+-- what it needs is there: a text isn't empty, schedules have a row for each source, a run stands at its start, within its bounds
 abbrev pub IsPrepared : Prepared → Type 0
 IsPrepared Usage = Unit {0}
 IsPrepared (Refused r) = Unit {0}
 IsPrepared ReadFault = Unit {0}
 IsPrepared Memory = Unit {0}
 IsPrepared (Print text) = 0 < length text.now
-IsPrepared (Tell r c) = IsPlan c.net (rows_of c.schedule)
+IsPrepared (Tell t) = HasRows t
 IsPrepared (RunC program columns until limit) = (until ≤ 2 ^ 62) × (limit ≤ 1000000)
 IsPrepared (Simulate ready until limit) = IsAtStart ready × (until ≤ 2 ^ 62) × (limit ≤ 1000000)
 
@@ -46,7 +43,7 @@ MayLack (Refused r) = ⊥
 MayLack ReadFault = ⊥
 MayLack Memory = ⊥
 MayLack (Print text) = ⊥
-MayLack (Tell r c) = ⊥
+MayLack (Tell t) = ⊥
 MayLack (Simulate ready until limit) = ⊥
 MayLack (RunC program columns until limit) = Unit {0}
 

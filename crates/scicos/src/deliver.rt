@@ -3,19 +3,17 @@ ghost use Rattle.sci_base.specs.Plain.{violation_of};
 ghost use Rattle.sci_report.specs.Line.{refused_line};
 ghost use Rattle.sci_pending.specs.Run.{trace};
 ghost use Rattle.sci_io.specs.Taken.{Writes};
-ghost use Rattle.sci_sched.specs.Plain.{rows_of};
-ghost use Rattle.sci_sched.specs.Answer.{IsPlan};
-ghost use Rattle.sci_verdict.specs.Verdict.{plan_of};
 ghost use Rattle.sci_sim.specs.Running.{IsAtStart};
 ghost use Rattle.c_ast.specs.View.{whole_of};
 ghost use Rattle.c_mean.specs.Meaning.{meaning};
-ghost use Rattle.scicos.specs.declared.command.Report.TheVariants.{Check};
-ghost use Rattle.scicos.specs.Answer.{prints, report_text, write_fault_line, usage_line, read_fault_line, no_memory_line, undefined_line};
+ghost use Rattle.scicos.specs.declared.look.Told.TheVariants.{Check};
+ghost use Rattle.scicos.specs.Answer.{prints, write_fault_line, usage_line, read_fault_line, no_memory_line, undefined_line};
+ghost use Rattle.scicos.specs.Look.{told_text, HasRows};
 ghost use Rattle.scicos.specs.Written.{Written};
 ghost use Rattle.scicos.specs.Deliver.{Gives, Said, Ran, Finished, RanC, FinishedC, Delivers};
 ghost use Rattle.scicos.specs.Prepare.{answer_of, IsPrepared};
 
-use crate::command::Report;
+use crate::look::Told;
 use crate::prepare::Prepared;
 use c_ast::Program;
 use c_mean::{CEnd, RunStop, run};
@@ -27,7 +25,7 @@ use sci_map::write_map;
 use sci_report::put_refused;
 use sci_sched::write_plan;
 use sci_sim::{Ready, RunEnd};
-use sci_verdict::Checked;
+use sci_verdict::Measured;
 use std::alloc::Global;
 
 const USAGE: &str =
@@ -126,9 +124,8 @@ fn print<O: Sink, E: Sink>(text: &str, out: &mut O, err: &mut E) -> u8
     }
 }
 
-fn put_counts<O: Sink>(checked: &Checked, out: &mut O) -> Result<(), Failed>
-    requires { IsPlan checked.now.net (rows_of checked.now.schedule) }
-    ensures { Writes (O.state out.old) (O.state out.new) (report_text Check (plan_of checked.now)) result }
+fn put_counts<O: Sink>(measured: &Measured, out: &mut O) -> Result<(), Failed>
+    ensures { Writes (O.state out.old) (O.state out.new) (told_text (Check measured.now)) result }
 {
     let mut blocks = Buffer::new();
     let mut sources = Buffer::new();
@@ -138,60 +135,60 @@ fn put_counts<O: Sink>(checked: &Checked, out: &mut O) -> Result<(), Failed>
         out,
         &[
             "ok ".as_bytes(),
-            blocks.format(checked.net.len()).as_bytes(),
+            blocks.format(measured.net.len()).as_bytes(),
             " ".as_bytes(),
-            sources.format(checked.net.source_count()).as_bytes(),
+            sources.format(measured.net.source_count()).as_bytes(),
             " ".as_bytes(),
-            entries.format(checked.schedule.entry_count()).as_bytes(),
+            entries.format(measured.size.entries).as_bytes(),
             " ".as_bytes(),
-            guards.format(checked.schedule.guard_count()).as_bytes(),
+            guards.format(measured.size.guards).as_bytes(),
             "\n".as_bytes(),
         ],
     )
 }
 
-fn put_report<O: Sink>(report: Report, checked: &Checked, out: &mut O) -> Result<(), Failed>
-    requires { IsPlan checked.now.net (rows_of checked.now.schedule) }
-    ensures { Writes (O.state out.old) (O.state out.new) (report_text report (plan_of checked.now)) result }
+fn put_told<O: Sink>(told: &Told, out: &mut O) -> Result<(), Failed>
+    requires { HasRows told.now }
+    ensures { Writes (O.state out.old) (O.state out.new) (told_text told.now) result }
 {
-    match report {
-        Report::Check => put_counts(checked, out),
-        Report::Map => write_map(&checked.net, out),
-        Report::Schedule => write_plan(&checked.net, &checked.schedule, out),
+    match told {
+        Told::Check(measured) => put_counts(measured, out),
+        Told::Map(net) => write_map(net, out),
+        Told::Schedule(checked) => write_plan(&checked.net, &checked.schedule, out),
     }
 }
 
-fn give_report<O: Sink>(report: Report, checked: &Checked, out: &mut O) -> Result<(), Failed>
-    requires { IsPlan checked.now.net (rows_of checked.now.schedule) }
-    ensures { Gives (O.state out.old) (O.state out.new) (report_text report (plan_of checked.now)) result }
+fn give_told<O: Sink>(told: &Told, out: &mut O) -> Result<(), Failed>
+    requires { HasRows told.now }
+    ensures { Gives (O.state out.old) (O.state out.new) (told_text told.now) result }
 {
-    put_report(report, checked, out)?;
+    put_told(told, out)?;
     out.flush()
 }
 
 // Whether nothing is told: the map of a diagram without blocks.
-fn is_silent(report: Report, checked: &Checked) -> bool
-    requires { IsPlan checked.now.net (rows_of checked.now.schedule) }
-    ensures silent { IsTrue result → report_text report (plan_of checked.now) ≡ [] }
-    ensures loud { result ≡ false → report_text report (plan_of checked.now) ≢ [] }
+fn is_silent(told: &Told) -> bool
+    requires { HasRows told.now }
+    ensures silent { IsTrue result → told_text told.now ≡ [] }
+    ensures loud { result ≡ false → told_text told.now ≢ [] }
 {
-    match report {
-        Report::Check => false,
-        Report::Map => checked.net.len() == 0,
-        Report::Schedule => false,
+    match told {
+        Told::Check(_) => false,
+        Told::Map(net) => net.len() == 0,
+        Told::Schedule(_) => false,
     }
 }
 
 // Prints what is told of a diagram, or tells the failure of out.
 #[tactic(auto, using(crate::proofs::Giving::silent_written, crate::proofs::Giving::told_written, crate::proofs::Giving::told_cut))]
-fn tell<O: Sink, E: Sink>(report: Report, checked: &Checked, out: &mut O, err: &mut E) -> u8
-    requires { IsPlan checked.now.net (rows_of checked.now.schedule) }
-    ensures { Written (prints (report_text report (plan_of checked.now))) (O.state out.old) (O.state out.new) (E.state err.old) (E.state err.new) result }
+fn tell<O: Sink, E: Sink>(told: &Told, out: &mut O, err: &mut E) -> u8
+    requires { HasRows told.now }
+    ensures { Written (prints (told_text told.now)) (O.state out.old) (O.state out.new) (E.state err.old) (E.state err.new) result }
 {
-    if is_silent(report, checked) {
+    if is_silent(told) {
         return 0;
     }
-    match give_report(report, checked, out) {
+    match give_told(told, out) {
         Ok(()) => 0,
         Err(_) => say_write_fault(err),
     }
@@ -282,7 +279,7 @@ pub fn deliver<O: Sink, E: Sink>(alloc: Global, prepared: Prepared, out: &mut O,
         Prepared::ReadFault => say_read_fault(err),
         Prepared::Memory => say_no_memory(err),
         Prepared::Print(text) => print(text, out, err),
-        Prepared::Report(report, checked) => tell(report, &checked, out, err),
+        Prepared::Report(told) => tell(&told, out, err),
         Prepared::Simulate(ready, until, limit) => {
             let mut ready = ready;
             finish(print_trace(&mut ready, until, limit, out), err)

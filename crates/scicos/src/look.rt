@@ -1,14 +1,16 @@
 ghost use Rattle.std.specs.Prelude.{◌≡◌, ◌↔◌, ◌<◌, ◌≤◌, ◌^◌, true, length};
 ghost use Rattle.scicos.specs.Inputs.{HasNoColumns};
-ghost use Rattle.scicos.specs.Look.{IsFile, IsDiagram, AreTimers, AreInputs, IsParsed, IsProgram, AreColumns, IsTooLong, IsNotC};
+ghost use Rattle.scicos.specs.Look.{IsFile, IsDiagram, IsSizedDiagram, IsTold, AreTimers, AreInputs, IsParsed, IsProgram, AreColumns, IsTooLong, IsNotC};
 
+use crate::command::Report;
 use c_ast::Program;
 use c_read::{ParseStop, parse};
 use sci_base::{Refusal, Rule};
 use sci_inputs::{InputStop, Inputs, read_inputs};
 use sci_io::{Folder, ReadEnd};
+use sci_net::Net;
 use sci_pending::TimerNet;
-use sci_verdict::{Checked, VerdictStop, check, timer_net};
+use sci_verdict::{Checked, Measured, VerdictStop, check, measure, timer_net};
 use std::alloc::Global;
 
 /// The limit of a diagram's and an input file, in bytes.
@@ -37,6 +39,17 @@ pub enum LookStop {
     Fault,
     /// There was no memory for it.
     Memory,
+}
+
+/// What is told of a diagram.
+#[derive(Drop)]
+pub enum Told {
+    /// How many blocks, sources, schedule entries and guards it has.
+    Check(Measured),
+    /// Its blocks.
+    Map(Net),
+    /// Its static schedules.
+    Schedule(Checked),
 }
 
 // The bytes of a file, which keep the limit.
@@ -77,8 +90,8 @@ fn file_too_long(alloc: Global, which: u32, limit: usize) -> LookStop
     LookStop::Refused(refusal)
 }
 
-/// The net of a diagram's file with its schedules.
-pub fn diagram<F: Folder>(alloc: Global, folder: &mut F, name: &str) -> Result<Checked, LookStop>
+// The net of a diagram's file with its schedules.
+fn diagram<F: Folder>(alloc: Global, folder: &mut F, name: &str) -> Result<Checked, LookStop>
     ensures diagram { IsDiagram (F.state folder.old) (F.state folder.new) name.now result }
     ensures kept { (F.state folder.new).files ≡ (F.state folder.old).files }
 {
@@ -91,6 +104,49 @@ pub fn diagram<F: Folder>(alloc: Global, folder: &mut F, name: &str) -> Result<C
         Err(FileStop::TooLong) => Err(file_too_long(alloc, 1, LONGEST)),
         Err(FileStop::Failed) => Err(LookStop::Fault),
         Err(FileStop::Memory) => Err(LookStop::Memory),
+    }
+}
+
+// The net of a diagram's file with the size of its schedules.
+fn sized_diagram<F: Folder>(alloc: Global, folder: &mut F, name: &str) -> Result<Measured, LookStop>
+    ensures diagram { IsSizedDiagram (F.state folder.old) (F.state folder.new) name.now result }
+    ensures kept { (F.state folder.new).files ≡ (F.state folder.old).files }
+{
+    match file(alloc, folder, name, LONGEST) {
+        Ok(bytes) => match measure(alloc, &bytes) {
+            Ok(measured) => Ok(measured),
+            Err(VerdictStop::Refused(refusal)) => Err(LookStop::Refused(refusal)),
+            Err(VerdictStop::Memory) => Err(LookStop::Memory),
+        },
+        Err(FileStop::TooLong) => Err(file_too_long(alloc, 1, LONGEST)),
+        Err(FileStop::Failed) => Err(LookStop::Fault),
+        Err(FileStop::Memory) => Err(LookStop::Memory),
+    }
+}
+
+/// What is told of a diagram's file. Its schedules are built only where they are told.
+pub fn told_of<F: Folder>(
+    alloc: Global,
+    folder: &mut F,
+    report: Report,
+    name: &str,
+) -> Result<Told, LookStop>
+    ensures told { IsTold (F.state folder.old) (F.state folder.new) report name.now result }
+    ensures kept { (F.state folder.new).files ≡ (F.state folder.old).files }
+{
+    match report {
+        Report::Check => {
+            let measured = sized_diagram(alloc, folder, name)?;
+            Ok(Told::Check(measured))
+        }
+        Report::Map => {
+            let Measured { net, size: _ } = sized_diagram(alloc, folder, name)?;
+            Ok(Told::Map(net))
+        }
+        Report::Schedule => {
+            let checked = diagram(alloc, folder, name)?;
+            Ok(Told::Schedule(checked))
+        }
     }
 }
 

@@ -8,7 +8,7 @@ ghost use Rattle.scicos.specs.Prepare.{answer_of, IsPrepared, MayLack, Simulatio
 
 use crate::command::{Command, Report};
 use crate::host::host;
-use crate::look::{LookStop, columns, diagram, inputs, program, timers};
+use crate::look::{LookStop, Told, columns, inputs, program, timers, told_of};
 use crate::words::parse;
 use c_ast::Program;
 use sci_base::Refusal;
@@ -16,7 +16,6 @@ use sci_inputs::Inputs;
 use sci_io::Folder;
 use sci_pending::TimerNet;
 use sci_sim::Ready;
-use sci_verdict::Checked;
 use std::alloc::Global;
 
 /// A command with all that it needs, before it writes.
@@ -29,7 +28,7 @@ pub enum Prepared {
     /// A text to be printed.
     Print(&'static str),
     /// What is told of a diagram.
-    Report(Report, Checked),
+    Report(Told),
     /// A run, the last date and the most events.
     Simulate(Ready, u64, u64),
     /// A C program with the columns of its input file, the last date and the most events.
@@ -102,8 +101,8 @@ fn for_report<F: Folder>(alloc: Global, folder: &mut F, report: Report, file: &s
     ensures lacks { MayLack result → ⊥ }
     ensures kept { (F.state folder.new).files ≡ (F.state folder.old).files }
 {
-    match diagram(alloc, folder, file) {
-        Ok(checked) => Prepared::Report(report, checked),
+    match told_of(alloc, folder, report, file) {
+        Ok(told) => Prepared::Report(told),
         Err(LookStop::Refused(refusal)) => Prepared::Refused(refusal),
         Err(LookStop::Fault) => Prepared::ReadFault,
         Err(LookStop::Memory) => Prepared::Memory,

@@ -1,7 +1,8 @@
-use Rattle.std.proofs.Common.{◌≡◌, ◌+◌, ◌*◌, map}
-use Rattle.serde_json.specs.View.{items_view}
+use Rattle.std.proofs.Common.{◌≡◌, ◌+◌, ◌*◌, ◌≤◌, length, map}
+use Rattle.sci_document.specs.View.{items_view}
 use Rattle.sci_diagram.specs.Objects.{object_view}
 use Rattle.sci_diagram.specs.Tree.{walk, diagram_at}
+use Rattle.sci_diagram.specs.Weight.{items_weight}
 use Rattle.sci_diagram.proofs.Walking.{rest}
 use Rattle.sci_diagram.proofs.walk.+walk.Given as goal
 
@@ -17,5 +18,11 @@ decreases-read_obj l = 4 * l.left + 2
 abbrev pub decreases-read_block : goal.decreases-read_block
 decreases-read_block l = 4 * l.left + 1
 
-abbrev pub invariant-read_objs-loop-i : goal.invariant-read_objs-loop-i
-invariant-read_objs-loop-i l = rest (diagram_at l.left) l.at (map object_view l.objs.items) l.i l.items ≡ walk (diagram_at l.left) l.at 1 (items_view l.items)
+abbrev pub invariant-read_objs-loop-item : goal.invariant-read_objs-loop-item
+invariant-read_objs-loop-item l = record {
+  walked : rest (diagram_at l.left) l.at (map object_view l.objs.items) (length l.objs.items + 1) (items_view l.items) ≡ walk (diagram_at l.left) l.at 1 (items_view l.initial.items);
+  few : length l.objs.items + items_weight (items_view l.items) ≤ items_weight (items_view l.initial.items);
+}
+
+abbrev pub decreases-read_objs-loop-item : goal.decreases-read_objs-loop-item
+decreases-read_objs-loop-item l = length l.items

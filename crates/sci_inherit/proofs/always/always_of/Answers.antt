@@ -1,31 +1,13 @@
-use Rattle.std.proofs.Common.{◌≡◌, ◌∙◌, List, ℕ, sym, subst, Vec}
-use Rattle.std.specs.declared.alloc.Global.{Global}
+use Rattle.std.proofs.Common.{◌≡◌, ◌∙◌}
 use Rattle.std.proofs.lemmas.Result.{IfOk-weaker}
-use Rattle.sci_walk.specs.Lists.{plain}
-use Rattle.sci_inherit.specs.Links.{AreHeirs}
-use Rattle.sci_inherit.specs.Gather.{AreSetOff, AreAlways}
-use Rattle.sci_inherit.proofs.Gathering.{heirs_inside, blocks_inside}
-use Rattle.sci_inherit.proofs.Sourced.{set_off_block, always_found}
+use Rattle.sci_inherit.specs.Gather.{AreAlways}
+use Rattle.sci_inherit.proofs.Sourced.{always_once}
 use Rattle.sci_inherit.proofs.always.always_of.Goals as goal
-
-pub walk-requires-clause-starts : goal.walk-requires-clause-starts
-walk-requires-clause-starts c =
-    let n = c.args.net.now in
-    let s = c.args.source in
-    let off = subst (AreSetOff n s) (sym c.deref-2.ensures.value) c.in_ok-starts.ensures in
-    blocks_inside n c.args.walk.now.count c.deref-2.result.now c.requires.walk (λ b h. set_off_block n s b ((off b).0 h))
-
-pub walk-requires-clause-within : goal.walk-requires-clause-within
-walk-requires-clause-within c =
-    let heirs = subst (λ (vs : List (Vec ℕ Global)). AreHeirs c.args.net.now (plain vs)) (sym c.deref.ensures.value) c.requires.links.heirs in
-    heirs_inside c.args.net.now (plain c.deref.result.now) c.args.walk.now.count heirs c.requires.walk
 
 pub returns-clause-always : goal.returns-clause-always
 returns-clause-always c =
     let n = c.args.net.now in
     let s = c.args.source in
-    let heirs = subst (λ (vs : List (Vec ℕ Global)). AreHeirs n (plain vs)) (sym c.deref.ensures.value) c.requires.links.heirs in
-    let off = subst (AreSetOff n s) (sym c.deref-2.ensures.value) c.in_ok-starts.ensures in
     IfOk-weaker c.from_slice.result (λ v. v.items ≡ c.found.result.now) (λ v. AreAlways n s v.items)
-    (λ v e. always_found n s (plain c.deref.result.now) c.deref-2.result.now c.walk.new.self.found v.items heirs off c.in_ok-walk.ensures.found c.found.ensures.distinct (e ∙ c.found.ensures.value))
+    (λ v e. always_once n s c.find_always.new.walk.found v.items c.in_ok-find_always.ensures.always c.found.ensures.distinct (e ∙ c.found.ensures.value))
     c.from_slice.ensures.items

@@ -1,11 +1,11 @@
-use Rattle.std.proofs.Common.{◌∙◌, sym, ap, true≢false}
-use Rattle.sci_forms.specs.declared.spec.Spec.{Spec}
-use Rattle.sci_forms.specs.Forms.{is_sync}
+use Rattle.std.proofs.Common.{◌∙◌, sym, true≢false}
 use Rattle.sci_walk.specs.Lists.{plain}
 use Rattle.sci_inherit.proofs.Gathering.{gathered_other}
 use Rattle.sci_inherit.proofs.gather.gather_block.Goals as goal
 
-pub returns-else-is_sync-clause-gathered : goal.returns-else-is_sync-clause-gathered
-returns-else-is_sync-clause-gathered c =
-    gathered_other c.args.net.now c.args.block (plain c.args.branches.now.items) c.requires.least
-    (λ t. true≢false (sym t ∙ (sym (ap (λ (s : Spec). is_sync s.kind) c.spec.ensures.value) ∙ (sym c.is_sync.ensures ∙ c.if-is_sync.false)))) c.requires.gathered
+pub gather_ports-requires-clause-sender : goal.gather_ports-requires-clause-sender
+gather_ports-requires-clause-sender c = c.is_sender.ensures.0 c.if-is_sender.true
+
+pub returns-else-is_sender-clause-gathered : goal.returns-else-is_sender-clause-gathered
+returns-else-is_sender-clause-gathered c =
+    gathered_other c.args.net.now c.args.senders c.args.block (plain c.args.reaching.now.items) c.requires.least (λ t. true≢false (sym (c.is_sender.ensures.1 t) ∙ c.if-is_sender.false)) c.requires.gathered

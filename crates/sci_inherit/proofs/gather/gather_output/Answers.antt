@@ -33,7 +33,7 @@ push_to_all-requires-clause-within c =
     let are = fed_blocks n q c.args.fed.now starts c.well_formed-2.ensures c.requires.fed (c.deref-2.ensures.value ∙ c.in_ok-starts.ensures) in
     let Found : List ℕ → Type 0 = λ l. (b : ℕ) → Contains l b ↔ IsReached ls starts b in
     let found = subst Found (sym c.found.ensures.value) c.in_ok-walk.ensures.found in
-    blocks_within n (vec_len c.args.branches.now) c.found.result.now c.requires.len (λ b h. reaches_block n q ((walked_is n ls starts (Feeds n q) heirs are b).0 ((found b).0 h)))
+    blocks_within n (vec_len c.args.reaching.now) c.found.result.now c.requires.len (λ b h. reaches_block n q ((walked_is n ls starts (Feeds n q) heirs are b).0 ((found b).0 h)))
 
 pub returns-clause-lists : goal.returns-clause-lists
 returns-clause-lists c =
@@ -46,6 +46,6 @@ returns-clause-lists c =
     let Found : List ℕ → Type 0 = λ l. (b : ℕ) → Contains l b ↔ IsReached ls starts b in
     let found = subst Found (sym c.found.ensures.value) c.in_ok-walk.ensures.found in
     on_ok_weaker c.push_to_all.result
-    (pushes_same q (Contains c.found.result.now) (Reaches n q) (plain c.args.branches.now.items) (plain c.push_to_all.new.lists.items)
+    (pushes_same q (Contains c.found.result.now) (Reaches n q) (plain c.args.reaching.now.items) (plain c.push_to_all.new.lists.items)
     (λ b. let walked = walked_is n ls starts (Feeds n q) heirs are b in ((λ h. walked.0 ((found b).0 h)), λ r. (found b).1 (walked.1 r))))
     c.push_to_all.ensures.lists

@@ -13,7 +13,7 @@ use Rattle.sci_inherit.proofs.gather.gather_ports.Goals as goal
 pub loop-at-init : goal.loop-at-init
 loop-at-init c = record {
   count = refl;
-  gathered = gathered_begins c.args.net.now c.args.block (plain c.args.branches.now.items) c.well_formed-2.ensures c.requires.least c.requires.gathered;
+  gathered = gathered_begins c.args.net.now c.args._senders c.args.block (plain c.args.reaching.now.items) c.well_formed-2.ensures c.requires.least c.requires.gathered;
 }
 
 pub gather_output-requires-clause-walk : goal.gather_output-requires-clause-walk
@@ -31,8 +31,8 @@ gather_output-requires-clause-fed c =
 
 pub gather_output-requires-clause-len : goal.gather_output-requires-clause-len
 gather_output-requires-clause-len c =
-    let long = length-map c.loop-at.branches.items (λ (v : Vec Feed Global). v.items) in
-    omega (arith, long, c.loop-at.invariant.gathered.long, c.loop-at.branches.ok.0)
+    let long = length-map c.loop-at.reaching.items (λ (v : Vec Feed Global). v.items) in
+    omega (arith, long, c.loop-at.invariant.gathered.long, c.loop-at.reaching.ok.0)
 
 pub returns-in_err-gather_output-clause-count : goal.returns-in_err-gather_output-clause-count
 returns-in_err-gather_output-clause-count c = c.gather_output.ensures.count ∙ c.loop-at.invariant.count
@@ -40,7 +40,7 @@ returns-in_err-gather_output-clause-count c = c.gather_output.ensures.count ∙ 
 pub loop-at-preserved : goal.loop-at-preserved
 loop-at-preserved c = record {
   count = c.gather_output.ensures.count ∙ c.loop-at.invariant.count;
-  gathered = gathered_port c.args.net.now c.args.block c.loop-at.at (plain c.loop-at.branches.items) (plain c.gather_output.new.branches.items) c.requires.sync c.in_ok-gather_output.ensures.lists
+  gathered = gathered_port c.args.net.now c.args._senders c.args.block c.loop-at.at (plain c.loop-at.reaching.items) (plain c.gather_output.new.reaching.items) c.requires.sender c.in_ok-gather_output.ensures.lists
       c.loop-at.invariant.gathered;
 }
 
@@ -49,7 +49,7 @@ returns-clause-gathered c =
     let n = c.args.net.now in
     let b = c.args.block in
     let e : c.spec.result.now.evtout ≡ (spec_of n b).evtout = ap (λ (s : Spec). s.evtout) c.spec.ensures.value in
-    gathered_ends n b c.loop-at.at (plain c.loop-at.branches.items) c.well_formed-2.ensures (omega (arith, e, c.loop-at-test.false, c.loop-at.auto.at-end)) c.loop-at.invariant.gathered
+    gathered_ends n c.args._senders b c.loop-at.at (plain c.loop-at.reaching.items) c.well_formed-2.ensures (omega (arith, e, c.loop-at-test.false, c.loop-at.auto.at-end)) c.loop-at.invariant.gathered
 
 pub returns-clause-count : goal.returns-clause-count
 returns-clause-count c = c.loop-at.invariant.count

@@ -6,5 +6,5 @@ use Rattle.sci_inherit.proofs.gather.gather_ports.Given as goal
 abbrev pub invariant-loop-at : goal.invariant-loop-at
 invariant-loop-at l = record {
   count : l.walk.count ≡ l.initial.walk.count;
-  gathered : Gathered l.net (OfPorts l.net l.block l.at) (plain l.branches.items);
+  gathered : Gathered l.net (OfPorts l.net l.fn._senders l.block l.at) (plain l.reaching.items);
 }

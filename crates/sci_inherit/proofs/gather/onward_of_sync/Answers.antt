@@ -28,5 +28,5 @@ returns-clause-onward c =
     let are = block_feeds n b c.args.links.now.fed.items c.index.result.now c.deref.result.now c.in_ok-starts.starts.items c.deref-3.result.now c.well_formed-2.ensures
     c.requires.links.have_rows c.requires.links.rows (record { least = c.requires.least; most = c.requires.most }) c.index.ensures c.deref.ensures.value c.in_ok-starts.ensures c.deref-3.ensures.value in
     IfOk-weaker c.from_slice.result (λ v. v.items ≡ c.found.result.now) (λ v. AreOnward n b v.items)
-    (λ v e. onward_found n b (plain c.deref-2.result.now) c.deref-3.result.now c.walk.new.self.found v.items c.requires.sync heirs are c.in_ok-walk.ensures.found (e ∙ c.found.ensures.value))
+    (λ v e. onward_found n b (plain c.deref-2.result.now) c.deref-3.result.now c.walk.new.self.found v.items c.requires.sync heirs are c.in_ok-walk.ensures.found c.found.ensures.distinct (e ∙ c.found.ensures.value))
     c.from_slice.ensures.items

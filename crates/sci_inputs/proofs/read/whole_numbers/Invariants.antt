@@ -5,4 +5,4 @@ use Rattle.sci_json.proofs.Wholes.{with_rest}
 use Rattle.sci_inputs.proofs.read.whole_numbers.Given as goal
 
 abbrev pub invariant-loop-item : goal.invariant-loop-item
-invariant-loop-item l = with_rest l.xs.items (drop l.item-index l.items) ≡ wholes (items_view l.items)
+invariant-loop-item l = with_rest l.xs.items (items_view (drop l.item-index l.items)) ≡ wholes (items_view l.items)

@@ -1,7 +1,0 @@
-use Rattle.std.proofs.Common.{◌≡◌, drop}
-use Rattle.serde_json.specs.View.{items_view}
-use Rattle.sci_diagram.specs.Numbers.{all_small}
-use Rattle.sci_diagram.proofs.numbers.are_small.Given as goal
-
-abbrev pub invariant-loop-item : goal.invariant-loop-item
-invariant-loop-item l = all_small (items_view (drop l.item-index l.items)) ≡ all_small (items_view l.items)
