@@ -1,4 +1,4 @@
-"""Diagrams that break a rule, each with the line that is due, worked out by hand.
+"""Diagrams that break a rule or stand at a limit, each with the line that is due, worked out by hand.
 
 A diagram is written as its objects in order. `block` gives a block of a kind; ports are of one element and of type int32
 (code 3) unless it says otherwise. `wire` and `event` are a regular link and an activation link, from (block, port) to
@@ -52,6 +52,19 @@ def delay(types=-1, rows=1):
     return block('DOLLAR_m', [rows], [rows], types=types, dstate=0)
 
 
+ABSENT = object()
+
+
+def gated(feed=ABSENT):
+    """A gated delay in a cycle through its first input; `feed` is what its field says of its dependence on its inputs, where it is there."""
+    model = {} if feed is ABSENT else {'dep_ut': feed}
+    return [CLOCK, block('GATED_DELAY', [1, 1], [1], evtin=1, dstate=[0], **model), constant(1), block('SUMMATION', [1, 1], [1], ipar=[0, 1, 1]),
+            event((1, 1), (1, 1)), event((1, 1), (2, 1)), wire((2, 1), (4, 1)), wire((3, 1), (4, 2)), wire((4, 1), (2, 1)), wire((3, 1), (2, 2))]
+
+
+GOTO = block('GOTO', [1], ipar=[7, 1])
+
+
 # name, objects, what is due behind 'refused '
 REFUSALS = [
     ('no objects', None, '2 MissingField at - 1'),
@@ -69,6 +82,25 @@ REFUSALS = [
     ('a state below its least', [block('Modulo_Count', outs=[1], evtin=1, ipar=3, dstate=-1)], '8 BadParameter at 1 2 1 -1'),
     ('a first date past 2^31 - 1', [block('EVTDLY_c', evtin=1, evtout=1, ipar=1, firing=2147483648)], '8 BadParameter at 1 3 1 2147483648'),
     ('no feedthrough where the kind has it', [block('GAINBLK', [1], [1], ipar=[0, 2], dep_ut=[False, False])], '8 BadParameter at 1 4 1 0'),
+    ('no feedthrough, where the kind has it at its second input', gated([False, False]), '8 BadParameter at 2 4 1 0'),
+    ('feedthrough at another input than the kind has', gated([[True, False], False]), '8 BadParameter at 2 4 2 0'),
+    ('feedthrough of too few inputs', gated([[True], False]), '8 BadParameter at 2 4 0 1'),
+    ('feedthrough of no inputs', gated([[], False]), '8 BadParameter at 2 4 0 0'),
+    ('feedthrough of too many inputs', gated([[True, True, True], False]), '8 BadParameter at 2 4 0 3'),
+    ('always active, and feedthrough of too few inputs', gated([[True], True]), '11 AlwaysActive at 2'),
+    ('feedthrough of every input, and a loop', gated([True, False]), '24 AlgebraicLoop at 2 1 1 2 4'),
+    ('feedthrough of each input, and a loop', gated([[True, True], False]), '24 AlgebraicLoop at 2 1 1 2 4'),
+    ('a number for feedthrough of an input', gated([[1, True], False]), '3 WrongField at 2 18'),
+    ('a list for feedthrough of an input', gated([[[True], True], False]), '3 WrongField at 2 18'),
+    ('null for feedthrough', gated([None, False]), '3 WrongField at 2 18'),
+    ('a list for always active', gated([True, [False]]), '3 WrongField at 2 18'),
+    ('null for dependence', gated(None), '3 WrongField at 2 18'),
+    ('a truth for dependence', gated(True), '3 WrongField at 2 18'),
+    ('dependence without entries', gated([]), '3 WrongField at 2 18'),
+    ('dependence of one entry', gated([[False, True]]), '3 WrongField at 2 18'),
+    ('dependence of three entries', gated([[], True, 0]), '3 WrongField at 2 18'),
+    ('a tag', [TEXT, GOTO], '7 UnknownBlock at 2'),
+    ('tags are not counted', [GOTO] * 2049, '7 UnknownBlock at 1'),
     ('a port block without a number', [superblock([block('IN_f', outs=[1], ipar=0)])], '8 BadParameter at 1/1 1 1 0'),
     ('one input too many', [block('GAINBLK', [1, 1], [1], ipar=[0, 2])], '9 PortShape at 1 1 2'),
     ('a missing type', [block('GAINBLK', [1], [1], types=([], [3]), ipar=[0, 2])], '9 PortShape at 1 6 0'),
@@ -96,6 +128,19 @@ REFUSALS = [
     ('an output of 257 elements', [constant(0, rows=257)], '23 SignalTooLarge at 1 1 257'),
     ('outputs of 65,537 elements', [constant(0, rows=256)] * 256 + [constant(0)], '23 SignalTooLarge at - 0 65537'),
     ('another kind', [CLOCK, TEXT, superblock([TEXT, constant(1)])], '30 Unbuilt at 3/2'),
+]
+
+
+# name, objects at a limit, what is due of a check
+LIMITS = [
+    ('2,048 blocks', [CLOCK] * 2048, 'ok 2048 2049 0 0\n'),
+    ('16,384 links', [CLOCK] + [event((1, 1), (1, 1))] * 16384, 'ok 1 2 1 0\n'),
+    ('sixteen levels', nested(15), 'ok 0 1 0 0\n'),
+    ('outputs of 65,536 elements, each of 256', [constant(0, rows=256)] * 256, 'ok 256 1 256 0\n'),
+    ('71,500 ports of splits', [block('SPLIT_f', [1], [1] * 64)] * 1100, 'ok 0 1 0 0\n'),
+    ('20,000 ports of a superblock', [superblock([block('CLKINV_f', evtout=1, ipar=k + 1) for k in range(20000)], evtin=20000)], 'ok 0 1 0 0\n'),
+    ('feedthrough by the kind', gated(), 'ok 4 2 5 0\n'),
+    ('feedthrough of the second input', gated([[False, True], False]), 'ok 4 2 5 0\n'),
 ]
 
 

@@ -172,13 +172,47 @@ def types():
 def activity():
     refused("GAINBLK", ACTIVE, [], dep=(True, True))
     refused("DOLLAR_m", ACTIVE, [], dep=(False, True))
-    # a first part true gives feedthrough, also where the kind has none; false takes none from a kind that has it
+    refused("GATED_DELAY", ACTIVE, [], dep=([True], True))
+    # a first part true gives each input feedthrough, also where the kind has none; false gives none, and isn't for a kind that
+    # has an input with feedthrough
     for gui in BLOCKS:
         passes(gui, dep=(True, False))
         if gui in NO_FEEDTHROUGH:
             passes(gui, dep=(False, False))
         else:
             refused(gui, PARAMETER, [4, 1, 0], dep=(False, False))
+
+
+def truths():
+    """A list has one truth for each input, true where the kind's own input has feedthrough."""
+    for gui in BLOCKS:
+        n = BLOCKS[gui][0]
+        passes(gui, dep=([True] * n, False))
+        refused(gui, PARAMETER, [4, 0, n + 1], dep=([True] * (n + 1), False))
+        if n > 0:
+            refused(gui, PARAMETER, [4, 0, n - 1], dep=([True] * (n - 1), False))
+            refused(gui, PARAMETER, [4, 0, 0], dep=([], False))
+        if gui in NO_FEEDTHROUGH:
+            passes(gui, dep=([False] * n, False))
+            refused(gui, PARAMETER, [4, 0, n + 1], dep=([False] * (n + 1), False))
+        elif gui != "GATED_DELAY":
+            for k in range(n):
+                refused(gui, PARAMETER, [4, k + 1, 0], dep=([True] * k + [False] + [True] * (n - k - 1), False))
+            refused(gui, PARAMETER, [4, 1, 0], dep=([False] * n, False))
+    # of GATED_DELAY the second input alone
+    passes("GATED_DELAY", dep=([False, True], False))
+    refused("GATED_DELAY", PARAMETER, [4, 2, 0], dep=([True, False], False))
+    refused("GATED_DELAY", PARAMETER, [4, 2, 0], dep=([False, False], False))
+    refused("GATED_DELAY", PARAMETER, [4, 0, 1], dep=([False], False))
+    refused("GATED_DELAY", PARAMETER, [4, 0, 3], dep=([False, True, False], False))
+    # the first that is false
+    refused("SUMMATION", PARAMETER, [4, 2, 0], **ports(4, 1), ipar=[0, 1, 1, 1, 1], dep=([True, False, True, False], False))
+    refused("SWITCH2_m", PARAMETER, [4, 2, 0], dep=([True, False, False], False))
+    # the number of inputs is the block's own
+    passes("LOGICAL_OP", **ports(3, 1), dep=([True, True, True], False))
+    refused("LOGICAL_OP", PARAMETER, [4, 0, 2], **ports(3, 1), dep=([True, True], False))
+    passes("SUMMATION", **ports(64, 1), ipar=[2] + [1] * 64, dep=([True] * 64, False))
+    refused("SUMMATION", PARAMETER, [4, 64, 0], **ports(64, 1), ipar=[2] + [1] * 64, dep=([True] * 63 + [False], False))
 
 
 def parameters():
@@ -279,6 +313,10 @@ def order_of_rules():
     refused("GATED_DELAY", PARAMETER, [1, 0, 1], ipar=[0], dstate=[], dep=(False, False))
     refused("GATED_DELAY", PARAMETER, [2, 0, 0], dstate=[], dep=(False, False))
     refused("GATED_DELAY", PARAMETER, [4, 1, 0], dep=(False, False))
+    refused("GATED_DELAY", PARAMETER, [2, 0, 0], dstate=[], dep=([True], False))
+    refused("EVTDLY_c", PARAMETER, [3, 1, 2147483648], firing=[2147483648], dep=([False], False))
+    refused("EVTDLY_c", PARAMETER, [4, 0, 1], dep=([False], False))
+    refused("EVTVARDLY", PARAMETER, [4, 0, 2], dep=([True, True], False))
     refused("EVTDLY_c", PARAMETER, [1, 1, -2], ipar=[-2], firing=[2147483648])
     refused("EVTDLY_c", PARAMETER, [3, 1, 2147483648], ipar=[-1], firing=[2147483648])
 
@@ -293,8 +331,23 @@ def integers(vs):
     return "(" + "".join(f"{integer(v)} ∷ " for v in vs) + "[])" if vs else "[]"
 
 
+def truth_list(ts):
+    if len(ts) > 8 and len(set(ts)) == 1:
+        return f"(many {len(ts)} {str(ts[0]).lower()})"
+    return "(" + "".join(f"{str(t).lower()} ∷ " for t in ts) + "[])" if ts else "[]"
+
+
+def dependence(dep):
+    if dep is None:
+        return "None"
+    part, always = dep
+    if isinstance(part, list):
+        return f"(each {truth_list(part)} {str(always).lower()})"
+    return f"(all {str(part).lower()} {str(always).lower()})"
+
+
 def record(f):
-    dep = "None" if f["dep"] is None else "(Some (%s, %s))" % tuple(str(b).lower() for b in f["dep"])
+    dep = dependence(f["dep"])
     lists = " ".join(integers(f[n]) for n in ("ins", "in2", "intyp", "outs", "out2", "outtyp"))
     return f"({lists} {f['evtin']} {f['evtout']} {integers(f['dstate'])} {integers(f['ipar'])} {integers(f['firing'])} {dep})".replace("(", "(fields ", 1)
 
@@ -317,13 +370,21 @@ def port(rows, cols, ty):
     return f"(port ({integer(rows)}) ({integer(cols)}) ({integer(ty)}))"
 
 
+def feed(gui, f):
+    """Of each input whether it has feedthrough: as it is declared, or the kind's own."""
+    n = len(f["ins"])
+    if f["dep"] is None:
+        return [k == 1 for k in range(n)] if gui == "GATED_DELAY" else [gui not in NO_FEEDTHROUGH] * n
+    part = f["dep"][0]
+    return part if isinstance(part, list) else [part] * n
+
+
 def spec(gui, f):
     """The spec of a block that passes."""
     state = f["dstate"] if gui in WITH_STATE else []
     firing = f["firing"] if gui in WITH_DATE else []
-    feed = f["dep"][0] if f["dep"] else gui not in NO_FEEDTHROUGH
     sides = port_list(f["ins"], f["in2"], f["intyp"]) + " " + port_list(f["outs"], f["out2"], f["outtyp"])
-    return f"(block {NAMES[gui]} {integers(f['ipar'])} {integers(state)} {integers(firing)} {sides} {f['evtin']} {f['evtout']} {str(feed).lower()})"
+    return f"(block {NAMES[gui]} {integers(f['ipar'])} {integers(state)} {integers(firing)} {sides} {f['evtin']} {f['evtout']} {truth_list(feed(gui, f))})"
 
 
 HEAD = '''-- Blocks that the check refuses, with the rule and its numbers, and blocks that pass. Written by tools/refusal_rows.py.
@@ -331,16 +392,23 @@ use Rattle.std.proofs.Common.{◌≡◌, ℕ, zero, suc, ℤ, pos, negsuc, List,
 use Rattle.std.specs.Prelude.{codes}
 use Rattle.sci_base.specs.declared.refusal.Rule.{Rule}
 use Rattle.sci_base.specs.declared.refusal.Rule.TheVariants.{UnknownBlock, BadParameter, PortShape, NotInteger, AlwaysActive}
-use Rattle.sci_base.specs.Plain.{Fields}
+use Rattle.sci_base.specs.Plain.{Fields, Dependence, all_inputs, each_input}
 use Rattle.sci_forms.specs.declared.Kind.{Kind}
 use Rattle.sci_forms.specs.declared.Kind.TheVariants.{%s}
 use Rattle.sci_forms.specs.declared.ports.Port.{Port}
 use Rattle.sci_forms.specs.declared.spec.Spec.{Spec}
 use Rattle.sci_check.specs.Check.{checked}
 
-abbrev fields : List ℤ → List ℤ → List ℤ → List ℤ → List ℤ → List ℤ → ℕ → ℕ → List ℤ → List ℤ → List ℤ → Option (Bool × Bool) → Fields
+abbrev fields : List ℤ → List ℤ → List ℤ → List ℤ → List ℤ → List ℤ → ℕ → ℕ → List ℤ → List ℤ → List ℤ → Option Dependence → Fields
 fields a b c d e f g h i j k l =
     record { ins = a; in2 = b; intyp = c; outs = d; out2 = e; outtyp = f; evtin = g; evtout = h; dstate = i; ipar = j; firing = k; dep = l }
+
+-- what is declared of all inputs, or of each, and whether the block is always active
+abbrev all : Bool → Bool → Option Dependence
+all b a = Some (record { part = all_inputs b; always = a })
+
+abbrev each : List Bool → Bool → Option Dependence
+each ts a = Some (record { part = each_input ts; always = a })
 
 abbrev many : {A : Type 0} → ℕ → A → List A
 many zero v = []
@@ -357,7 +425,7 @@ abbrev port : ℤ → ℤ → ℤ → Port
 port r c t = record { rows = r; cols = c; ty = t }
 
 -- a spec by its kind, parameters, state, first dates, inputs, outputs, counts of activation ports and feedthrough
-abbrev block : Kind → List ℤ → List ℤ → List ℤ → List Port → List Port → ℕ → ℕ → Bool → Spec
+abbrev block : Kind → List ℤ → List ℤ → List ℤ → List Port → List Port → ℕ → ℕ → List Bool → Spec
 block k ps xs fs is os a b d = record { kind = k; params = ps; state = xs; firing = fs; ins = is; outs = os; evtin = a; evtout = b; feed = d }
 
 -- it passes, with this spec
@@ -367,7 +435,7 @@ Passes gui f s = checked place gui f ≡ Ok s
 
 
 def main():
-    for part in (counts_of_ports, lengths, types, activity, parameters, states, first_dates, order_of_rules):
+    for part in (counts_of_ports, lengths, types, activity, truths, parameters, states, first_dates, order_of_rules):
         part()
     out = [HEAD % ", ".join(NAMES[g] for g in BLOCKS)]
     gain = record(fields("GAINBLK", dict(dep=(True, True))))

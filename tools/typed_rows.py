@@ -51,14 +51,19 @@ LENGTHS = {"DOLLAR_m": 6, "REGISTER": 3, "Modulo_Count": 1, "GATED_DELAY": 6}
 ROWS = []
 
 
+def truths(ts):
+    return "(" + "".join(f"{str(t).lower()} ∷ " for t in ts) + "[])" if ts else "[]"
+
+
 def spec(gui, **changes):
     ins, outs, more = SPECS[gui]
-    s = dict(ins=ins, outs=outs, params=[], state=[], firing=[], evtin=0, evtout=0, feed=gui not in NO_FEEDTHROUGH)
+    s = dict(ins=ins, outs=outs, params=[], state=[], firing=[], evtin=0, evtout=0)
     s.update(more)
     s.update(changes)
+    s.setdefault("feed", [k == 1 if gui == "GATED_DELAY" else gui not in NO_FEEDTHROUGH for k in range(len(s["ins"]))])
     ports = lambda side: "(" + "".join(f"port ({integer(r)}) ({integer(c)}) ({integer(t)}) ∷ " for r, c, t in s[side]) + "[])"
     return (f"(block {NAMES[gui]} {integers(s['params'])} {integers(s['state'])} {integers(s['firing'])} {ports('ins')} {ports('outs')}"
-            f" {s['evtin']} {s['evtout']} {str(s['feed']).lower()})")
+            f" {s['evtin']} {s['evtout']} {truths(s['feed'])})")
 
 
 def row(word, *arguments):
@@ -170,19 +175,30 @@ def of_specs():
         typed(gui)
         row("HasStateLength", spec(gui), LENGTHS.get(gui, 0))
     typed("CONST_m", params=[1, 2, 3, 4, 5, 6])
-    typed("GAINBLK", params=[2, -128], feed=True, evtin=1)
+    typed("GAINBLK", params=[2, -128], feed=[True], evtin=1)
     typed("SHIFT", params=[-7, 1])
     typed("Modulo_Count", params=[128])
     typed("Modulo_Count", params=[256], outs=[(1, 1, 8)])
     typed("SIGNUM", ins=[(16, 16, 5)], outs=[(16, 16, 5)])
     typed("EXTRACTOR", ins=[(600, 600, 5)], params=[360000, 1])
-    typed("DOLLAR_m", feed=True)
+    typed("DOLLAR_m", feed=[True])
+    typed("GATED_DELAY", feed=[False, True])
+    typed("GATED_DELAY", feed=[True, True])
+    not_typed("GATED_DELAY", feed=[True, False])
+    not_typed("GATED_DELAY", feed=[False, False])
+    not_typed("GATED_DELAY", feed=[True])
+    not_typed("GATED_DELAY", feed=[False, True, True])
+    not_typed("SWITCH2_m", feed=[True, True, False])
+    not_typed("SWITCH2_m", feed=[True, True, True, True])
+    not_typed("DOLLAR_m", feed=[])
+    not_typed("CONST_m", feed=[False])
+    not_typed("SIGNUM", feed=[])
     not_typed("SIGNUM", ins=[(257, 1, 5)], outs=[(257, 1, 5)])
     not_typed("SIGNUM", ins=[(0, 3, 5)], outs=[(0, 3, 5)])
     not_typed("SIGNUM", ins=[(2, -1, 5)], outs=[(2, -1, 5)])
     for ty in (2, 9, 0, -1):
         not_typed("SIGNUM", ins=[(2, 3, ty)], outs=[(2, 3, ty)])
-    not_typed("SIGNUM", feed=False)
+    not_typed("SIGNUM", feed=[False])
     not_typed("SIGNUM", state=[0])
     not_typed("SIGNUM", firing=[0])
     not_typed("SIGNUM", params=[0])
@@ -211,7 +227,7 @@ abbrev port : ℤ → ℤ → ℤ → Port
 port r c t = record { rows = r; cols = c; ty = t }
 
 -- a spec by its kind, parameters, state, first dates, inputs, outputs, counts of activation ports and feedthrough
-abbrev block : Kind → List ℤ → List ℤ → List ℤ → List Port → List Port → ℕ → ℕ → Bool → Spec
+abbrev block : Kind → List ℤ → List ℤ → List ℤ → List Port → List Port → ℕ → ℕ → List Bool → Spec
 block k ps xs fs is os a b d = record { kind = k; params = ps; state = xs; firing = fs; ins = is; outs = os; evtin = a; evtout = b; feed = d }
 
 abbrev TypesBroken : Spec → ℤ → ℤ → ℤ → Type 0

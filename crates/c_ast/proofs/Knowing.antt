@@ -1,20 +1,25 @@
 -- What the rules know, as a text goes on.
-use Rattle.std.proofs.Common.{◌≡◌, ◌≢◌, ◌<◌, ◌≤◌, ◌+◌, ℕ, suc, List, [], ◌∷◌, ◌++◌, length, Bool, true, false, cond, inl, inr, refl, sym, ap, ◌∙◌, subst, arith, Option, Some, None, true≢false}
+use Rattle.std.proofs.Common.{◌≡◌, ◌≢◌, ◌<◌, ◌≤◌, ◌+◌, ℕ, suc, List, [], ◌∷◌, ◌++◌, length, Bool, true, false, cond, inl, inr, ◌⊎◌, refl, sym, ap, ◌∙◌, subst, arith, Option, Some, None, true≢false}
 use Rattle.std.specs.Prelude.{Contains, ◌||◌, min, max}
 use Rattle.std.specs.List.{list_any}
 use Rattle.std.proofs.lemmas.List.Folds.{list_any-append}
 use Rattle.std.proofs.lemmas.List.{get_or_past}
 use Rattle.std.proofs.lemmas.List.Elements.{Contains-append_left, Contains-push, All-contains}
 use Rattle.std.proofs.lemmas.Bool.Decides.{eqb_tells}
-use Rattle.sci_walk.specs.Lists.{list_at}
-use Rattle.sci_walk.specs.Reached.{IsReached, onward}
+use Rattle.sci_loop.specs.Lists.{list_at}
+use Rattle.sci_loop.specs.Reached.{IsReached, onward}
 use Rattle.c_ast.specs.declared.Name.{Name}
 use Rattle.c_ast.specs.declared.bodies.Bodies.{Bodies}
 use Rattle.c_ast.specs.declared.events.Opened.{Opened}
 use Rattle.c_ast.specs.declared.rules.Past.{Past}
 use Rattle.c_ast.specs.Rules.{same_name, is_among, is_hit, Routine, Scope, ended, breaks_loop, assigns_of, depth_of}
 use Rattle.c_ast.specs.Assigning.{Tells}
-use Rattle.c_ast.specs.Bodies.{callees_in, assigners_in, KeepsBodies, BeginsBody, AssignsName, CallsBody}
+use Rattle.c_ast.specs.Naming.{number_in, at_number, at_place, by_name}
+use Rattle.c_ast.specs.declared.events.Kind.{Kind}
+use Rattle.c_ast.proofs.Numbering.{grown}
+use Rattle.indexmap.specs.IndexSet.{insert_key}
+use Rattle.std.proofs.lemmas.Option.{none-some}
+use Rattle.c_ast.specs.Bodies.{callees_in, assigners_in, KeepsBodies, BeginsBody, AssignsName, CallsBody, CallsAgain}
 use Rattle.c_ast.specs.Knowing.{AreAssigned, IsRoutine, MayBeRoutine}
 use Rattle.c_ast.proofs.Assigning.{list_at-begun, list_at-called, list_at-others, reach_itself, reach_below, reach_agrees, reach_more, reach_onward, reach_alone, reach_called, either_true, left_true, right_true}
 
@@ -177,13 +182,34 @@ breaks_unknown b blocks a r e m = known r (subst (λ (o : Option Past). MayBeRou
     known None m = refl
     known (Some r) m = absurd m
 
+-- a function that the last body called before
+module _ (old new : Bodies) (callee : ℕ) (k : CallsAgain callee old new) where
+  called_twice : (more names : List Name) → AreAssigned old callee more → AreAssigned old old.last names → AreAssigned old old.last (more ++ names)
+  called_twice more names b a q = (
+    (λ t. elim (either_true (is_among more q) (is_among names q) (sym both ∙ t)) [
+      | inl m ↦ let w = (b q).0 m in (w.0, reach_onward (callees_in old) (old.last ∷ []) callee (onward old.last callee (reach_itself (callees_in old) old.last) k.called) w.1, w.2)
+      | inr n ↦ (a q).0 n
+    ]),
+    λ w. both ∙ right_true (is_among more q) (is_among names q) ((a q).1 w),
+  )
+    where
+      both : is_among (more ++ names) q ≡ (is_among more q || is_among names q)
+      both = list_any-append (λ x. same_name x q) more names
+
+  pub assigned_again : (more names : List Name) → AreAssigned old callee more → AreAssigned old old.last names → AreAssigned new new.last (more ++ names)
+  assigned_again more names b a = let P : ℕ → Type 0 = λ l. AreAssigned new l (more ++ names) in subst P (sym (k.keeps).last) (assigned_same old new old.last (more ++ names) k.keeps (called_twice more names b a))
+
+pub routine_calls : (old new : Bodies) (callee : ℕ) → callee < old.last → CallsBody callee old new ⊎ CallsAgain callee old new → (a : Option Past) (b : Option Routine) → MayBeRoutine old a b → MayBeRoutine new a b
+routine_calls old new callee low (inl k) = routine_called old new callee low k
+routine_calls old new callee low (inr k) = routine_same old new k.keeps
+
 -- what a called function assigns, and how deep its calls are
-pub called_known : (old new : Bodies) (p : Past) (a : Option Past) (r : Option Routine) (names : List Name) → a ≡ Some p → p.body < old.last → CallsBody p.body old new → MayBeRoutine old a r → AreAssigned old old.last names → AreAssigned new new.last (assigns_of r ++ names)
+pub called_known : (old new : Bodies) (p : Past) (a : Option Past) (r : Option Routine) (names : List Name) → a ≡ Some p → p.body < old.last → CallsBody p.body old new ⊎ CallsAgain p.body old new → MayBeRoutine old a r → AreAssigned old old.last names → AreAssigned new new.last (assigns_of r ++ names)
 called_known old new p a r names e low k m w = known r (subst (λ (o : Option Past). MayBeRoutine old o r) e m)
   where
     known : (r : Option Routine) → MayBeRoutine old (Some p) r → AreAssigned new new.last (assigns_of r ++ names)
     known None m = absurd m
-    known (Some r) m = assigned_called old new p.body low k r.assigns names m.assigns w
+    known (Some r) m = elim k [ inl c ↦ assigned_called old new p.body low c r.assigns names m.assigns w | inr c ↦ assigned_again old new p.body c r.assigns names m.assigns w ]
 
 pub depth_known : (b : Bodies) (p : Past) (a : Option Past) (r : Option Routine) (now new depth : ℕ) → a ≡ Some p → MayBeRoutine b a r → now ≡ min depth 65 → new ≡ max now (min (p.depth + 1) 65) → new ≡ min (max depth (suc (depth_of r))) 65
 depth_known b p a r now new depth e m was is = known r (subst (λ (o : Option Past). MayBeRoutine b o r) e m)
@@ -192,17 +218,47 @@ depth_known b p a r now new depth e m was is = known r (subst (λ (o : Option Pa
     known None m = absurd m
     known (Some r) m = let d = m.depth in omega arith
 
+-- what holds of all that stands in a table holds of what stands at a name
+pub by_names : (P : Past → Type 0) (names : List Name) (table : List (Option Past)) (q : Name) (past : Past) → ((n : ℕ) (p : Past) → at_place table n ≡ Some p → P p) → by_name names table q ≡ Some past → P past
+by_names P names table q past all e = known (number_in names q) e
+  where
+    known : (o : Option ℕ) → at_number None table o ≡ Some past → P past
+    known None e = absurd (none-some past e)
+    known (Some n) e = all n past e
+
+-- the routines with the names that the text has by now
+pub routine_named : (b : Bodies) (before names : List Name) (x : Name) (table : List (Option Past)) (q : Name) (r : Option Routine) → names ≡ insert_key same_name before x → length table ≤ length before → MayBeRoutine b (by_name before table q) r → MayBeRoutine b (by_name names table q) r
+routine_named b before names x table q r grows long m = subst (λ (o : Option Past). MayBeRoutine b o r) (sym (ap (λ (l : List Name). by_name l table q) grows ∙ grown None table before x q long)) m
+
+-- the same kinds with more names
+pub kind_named : (before names : List Name) (x : Name) (table : List (Option Kind)) (q : Name) → names ≡ insert_key same_name before x → length table ≤ length before → by_name names table q ≡ by_name before table q
+kind_named before names x table q grows long = ap (λ (l : List Name). by_name l table q) grows ∙ grown None table before x q long
+
 abbrev body_in : Option Past → ℕ
 body_in None = 0
 body_in (Some p) = p.body
 
 -- the functions that have ended, with one more
-pub earlier_ended : (t : Bool) (p past : Past) (now before : Option Past) (n m : ℕ) → now ≡ cond t (Some p) before → now ≡ Some past → p.body ≡ n → m ≡ n + 1 → (before ≡ Some past → past.body < n) → past.body < m
-earlier_ended true p past now before n m e is body next low = let same = ap body_in (sym e ∙ is) in omega arith
-earlier_ended false p past now before n m e is body next low = let less = low (sym e ∙ is) in omega arith
+abbrev pub AreEarlier : List (Option Past) → ℕ → Type 0
+AreEarlier table n = (k : ℕ) (past : Past) → at_place table k ≡ Some past → past.body < n
 
-pub earlier_left : (past : Past) (now before : Option Past) (n m : ℕ) → now ≡ before → now ≡ Some past → n ≤ m → (before ≡ Some past → past.body < n) → past.body < m
-earlier_left past now before n m e is more low = let less = low (sym e ∙ is) in omega arith
+pub earlier_kept : (table new : List (Option Past)) (n m : ℕ) → n ≤ m → ((k : ℕ) → at_place new k ≡ at_place table k) → AreEarlier table n → AreEarlier new m
+earlier_kept table new n m more same low k past e = let less = low k past (sym (same k) ∙ e) in omega arith
+
+pub earlier_put : (table new : List (Option Past)) (at : ℕ) (p : Past) (n m : ℕ) → p.body < m → n ≤ m → at_place new at ≡ Some p → ((k : ℕ) → k ≢ at → at_place new k ≡ at_place table k) → AreEarlier table n → AreEarlier new m
+earlier_put table new at p n m less more there others low k past e = elim (eqb_tells k at) [
+  | inl t ↦ let same : p.body ≡ past.body = ap body_in (sym there ∙ ap (at_place new) (sym t.1) ∙ e) in omega arith
+  | inr t ↦ let first = low k past (sym (others k t.1) ∙ e) in omega arith
+]
+
+pub routine_renamed : (b : Bodies) (before names : List Name) (table : List (Option Past)) (q : Name) (r : Option Routine) → names ≡ before → MayBeRoutine b (by_name before table q) r → MayBeRoutine b (by_name names table q) r
+routine_renamed b before names table q r same m = subst (λ (l : List Name). MayBeRoutine b (by_name l table q) r) (sym same) m
+
+pub kind_renamed : (before names : List Name) (table : List (Option Kind)) (q : Name) → names ≡ before → by_name names table q ≡ by_name before table q
+kind_renamed before names table q same = ap (λ (l : List Name). by_name l table q) same
+
+pub assigned_last : (old new : Bodies) (names : List Name) → KeepsBodies old new → AreAssigned old old.last names → AreAssigned new new.last names
+assigned_last old new names k a = subst (λ (l : ℕ). AreAssigned new l names) (sym k.last) (assigned_same old new old.last names k a)
 
 pub ended_none : (s : Scope) (o : Option (Name × ℕ)) → ((x : Name × ℕ) → o ≡ Some x → ⊥) → ended s o ≡ s.routines
 ended_none s None none = refl

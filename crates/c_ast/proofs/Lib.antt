@@ -2,6 +2,7 @@ pub mod Views
 pub mod Sizes
 pub mod Fits
 pub mod Listing
+pub mod Numbering
 pub mod Assigning
 pub mod Knowing
 pub mod Judging

@@ -1,6 +1,6 @@
 -- What changes as a text goes on.
 use Rattle.std.specs.Prelude.{◌≡◌, ℕ, ◌+◌, ◌⊎◌, ◌↔◌, List, [], ◌∷◌, ◌++◌, Contains, true, slice_set}
-use Rattle.sci_walk.specs.Lists.{plain, list_at}
+use Rattle.sci_loop.specs.Lists.{plain, list_at}
 use Rattle.c_ast.specs.declared.Name.{Name}
 use Rattle.c_ast.specs.declared.bodies.Bodies.{Bodies}
 use Rattle.c_ast.specs.Rules.{same_name}
@@ -10,7 +10,7 @@ abbrev pub callees_in : Bodies → List (List ℕ)
 callees_in b = plain b.callees.items
 
 abbrev pub assigners_in : Bodies → Name → List ℕ
-assigners_in b = assigners_of b.assigners
+assigners_in b = assigners_of b.names b.assigners.items
 
 -- nothing changes
 pub record KeepsBodies (old new : Bodies) : Type 0 where
@@ -35,3 +35,8 @@ pub record CallsBody (body : ℕ) (old new : Bodies) : Type 0 where
   pub callees : callees_in new ≡ slice_set (callees_in old) old.last (list_at (callees_in old) old.last ++ body ∷ [])
   pub assigners : (q : Name) → assigners_in new q ≡ assigners_in old q
   pub last : new.last ≡ old.last
+
+-- the open body calls one that it has called before
+pub record CallsAgain (body : ℕ) (old new : Bodies) : Type 0 where
+  pub keeps : KeepsBodies old new
+  pub called : Contains (list_at (callees_in old) old.last) body

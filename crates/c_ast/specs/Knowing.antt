@@ -1,11 +1,11 @@
 -- What the rules know of a text so far, in memory, and the scope that it stands for.
 use Rattle.std.specs.Prelude.{◌≡◌, ℕ, ◌<◌, List, Option, Some, None, min}
-use Rattle.std.specs.HashMap as map
 use Rattle.c_ast.specs.declared.Name.{Name}
 use Rattle.c_ast.specs.declared.bodies.Bodies.{Bodies}
 use Rattle.c_ast.specs.declared.rules.Past.{Past}
 use Rattle.c_ast.specs.declared.rules.Knowledge.{Knowledge}
-use Rattle.c_ast.specs.Rules.{same_name, Routine, Scope, kind_in, routine_in, is_among}
+use Rattle.c_ast.specs.Rules.{Routine, Scope, kind_in, routine_in, is_among}
+use Rattle.c_ast.specs.Naming.{by_name}
 use Rattle.c_ast.specs.Assigning.{Tells}
 use Rattle.c_ast.specs.Bodies.{callees_in, assigners_in}
 
@@ -26,9 +26,9 @@ MayBeRoutine b (Some p) None = ⊥
 MayBeRoutine b (Some p) (Some r) = IsRoutine b p r
 
 pub record Agrees (k : Knowledge) (s : Scope) : Type 0 where
-  pub kinds : (q : Name) → map.get same_name k.kinds q ≡ kind_in s.declared q
+  pub kinds : (q : Name) → by_name k.bodies.names k.kinds.items q ≡ kind_in s.declared q
   pub elements : k.elements ≡ min s.elements 16777217
-  pub routines : (q : Name) → MayBeRoutine k.bodies (map.get same_name k.routines q) (routine_in s.routines q)
+  pub routines : (q : Name) → MayBeRoutine k.bodies (by_name k.bodies.names k.routines.items q) (routine_in s.routines q)
   pub blocks : k.blocks.items ≡ s.blocks
   pub owner : k.owner ≡ s.owner
   pub assigns : AreAssigned k.bodies k.bodies.last s.assigns

@@ -4,6 +4,7 @@ pub mod Spelling
 pub mod Bounds
 pub mod Events
 pub mod Rules
+pub mod Naming
 pub mod Assigning
 pub mod Bodies
 pub mod Knowing

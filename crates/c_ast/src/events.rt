@@ -6,7 +6,8 @@ ghost use Rattle.c_ast.specs.View.{exp_of, place_of, asked_of, told_of, statemen
 ghost use Rattle.c_ast.specs.Events.{exp_events, place_events, asked_events, told_events, bound_events, statement_events, block_events, declared_event, function_events, main_events, program_events};
 
 use crate::{Ask, Bound, Decl, Expr, Func, Name, Program, Stmt, Target, Tell};
-use std::alloc::{AllocError, Global};
+use sci_base::NoMemory;
+use std::alloc::Global;
 
 /// What a name stands for.
 #[derive(Clone, Copy)]
@@ -45,7 +46,7 @@ pub enum Event {
     Close,
 }
 
-fn add(list: &mut Vec<Event>, event: Event) -> Result<(), AllocError>
+fn add(list: &mut Vec<Event>, event: Event) -> Result<(), NoMemory>
     ensures { OnOk result (list.new.items ≡ list.old.items ++ event ∷ []) }
 {
     list.push(event)?;
@@ -53,7 +54,7 @@ fn add(list: &mut Vec<Event>, event: Event) -> Result<(), AllocError>
 }
 
 /// The names of an expression.
-pub fn expr(list: &mut Vec<Event>, e: &Expr) -> Result<(), AllocError>
+pub fn expr(list: &mut Vec<Event>, e: &Expr) -> Result<(), NoMemory>
     ensures { OnOk result (list.new.items ≡ list.old.items ++ exp_events (exp_of e.now)) }
 {
     match e {
@@ -73,7 +74,7 @@ pub fn expr(list: &mut Vec<Event>, e: &Expr) -> Result<(), AllocError>
 }
 
 /// The names of a place that is assigned.
-pub fn target(list: &mut Vec<Event>, target: &Target) -> Result<(), AllocError>
+pub fn target(list: &mut Vec<Event>, target: &Target) -> Result<(), NoMemory>
     ensures { OnOk result (list.new.items ≡ list.old.items ++ place_events (place_of target.now)) }
 {
     match target {
@@ -86,7 +87,7 @@ pub fn target(list: &mut Vec<Event>, target: &Target) -> Result<(), AllocError>
 }
 
 /// The names of a question.
-pub fn ask(list: &mut Vec<Event>, ask: &Ask) -> Result<(), AllocError>
+pub fn ask(list: &mut Vec<Event>, ask: &Ask) -> Result<(), NoMemory>
     ensures { OnOk result (list.new.items ≡ list.old.items ++ asked_events (asked_of ask.now)) }
 {
     match ask {
@@ -98,7 +99,7 @@ pub fn ask(list: &mut Vec<Event>, ask: &Ask) -> Result<(), AllocError>
 }
 
 /// The names of an observation.
-pub fn tell(list: &mut Vec<Event>, tell: &Tell) -> Result<(), AllocError>
+pub fn tell(list: &mut Vec<Event>, tell: &Tell) -> Result<(), NoMemory>
     ensures { OnOk result (list.new.items ≡ list.old.items ++ told_events (told_of tell.now)) }
 {
     match tell {
@@ -124,7 +125,7 @@ pub fn tell(list: &mut Vec<Event>, tell: &Tell) -> Result<(), AllocError>
 }
 
 /// The names of a loop's line.
-pub fn turn(list: &mut Vec<Event>, counter: Name, bound: &Bound) -> Result<(), AllocError>
+pub fn turn(list: &mut Vec<Event>, counter: Name, bound: &Bound) -> Result<(), NoMemory>
     ensures { OnOk result (list.new.items ≡ list.old.items ++ (Event.Loop counter bound.now ∷ bound_events bound.now)) }
 {
     add(list, Event::Loop(counter, *bound))?;
@@ -135,7 +136,7 @@ pub fn turn(list: &mut Vec<Event>, counter: Name, bound: &Bound) -> Result<(), A
 }
 
 #[cycle(events)]
-fn statement(list: &mut Vec<Event>, s: &Stmt) -> Result<(), AllocError>
+fn statement(list: &mut Vec<Event>, s: &Stmt) -> Result<(), NoMemory>
     ensures { OnOk result (list.new.items ≡ list.old.items ++ statement_events (statement_of s.now)) }
 {
     match s {
@@ -166,7 +167,7 @@ fn statement(list: &mut Vec<Event>, s: &Stmt) -> Result<(), AllocError>
 
 /// The names of statements.
 #[cycle(events)]
-fn block(list: &mut Vec<Event>, statements: &[Stmt]) -> Result<(), AllocError>
+fn block(list: &mut Vec<Event>, statements: &[Stmt]) -> Result<(), NoMemory>
     ensures { OnOk result (list.new.items ≡ list.old.items ++ block_events (statements_of statements.now)) }
 {
     for s in statements {
@@ -175,7 +176,7 @@ fn block(list: &mut Vec<Event>, statements: &[Stmt]) -> Result<(), AllocError>
     Ok(())
 }
 
-fn declarations(list: &mut Vec<Event>, decls: &[Decl]) -> Result<(), AllocError>
+fn declarations(list: &mut Vec<Event>, decls: &[Decl]) -> Result<(), NoMemory>
     ensures { OnOk result (list.new.items ≡ list.old.items ++ map declared_event (map declared_of decls.now)) }
 {
     for decl in decls {
@@ -184,7 +185,7 @@ fn declarations(list: &mut Vec<Event>, decls: &[Decl]) -> Result<(), AllocError>
     Ok(())
 }
 
-fn function(list: &mut Vec<Event>, func: &Func) -> Result<(), AllocError>
+fn function(list: &mut Vec<Event>, func: &Func) -> Result<(), NoMemory>
     ensures { OnOk result (list.new.items ≡ list.old.items ++ function_events (function_of func.now)) }
 {
     add(list, Event::Function(func.name))?;
@@ -192,7 +193,7 @@ fn function(list: &mut Vec<Event>, func: &Func) -> Result<(), AllocError>
     add(list, Event::Close)
 }
 
-fn functions(list: &mut Vec<Event>, funcs: &[Func]) -> Result<(), AllocError>
+fn functions(list: &mut Vec<Event>, funcs: &[Func]) -> Result<(), NoMemory>
     ensures { OnOk result (list.new.items ≡ list.old.items ++ flat_map function_events (map function_of funcs.now)) }
 {
     for func in funcs {
@@ -202,7 +203,7 @@ fn functions(list: &mut Vec<Event>, funcs: &[Func]) -> Result<(), AllocError>
 }
 
 /// What a program does with names, in the order of its text.
-pub fn program(alloc: Global, p: &Program) -> Result<Vec<Event>, AllocError>
+pub fn program(alloc: Global, p: &Program) -> Result<Vec<Event>, NoMemory>
     ensures { IfOk result (λ list. list.items ≡ program_events (whole_of p.now)) }
 {
     let mut list = Vec::new(alloc);

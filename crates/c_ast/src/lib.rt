@@ -6,9 +6,11 @@
 
 mod bodies;
 pub mod events;
+pub mod names;
 mod rules;
 
-pub use rules::{first_fault, static_rules};
+pub use names::Names;
+pub use rules::{fault, static_rules};
 
 /// A letter from `a` to `z` and a number, as `v12`.
 #[derive(Clone, Copy, PartialEq, Eq, Hash)]

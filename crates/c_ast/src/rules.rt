@@ -1,19 +1,20 @@
 // The static rules.
 
-ghost use Rattle.std.specs.Prelude.{◌≡◌, IsTrue, ◌↔◌, ℕ, ◌≤◌, ◌<◌, ◌^◌, ◌∷◌, [], ◌++◌, OnOk, IfOk, ◌||◌, not, length, take, nat_le, Bool, Some};
+ghost use Rattle.std.specs.Prelude.{◌≡◌, IsTrue, ◌↔◌, ℕ, ◌≤◌, ◌<◌, ◌^◌, ◌∷◌, [], ◌++◌, OnOk, IfOk, IfSome, ◌||◌, not, length, take, nat_le, Bool, Some};
 ghost use Rattle.std.specs.List.{list_any};
 ghost use Rattle.c_ast.specs.declared.Name.{Name};
 ghost use Rattle.c_ast.specs.declared.rules.Past.{Past};
 ghost use Rattle.c_ast.specs.Rules.{is_scalar, is_array, is_used_well, is_bound, is_hit, is_guarded, same_name, is_too_large, elements_of, kind_of, earlier, blamed_event, KeepsRules};
 ghost use Rattle.c_ast.specs.View.{whole_of};
-ghost use Rattle.std.specs.HashMap as map;
+ghost use Rattle.c_ast.specs.Events.{program_events};
+ghost use Rattle.c_ast.specs.Naming.{at_place, by_name};
 
 use crate::bodies::Bodies;
 use crate::events::{Event, Kind, Opened, program};
+use crate::names::{Names, put};
 use crate::{Bound, Name, Program};
 use sci_base::NoMemory;
-use std::alloc::{AllocError, Global};
-use std::collections::HashMap;
+use std::alloc::Global;
 
 fn same(x: Name, y: Name) -> bool
     ensures { result ≡ same_name x y }
@@ -77,12 +78,6 @@ fn guarded(blocks: &[Opened], x: Name) -> bool
     blocks.iter().any(|opened| guarding(x, *opened))
 }
 
-fn kind_at(kinds: &HashMap<Name, Kind>, x: Name) -> Option<Kind>
-    ensures { result ≡ map.get same_name kinds.now x }
-{
-    kinds.get(&x).copied()
-}
-
 fn kind_for(size: Option<u32>) -> Kind
     ensures { result ≡ kind_of size }
 {
@@ -122,14 +117,18 @@ struct Past {
 /// What the text did so far.
 #[derive(Drop)]
 struct Knowledge {
-    kinds: HashMap<Name, Kind>,
+    // by the number of a name
+    kinds: Vec<Option<Kind>>,
     elements: u64,
-    routines: HashMap<Name, Past>,
+    // by the number of a name
+    routines: Vec<Option<Past>>,
     blocks: Vec<Opened>,
     owner: Option<(Name, usize)>,
     depth: u8,
     bodies: Bodies,
-    ghost earlier: { (q : Name) (past : Past) → map.get same_name routines q ≡ Some past → past.body < bodies.last },
+    ghost earlier: { (n : ℕ) (past : Past) → at_place routines.items n ≡ Some past → past.body < bodies.last },
+    ghost kinds_named: { length kinds.items ≤ length bodies.names },
+    ghost routines_named: { length routines.items ≤ length bodies.names },
 }
 
 const MOST_ELEMENTS: u64 = 16_777_216;
@@ -138,19 +137,32 @@ impl Knowledge {
     ghost use Rattle.c_ast.specs.Rules.{Scope, outset, behind, blamed_at, breaks_loop, routine_in, closing, is_blamed, opens_body, ended};
     ghost use Rattle.c_ast.specs.Knowing.{Agrees};
 
-    fn new(alloc: Global) -> Result<Knowledge, AllocError>
+    fn new(alloc: Global, names: Names) -> Result<Knowledge, NoMemory>
         ensures { IfOk result (λ k. Agrees k outset) }
     {
-        let bodies = Bodies::new(alloc)?;
+        let bodies = Bodies::new(alloc, names)?;
         Ok(Knowledge {
-            kinds: HashMap::new(alloc),
+            kinds: Vec::new(alloc),
             elements: 0,
-            routines: HashMap::new(alloc),
+            routines: Vec::new(alloc),
             blocks: Vec::new(alloc),
             owner: None,
             depth: 1,
             bodies,
         })
+    }
+
+    fn kind_of(&self, x: Name) -> Option<Kind>
+        ensures { result ≡ by_name self.now.bodies.names self.now.kinds.items x }
+    {
+        self.bodies.names.look(&self.kinds, x)
+    }
+
+    fn routine_of(&self, f: Name) -> Option<Past>
+        ensures value { result ≡ by_name self.now.bodies.names self.now.routines.items f }
+        ensures earlier { IfSome result (λ past. past.body < self.now.bodies.last) }
+    {
+        self.bodies.names.look(&self.routines, f)
     }
 
     fn too_large(&self, size: Option<u32>) -> bool
@@ -162,11 +174,11 @@ impl Knowledge {
         }
     }
 
-    fn breaks(&mut self, f: Name) -> Result<bool, AllocError>
+    fn breaks(&mut self, f: Name) -> Result<bool, NoMemory>
         ensures same { (s : Scope) → Agrees self.old s → Agrees self.new s }
         ensures value { (s : Scope) → Agrees self.old s → IfOk result (λ wrong. wrong ≡ breaks_loop s.blocks (routine_in s.routines f)) }
     {
-        match self.routines.get(&f).copied() {
+        match self.routine_of(f) {
             None => Ok(true),
             Some(past) => self.bodies.hits(past.body, &self.blocks),
         }
@@ -181,21 +193,19 @@ impl Knowledge {
         }
     }
 
-    fn is_wrong(&mut self, event: Event) -> Result<bool, AllocError>
+    fn is_wrong(&mut self, event: Event) -> Result<bool, NoMemory>
         ensures same { (s : Scope) → Agrees self.old s → Agrees self.new s }
         ensures value { (s : Scope) → Agrees self.old s → IfOk result (λ wrong. wrong ≡ is_blamed s event) }
     {
         match event {
-            Event::Declare(x, size) => {
-                Ok(kind_at(&self.kinds, x).is_some() || self.too_large(size))
-            }
-            Event::Function(f) => Ok(kind_at(&self.kinds, f).is_some()),
-            Event::Read(x, kind) => Ok(!used_well(kind, kind_at(&self.kinds, x))),
+            Event::Declare(x, size) => { Ok(self.kind_of(x).is_some() || self.too_large(size)) }
+            Event::Function(f) => Ok(self.kind_of(f).is_some()),
+            Event::Read(x, kind) => Ok(!used_well(kind, self.kind_of(x))),
             Event::Assign(x, kind) => Ok(
-                !used_well(kind, kind_at(&self.kinds, x)) || guarded(&self.blocks, x),
+                !used_well(kind, self.kind_of(x)) || guarded(&self.blocks, x),
             ),
             Event::Loop(x, bound) => Ok(
-                !scalar(kind_at(&self.kinds, x)) || guarded(&self.blocks, x) || bound_is(x, bound),
+                !scalar(self.kind_of(x)) || guarded(&self.blocks, x) || bound_is(x, bound),
             ),
             Event::Call(f) => self.breaks(f),
             Event::Main => Ok(false),
@@ -205,7 +215,7 @@ impl Knowledge {
     }
 
     /// The event that the rules blame at event i.
-    fn fault(&mut self, i: usize, event: Event) -> Result<Option<usize>, AllocError>
+    fn fault(&mut self, i: usize, event: Event) -> Result<Option<usize>, NoMemory>
         ensures same { (s : Scope) → Agrees self.old s → Agrees self.new s }
         ensures value { (s : Scope) → Agrees self.old s → IfOk result (λ blamed. blamed ≡ blamed_at i s event) }
     {
@@ -218,16 +228,24 @@ impl Knowledge {
         }
     }
 
-    fn declare(&mut self, x: Name, size: Option<u32>) -> Result<(), AllocError>
+    /// Gives a name what it stands for from now on.
+    fn give(&mut self, x: Name, kind: Kind) -> Result<(), NoMemory>
+        ensures { (s : Scope) → Agrees self.old s → OnOk result (Agrees self.new (record s { declared = (x, kind) ∷ s.declared })) }
+    {
+        let number = self.bodies.number(x)?;
+        put(&mut self.kinds, number, kind)
+    }
+
+    fn declare(&mut self, x: Name, size: Option<u32>) -> Result<(), NoMemory>
         ensures { (i : ℕ) → (s : Scope) → Agrees self.old s → OnOk result (Agrees self.new (behind i s (Event.Declare x size))) }
     {
-        self.kinds.insert(x, kind_for(size))?;
+        self.give(x, kind_for(size))?;
         let sum = self.elements.min(MOST_ELEMENTS + 1) + elements_in(size);
         self.elements = sum.min(MOST_ELEMENTS + 1);
         Ok(())
     }
 
-    fn begin_body(&mut self, alloc: Global, owner: Option<(Name, usize)>) -> Result<(), AllocError>
+    fn begin_body(&mut self, alloc: Global, owner: Option<(Name, usize)>) -> Result<(), NoMemory>
         ensures { (s : Scope) → Agrees self.old s → OnOk result (Agrees self.new (opens_body s owner)) }
     {
         self.bodies.begin(alloc)?;
@@ -237,20 +255,20 @@ impl Knowledge {
         Ok(())
     }
 
-    fn begin_function(&mut self, alloc: Global, i: usize, f: Name) -> Result<(), AllocError>
+    fn begin_function(&mut self, alloc: Global, i: usize, f: Name) -> Result<(), NoMemory>
         ensures { (s : Scope) → Agrees self.old s → OnOk result (Agrees self.new (behind i s (Event.Function f))) }
     {
-        self.kinds.insert(f, Kind::Function)?;
+        self.give(f, Kind::Function)?;
         self.begin_body(alloc, Some((f, i)))
     }
 
-    fn assign(&mut self, alloc: Global, x: Name) -> Result<(), AllocError>
+    fn assign(&mut self, alloc: Global, x: Name) -> Result<(), NoMemory>
         ensures { (i : ℕ) → (k : Kind) → (s : Scope) → Agrees self.old s → OnOk result (Agrees self.new (behind i s (Event.Assign x k))) }
     {
         self.bodies.assign(alloc, x)
     }
 
-    fn begin_loop(&mut self, alloc: Global, x: Name, bound: Bound) -> Result<(), AllocError>
+    fn begin_loop(&mut self, alloc: Global, x: Name, bound: Bound) -> Result<(), NoMemory>
         ensures { (i : ℕ) → (s : Scope) → Agrees self.old s → OnOk result (Agrees self.new (behind i s (Event.Loop x bound))) }
     {
         self.bodies.assign(alloc, x)?;
@@ -258,10 +276,10 @@ impl Knowledge {
         Ok(())
     }
 
-    fn call(&mut self, f: Name) -> Result<(), AllocError>
+    fn call(&mut self, f: Name) -> Result<(), NoMemory>
         ensures { (i : ℕ) → (s : Scope) → Agrees self.old s → OnOk result (Agrees self.new (behind i s (Event.Call f))) }
     {
-        match self.routines.get(&f).copied() {
+        match self.routine_of(f) {
             None => {
                 self.depth = self.depth.max(1);
                 Ok(())
@@ -273,26 +291,27 @@ impl Knowledge {
         }
     }
 
-    fn begin_branch(&mut self) -> Result<(), AllocError>
+    fn begin_branch(&mut self) -> Result<(), NoMemory>
         ensures { (i : ℕ) → (s : Scope) → Agrees self.old s → OnOk result (Agrees self.new (behind i s Event.If)) }
     {
         self.blocks.push(Opened::Branch)?;
         Ok(())
     }
 
-    fn end_body(&mut self, alloc: Global) -> Result<(), AllocError>
+    fn end_body(&mut self, alloc: Global) -> Result<(), NoMemory>
         ensures { (s : Scope) → Agrees self.old s → OnOk result (Agrees self.new (record s { routines = ended s s.owner; assigns = [] })) }
     {
         let body = self.bodies.last;
         self.bodies.begin(alloc)?;
         if let Some((f, _)) = self.owner {
             let depth = self.depth;
-            self.routines.insert(f, Past { body, depth })?;
+            let number = self.bodies.number(f)?;
+            put(&mut self.routines, number, Past { body, depth })?;
         }
         Ok(())
     }
 
-    fn close(&mut self, alloc: Global) -> Result<(), AllocError>
+    fn close(&mut self, alloc: Global) -> Result<(), NoMemory>
         ensures { (i : ℕ) → (s : Scope) → Agrees self.old s → OnOk result (Agrees self.new (behind i s Event.Close)) }
     {
         let is_last = self.blocks.len() <= 1;
@@ -305,7 +324,7 @@ impl Knowledge {
     }
 
     /// Goes on behind event i.
-    fn pass(&mut self, alloc: Global, i: usize, event: Event) -> Result<(), AllocError>
+    fn pass(&mut self, alloc: Global, i: usize, event: Event) -> Result<(), NoMemory>
         ensures { (s : Scope) → Agrees self.old s → OnOk result (Agrees self.new (behind i s event)) }
     {
         match event {
@@ -322,11 +341,12 @@ impl Knowledge {
     }
 }
 
-/// The first event, by its number from 0, that the static rules blame.
-pub fn first_fault(alloc: Global, events: &[Event]) -> Result<Option<usize>, AllocError>
+/// The first event, by its number from 0, that the static rules blame. The names are those that the text declares; others get numbers
+/// behind them, and the answer is the same whichever names are given.
+pub fn first_fault(alloc: Global, names: Names, events: &[Event]) -> Result<Option<usize>, NoMemory>
     ensures { IfOk result (λ found. found ≡ blamed_event events.now) }
 {
-    let mut knowledge = Knowledge::new(alloc)?;
+    let mut knowledge = Knowledge::new(alloc, names)?;
     let mut found = None;
     for (i, event) in events.iter().enumerate() {
         let fault = knowledge.fault(i, *event)?;
@@ -336,12 +356,13 @@ pub fn first_fault(alloc: Global, events: &[Event]) -> Result<Option<usize>, All
     Ok(found)
 }
 
-fn is_kept(alloc: Global, p: &Program) -> Result<bool, AllocError>
-    ensures { IfOk result (λ kept. IsTrue kept ↔ KeepsRules (whole_of p.now)) }
+/// The first event of a program, by its number from 0, that the static rules blame.
+pub fn fault(alloc: Global, p: &Program) -> Result<Option<usize>, NoMemory>
+    ensures { IfOk result (λ found. found ≡ blamed_event (program_events (whole_of p.now))) }
 {
+    let names = Names::number(alloc, p)?;
     let events = program(alloc, p)?;
-    let found = first_fault(alloc, &events)?;
-    Ok(found.is_none())
+    first_fault(alloc, names, &events)
 }
 
 /// Whether the static rules hold of a program: all declared names differ; each name is used only behind its declaration and as what it is,
@@ -351,17 +372,18 @@ fn is_kept(alloc: Global, p: &Program) -> Result<bool, AllocError>
 pub fn static_rules(alloc: Global, p: &Program) -> Result<bool, NoMemory>
     ensures { IfOk result (λ kept. IsTrue kept ↔ KeepsRules (whole_of p.now)) }
 {
-    match is_kept(alloc, p) {
-        Ok(kept) => Ok(kept),
-        Err(_) => Err(NoMemory),
-    }
+    let found = fault(alloc, p)?;
+    Ok(found.is_none())
 }
 
 #[cfg(test)]
 mod tests {
-    use super::first_fault;
+    use super::{first_fault, static_rules};
     use crate::events::{Event, Kind};
-    use crate::{Bound, Name};
+    use crate::names::Names;
+    use crate::{Bound, Decl, Expr, Name, Program, Stmt, Target};
+    use sci_base::NoMemory;
+    use std::alloc::Global;
     use std::test::Fail;
 
     // f0 assigns i0, g0 calls f0, and h0 calls none. A loop of i0 calls h0, and then g0.
@@ -389,8 +411,73 @@ mod tests {
             Event::Close,
             Event::Close,
         ];
-        assert_eq!(rt; first_fault(rt.alloc(), &events)?, Some(12));
-        assert_eq!(rt; first_fault(rt.alloc(), &events[..12])?, None);
+        assert_eq!(rt;
+            first_fault(rt.alloc(), Names::new(rt.alloc()), &events)?,
+            Some(12)
+        );
+        assert_eq!(rt;
+            first_fault(rt.alloc(), Names::new(rt.alloc()), &events[..12])?,
+            None
+        );
+        Ok(())
+    }
+
+    // static int64_t v1; void sci_main(void) { x = 0; }, where x is another name or v1
+    fn assigning(alloc: Global, x: Name) -> Result<Program, NoMemory> {
+        let name = Name {
+            letter: b'v',
+            number: 1,
+        };
+        Ok(Program {
+            decls: vec![in alloc; Decl { name, size: None }]?,
+            funcs: Vec::new(alloc),
+            main: vec![in alloc; Stmt::Set(Target::Var(x), Expr::Num(0))]?,
+        })
+    }
+
+    #[test]
+    fn a_name_that_is_declared_and_one_that_is_not(rt: HostRuntime) -> Result<(), Fail> {
+        let alloc = rt.alloc();
+        let [kept, broken] = [1, 2].map(|number| Name {
+            letter: b'v',
+            number,
+        });
+        assert_eq!(rt; static_rules(alloc, &assigning(alloc, kept)?)?, true);
+        assert_eq!(rt; static_rules(alloc, &assigning(alloc, broken)?)?, false);
+        Ok(())
+    }
+
+    // v2, v1, v2 again, and v3, which is not declared
+    #[test]
+    fn numbers_of_names(rt: HostRuntime) -> Result<(), Fail> {
+        let alloc = rt.alloc();
+        let [first, second, other] = [2, 1, 3].map(|number| Name {
+            letter: b'v',
+            number,
+        });
+        let decls = vec![in alloc;
+            Decl {
+                name: first,
+                size: None
+            },
+            Decl {
+                name: second,
+                size: Some(4)
+            },
+            Decl {
+                name: first,
+                size: Some(2)
+            },
+        ]?;
+        let p = Program {
+            decls,
+            funcs: Vec::new(alloc),
+            main: Vec::new(alloc),
+        };
+        let names = Names::number(alloc, &p)?;
+        assert_eq!(rt; names.number_of(first), Some(0));
+        assert_eq!(rt; names.number_of(second), Some(1));
+        assert_eq!(rt; names.number_of(other), None);
         Ok(())
     }
 }

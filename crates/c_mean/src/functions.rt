@@ -9,7 +9,8 @@ ghost use Rattle.c_mean.specs.Calls.{latest};
 use crate::machine::Routine;
 use crate::memory::enter;
 use c_ast::Name;
-use std::alloc::{AllocError, Global};
+use sci_base::NoMemory;
+use std::alloc::Global;
 use std::collections::HashMap;
 
 /// Functions, the latest first, and at each name the place of the first of this name.
@@ -21,7 +22,7 @@ pub struct Functions<'a> {
 }
 
 /// The functions with their index. The only error is want of memory.
-pub fn indexed<'a>(alloc: Global, routines: Vec<Routine<'a>>) -> Result<Functions<'a>, AllocError>
+pub fn indexed<'a>(alloc: Global, routines: Vec<Routine<'a>>) -> Result<Functions<'a>, NoMemory>
     ensures { IfOk result (λ v. v.routines.items ≡ routines.entry.items) }
 {
     let mut index = HashMap::new(alloc);

@@ -10,18 +10,19 @@ mod start;
 mod steps;
 mod values;
 
+use sci_base::NoMemory;
 pub use start::{CEnd, RunStop, run};
 
 #[cfg(test)]
 mod tests {
     use super::*;
     use c_ast::{Bound, Decl, Expr, Name, Op, Program, Stmt, Target, Tell};
-    use sci_inputs::Inputs;
     use sci_io::MemSink;
+    use sci_trace::inputs::Inputs;
     use std::alloc::{AllocError, Global};
     use std::test::Fail;
 
-    fn both(alloc: Global, op: Op, a: Expr, b: Expr) -> Result<Expr, AllocError> {
+    fn both(alloc: Global, op: Op, a: Expr, b: Expr) -> Result<Expr, NoMemory> {
         let left = Box::new(alloc, a).map_err(AllocError::from)?;
         let right = Box::new(alloc, b).map_err(AllocError::from)?;
         Ok(Expr::Bin(op, left, right))
@@ -32,7 +33,7 @@ mod tests {
     }
 
     // sci_start(); sci_val(1, 1, 1, 7 / 2); sci_end(2);
-    fn quotient(alloc: Global) -> Result<Program, AllocError> {
+    fn quotient(alloc: Global) -> Result<Program, NoMemory> {
         let value = both(alloc, Op::Div, Expr::Num(7), Expr::Num(2))?;
         let told = Tell::Val(Expr::Num(1), Expr::Num(1), Expr::Num(1), value);
         let main = vec![in alloc;
@@ -48,7 +49,7 @@ mod tests {
     }
 
     // v1 = 2^63 - 1; v1 = v1 + 1;
-    fn overflow(alloc: Global) -> Result<Program, AllocError> {
+    fn overflow(alloc: Global) -> Result<Program, NoMemory> {
         let name = Name {
             letter: b'v',
             number: 1,
@@ -68,7 +69,7 @@ mod tests {
     }
 
     // for (k1 = 0; k1 < 3; k1 = k1 + 1) { if (0) { v1 = 0; v1 = 0; } else { v1 = 0; v1 = 1 / 0; } }
-    fn division_by_zero(alloc: Global) -> Result<Program, AllocError> {
+    fn division_by_zero(alloc: Global) -> Result<Program, NoMemory> {
         let name = Name {
             letter: b'v',
             number: 1,

@@ -9,7 +9,7 @@ ghost use Rattle.c_mean.specs.Spans.{span_of, first_of};
 
 use crate::machine::Span;
 use c_ast::{Decl, Name};
-use std::alloc::AllocError;
+use sci_base::NoMemory;
 use std::collections::HashMap;
 
 /// The variables: their elements follow each other in the order of the declarations, and where those of a name stand is found by
@@ -23,7 +23,7 @@ pub struct Memory<'a> {
 }
 
 /// Adds a value at a name, unless there is one. The only error is want of memory.
-pub fn enter<V: Copy>(map: &mut HashMap<Name, V>, name: Name, value: V) -> Result<(), AllocError>
+pub fn enter<V: Copy>(map: &mut HashMap<Name, V>, name: Name, value: V) -> Result<(), NoMemory>
     ensures { (q : Name) → OnOk result (hash.get same_name map.new q ≡ first_of (hash.get same_name map.old q) (if same_name name q then Some value else None)) }
 {
     if !map.contains_key(&name) {

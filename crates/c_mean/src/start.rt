@@ -6,7 +6,7 @@ ghost use Rattle.c_mean.specs.Meaning.{first_slot, numbered, behind_functions, m
 ghost use Rattle.c_mean.specs.Running.{left_of, numbered_of};
 ghost use Rattle.c_mean.specs.Layout.{slots};
 ghost use Rattle.c_mean.specs.Spans.{elements_of};
-ghost use Rattle.sci_inputs.specs.Columns.{columns_view};
+ghost use Rattle.sci_trace.specs.Columns.{columns_view};
 ghost use Rattle.c_mean.specs.Answering.{Answers, answer_of};
 ghost use Rattle.c_mean.specs.declared.start.RunStop.TheVariants.{Memory};
 
@@ -15,9 +15,10 @@ use crate::machine::{Column, Flow, Limits, Routine, Span};
 use crate::memory::{Memory, enter};
 use crate::steps::{block, count_all};
 use c_ast::{Decl, Func, Program};
-use sci_inputs::Inputs;
+use sci_base::NoMemory;
 use sci_io::{Failed, Sink};
-use std::alloc::{AllocError, Global};
+use sci_trace::inputs::Inputs;
+use std::alloc::Global;
 use std::collections::HashMap;
 
 /// How a run ended.
@@ -40,10 +41,10 @@ pub enum RunStop {
     Memory,
 }
 
-impl From<AllocError> for RunStop {
+impl From<NoMemory> for RunStop {
     ghost from_gives = { λ _ e. e ≡ Memory };
 
-    fn from(_e: AllocError) -> RunStop {
+    fn from(_e: NoMemory) -> RunStop {
         RunStop::Memory
     }
 }
@@ -58,7 +59,7 @@ fn elements(decl: &Decl) -> usize
     }
 }
 
-fn memory_of<'a>(alloc: Global, decls: &'a [Decl]) -> Result<Memory<'a>, AllocError>
+fn memory_of<'a>(alloc: Global, decls: &'a [Decl]) -> Result<Memory<'a>, NoMemory>
     ensures { IfOk result (λ m. slots m ≡ map first_slot (map declared_of decls.now)) }
 {
     let mut spans = HashMap::new(alloc);
@@ -76,7 +77,7 @@ fn memory_of<'a>(alloc: Global, decls: &'a [Decl]) -> Result<Memory<'a>, AllocEr
     })
 }
 
-fn columns_of<'a>(alloc: Global, columns: &'a [Vec<i64>]) -> Result<Vec<Column<'a>>, AllocError>
+fn columns_of<'a>(alloc: Global, columns: &'a [Vec<i64>]) -> Result<Vec<Column<'a>>, NoMemory>
     ensures { IfOk result (λ v. map left_of v.items ≡ columns_view columns.now) }
 {
     let mut list = Vec::new(alloc);
@@ -89,7 +90,7 @@ fn columns_of<'a>(alloc: Global, columns: &'a [Vec<i64>]) -> Result<Vec<Column<'
 }
 
 /// The functions with the numbers of their first statements, the latest first.
-fn routines_of<'a>(alloc: Global, funcs: &'a [Func]) -> Result<Vec<Routine<'a>>, AllocError>
+fn routines_of<'a>(alloc: Global, funcs: &'a [Func]) -> Result<Vec<Routine<'a>>, NoMemory>
     ensures { IfOk result (λ v. map numbered_of v.items ≡ numbered 1 (map function_of funcs.now) []) }
 {
     let mut list = Vec::new(alloc);

@@ -1,6 +1,6 @@
 // Lines.
 
-ghost use Rattle.std.specs.Prelude.{◌≡◌, ◌≤◌, ◌<◌, ◌∷◌, [], List, length, drop, Some};
+ghost use Rattle.std.specs.Prelude.{◌≡◌, ◌≤◌, ◌<◌, ◌∷◌, [], List, length, drop, Some, IfErr};
 ghost use Rattle.std.specs.Option.{option_map};
 ghost use Rattle.c_ast.specs.View.{exp_of, place_of, asked_of, told_of};
 ghost use Rattle.c_ast.specs.Syntax.{event, stop};
@@ -40,7 +40,8 @@ pub struct Indented {
 
 #[tactic(auto, using(crate::proofs::Scans::whole_some, crate::proofs::Scans::whole_none))]
 fn whole(item: Item, bytes: &[u8]) -> Result<Item, Stop>
-    ensures { Gives line_of result (read.whole (line_of item) bytes.now) }
+    ensures gives { Gives line_of result (read.whole (line_of item) bytes.now) }
+    ensures sure { IfErr result (λ e. e ≡ Stop.Other) }
 {
     if bytes.is_empty() {
         Ok(item)
@@ -50,7 +51,8 @@ fn whole(item: Item, bytes: &[u8]) -> Result<Item, Stop>
 }
 
 fn ending(item: Item, text: &[u8], bytes: &[u8]) -> Result<Item, Stop>
-    ensures { Gives line_of result (read.ending (line_of item) text.now bytes.now) }
+    ensures gives { Gives line_of result (read.ending (line_of item) text.now bytes.now) }
+    ensures sure { IfErr result (λ e. e ≡ Stop.Other) }
 {
     let rest = must(bytes, text)?;
     whole(item, rest)
@@ -208,7 +210,8 @@ fn tell(alloc: Global, bytes: &[u8]) -> Result<Item, Stop>
 
 #[tactic(auto, unfolding(crate::specs::LineReading::bound_at))]
 fn bound(bytes: &[u8]) -> Result<(Bound, &[u8]), Stop>
-    ensures { Gives (λ x. (x.0, x.1.now)) result (read.bound_at bytes.now) }
+    ensures gives { Gives (λ x. (x.0, x.1.now)) result (read.bound_at bytes.now) }
+    ensures sure { IfErr result (λ e. e ≡ Stop.Other) }
 {
     match after_text(bytes, b"INT64_C(") {
         Some(rest) => {
@@ -229,7 +232,8 @@ fn bound(bytes: &[u8]) -> Result<(Bound, &[u8]), Stop>
 
 #[tactic(auto, unfolding(crate::specs::LineReading::same_at))]
 fn same(x: Name, bytes: &[u8]) -> Result<&[u8], Stop>
-    ensures { Gives (λ r. r.now) result (read.same_at x bytes.now) }
+    ensures gives { Gives (λ r. r.now) result (read.same_at x bytes.now) }
+    ensures sure { IfErr result (λ e. e ≡ Stop.Other) }
 {
     let Some((y, rest)) = name(bytes) else {
         return Err(Stop::Other);
@@ -243,7 +247,8 @@ fn same(x: Name, bytes: &[u8]) -> Result<&[u8], Stop>
 
 #[tactic(auto, unfolding(crate::specs::LineReading::counted_at))]
 fn counted(x: Name, bound: Bound, bytes: &[u8]) -> Result<Item, Stop>
-    ensures { Gives line_of result (read.counted_at x bound bytes.now) }
+    ensures gives { Gives line_of result (read.counted_at x bound bytes.now) }
+    ensures sure { IfErr result (λ e. e ≡ Stop.Other) }
 {
     let rest = must(bytes, b"; ")?;
     let rest = same(x, rest)?;
@@ -254,7 +259,8 @@ fn counted(x: Name, bound: Bound, bytes: &[u8]) -> Result<Item, Stop>
 
 #[tactic(auto, unfolding(crate::specs::LineReading::for_at))]
 fn turn(bytes: &[u8]) -> Result<Item, Stop>
-    ensures { Gives line_of result (read.for_at bytes.now) }
+    ensures gives { Gives line_of result (read.for_at bytes.now) }
+    ensures sure { IfErr result (λ e. e ≡ Stop.Other) }
 {
     let Some((x, rest)) = name(bytes) else {
         return Err(Stop::Other);
@@ -268,7 +274,8 @@ fn turn(bytes: &[u8]) -> Result<Item, Stop>
 
 #[tactic(auto, unfolding(crate::specs::LineReading::size_at))]
 fn sized(x: Name, bytes: &[u8]) -> Result<Item, Stop>
-    ensures { Gives line_of result (read.size_at x bytes.now) }
+    ensures gives { Gives line_of result (read.size_at x bytes.now) }
+    ensures sure { IfErr result (λ e. e ≡ Stop.Other) }
 {
     let Some((size, rest)) = number(1_048_577, bytes) else {
         return Err(Stop::Other);
@@ -281,7 +288,8 @@ fn sized(x: Name, bytes: &[u8]) -> Result<Item, Stop>
 
 #[tactic(auto, unfolding(crate::specs::LineReading::declared_at))]
 fn declared(bytes: &[u8]) -> Result<Item, Stop>
-    ensures { Gives line_of result (read.declared_at bytes.now) }
+    ensures gives { Gives line_of result (read.declared_at bytes.now) }
+    ensures sure { IfErr result (λ e. e ≡ Stop.Other) }
 {
     let Some((x, rest)) = name(bytes) else {
         return Err(Stop::Other);
@@ -294,7 +302,8 @@ fn declared(bytes: &[u8]) -> Result<Item, Stop>
 
 #[tactic(auto, unfolding(crate::specs::LineReading::static_at))]
 fn outer(bytes: &[u8]) -> Result<Item, Stop>
-    ensures { Gives line_of result (read.static_at bytes.now) }
+    ensures gives { Gives line_of result (read.static_at bytes.now) }
+    ensures sure { IfErr result (λ e. e ≡ Stop.Other) }
 {
     match after_text(bytes, b"int64_t ") {
         Some(rest) => declared(rest),
@@ -310,7 +319,8 @@ fn outer(bytes: &[u8]) -> Result<Item, Stop>
 
 #[tactic(auto, unfolding(crate::specs::LineReading::closing_at))]
 fn closing(bytes: &[u8]) -> Result<Item, Stop>
-    ensures { Gives line_of result (read.closing_at bytes.now) }
+    ensures gives { Gives line_of result (read.closing_at bytes.now) }
+    ensures sure { IfErr result (λ e. e ≡ Stop.Other) }
 {
     match after_text(bytes, b" else {") {
         Some(rest) => whole(Item::Else, rest),

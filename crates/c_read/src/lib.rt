@@ -7,17 +7,14 @@ mod reader;
 #[cfg(test)]
 mod tests;
 
-ghost use Rattle.std.specs.Prelude.{◌≡◌, ℕ, IfOk};
-ghost use Rattle.c_ast.specs.View.{whole_of};
-ghost use Rattle.c_ast.specs.Events.{program_events};
-ghost use Rattle.c_ast.specs.Rules.{blamed_event};
+ghost use Rattle.std.specs.Prelude.{◌≡◌, ℕ};
 ghost use Rattle.c_ast.specs.Syntax.{Whole};
 ghost use Rattle.c_read.specs.Answers.{Answers, IsAccepted, IsRefused, Accepts, Blames};
 
-use c_ast::events::program;
-use c_ast::{Program, first_fault};
+use c_ast::{Program, fault};
 use reader::read;
-use std::alloc::{AllocError, Global};
+use sci_base::NoMemory;
+use std::alloc::Global;
 
 /// Why a text is no program.
 #[derive(Debug, PartialEq, Eq, Drop)]
@@ -29,22 +26,14 @@ pub enum ParseStop {
     Memory,
 }
 
-impl From<AllocError> for ParseStop {
+impl From<NoMemory> for ParseStop {
     ghost use Rattle.c_read.specs.declared.ParseStop.TheVariants.{Memory};
 
     ghost from_gives = { λ _ e. e ≡ Memory };
 
-    fn from(_e: AllocError) -> ParseStop {
+    fn from(_e: NoMemory) -> ParseStop {
         ParseStop::Memory
     }
-}
-
-/// The event by which the static rules blame a program first.
-fn fault(alloc: Global, p: &Program) -> Result<Option<usize>, AllocError>
-    ensures { IfOk result (λ found. found ≡ blamed_event (program_events (whole_of p.now))) }
-{
-    let events = program(alloc, p)?;
-    first_fault(alloc, &events)
 }
 
 /// The program that the text spells, exactly where one within the bounds does and keeps the static rules; else the byte that is blamed.

@@ -10,7 +10,7 @@ ghost use Rattle.c_read.specs.Names.{exp_places, next_place, three_places, place
 
 use c_ast::{Ask, Bound, Expr, Name, Op, Target, Tell};
 use c_parse::line::{Indented, Item};
-use std::alloc::AllocError;
+use sci_base::NoMemory;
 
 #[tactic(auto, using(crate::proofs::Lengths::digits_exact, crate::proofs::Lengths::digit_exact))]
 fn digits(n: u64) -> usize
@@ -58,7 +58,7 @@ fn operator_len(op: Op) -> usize
     }
 }
 
-fn add(list: &mut Vec<usize>, at: usize) -> Result<(), AllocError>
+fn add(list: &mut Vec<usize>, at: usize) -> Result<(), NoMemory>
     ensures { OnOk result (list.new.items ≡ list.old.items ++ at ∷ []) }
 {
     list.push(at)?;
@@ -66,7 +66,7 @@ fn add(list: &mut Vec<usize>, at: usize) -> Result<(), AllocError>
 }
 
 /// The names of an expression that begins at this byte, and the byte behind it.
-fn expr(list: &mut Vec<usize>, at: usize, e: &Expr) -> Result<usize, AllocError>
+fn expr(list: &mut Vec<usize>, at: usize, e: &Expr) -> Result<usize, NoMemory>
     requires { at + length (exp_text (exp_of e.now)) < 2 ^ 64 }
     ensures places { OnOk result (list.new.items ≡ list.old.items ++ exp_places at (exp_of e.now)) }
     ensures behind { IfOk result (λ n. n ≡ at + length (exp_text (exp_of e.now))) }
@@ -99,7 +99,7 @@ fn expr(list: &mut Vec<usize>, at: usize, e: &Expr) -> Result<usize, AllocError>
 }
 
 /// The names of an argument that begins at this byte, and the byte of the next.
-fn argument(list: &mut Vec<usize>, at: usize, e: &Expr) -> Result<usize, AllocError>
+fn argument(list: &mut Vec<usize>, at: usize, e: &Expr) -> Result<usize, NoMemory>
     requires { next_place at (exp_of e.now) < 2 ^ 64 }
     ensures places { OnOk result (list.new.items ≡ list.old.items ++ exp_places at (exp_of e.now)) }
     ensures behind { IfOk result (λ n. n ≡ next_place at (exp_of e.now)) }
@@ -108,7 +108,7 @@ fn argument(list: &mut Vec<usize>, at: usize, e: &Expr) -> Result<usize, AllocEr
     Ok(end + b", ".len())
 }
 
-fn last(list: &mut Vec<usize>, at: usize, e: &Expr) -> Result<(), AllocError>
+fn last(list: &mut Vec<usize>, at: usize, e: &Expr) -> Result<(), NoMemory>
     requires { at + length (exp_text (exp_of e.now)) < 2 ^ 64 }
     ensures { OnOk result (list.new.items ≡ list.old.items ++ exp_places at (exp_of e.now)) }
 {
@@ -116,7 +116,7 @@ fn last(list: &mut Vec<usize>, at: usize, e: &Expr) -> Result<(), AllocError>
     Ok(())
 }
 
-fn three(list: &mut Vec<usize>, at: usize, a: &Expr, b: &Expr, c: &Expr) -> Result<(), AllocError>
+fn three(list: &mut Vec<usize>, at: usize, a: &Expr, b: &Expr, c: &Expr) -> Result<(), NoMemory>
     requires { next_place (next_place at (exp_of a.now)) (exp_of b.now) + length (exp_text (exp_of c.now)) < 2 ^ 64 }
     ensures { OnOk result (list.new.items ≡ list.old.items ++ three_places at (exp_of a.now) (exp_of b.now) (exp_of c.now)) }
 {
@@ -126,7 +126,7 @@ fn three(list: &mut Vec<usize>, at: usize, a: &Expr, b: &Expr, c: &Expr) -> Resu
 }
 
 /// The names of what is assigned, and the byte behind it.
-fn target(list: &mut Vec<usize>, at: usize, target: &Target) -> Result<usize, AllocError>
+fn target(list: &mut Vec<usize>, at: usize, target: &Target) -> Result<usize, NoMemory>
     requires { at + length (place_text (place_of target.now)) < 2 ^ 64 }
     ensures places { OnOk result (list.new.items ≡ list.old.items ++ place_places at (place_of target.now)) }
     ensures behind { IfOk result (λ n. n ≡ at + length (place_text (place_of target.now))) }
@@ -141,7 +141,7 @@ fn target(list: &mut Vec<usize>, at: usize, target: &Target) -> Result<usize, Al
     }
 }
 
-fn ask(list: &mut Vec<usize>, at: usize, ask: &Ask) -> Result<(), AllocError>
+fn ask(list: &mut Vec<usize>, at: usize, ask: &Ask) -> Result<(), NoMemory>
     requires { at + length (asked_text (asked_of ask.now)) < 2 ^ 64 }
     ensures { OnOk result (list.new.items ≡ list.old.items ++ asked_places at (asked_of ask.now)) }
 {
@@ -153,7 +153,7 @@ fn ask(list: &mut Vec<usize>, at: usize, ask: &Ask) -> Result<(), AllocError>
     }
 }
 
-fn tell(list: &mut Vec<usize>, at: usize, tell: &Tell) -> Result<(), AllocError>
+fn tell(list: &mut Vec<usize>, at: usize, tell: &Tell) -> Result<(), NoMemory>
     requires { at + length (told_text (told_of tell.now)) < 2 ^ 64 }
     ensures { OnOk result (list.new.items ≡ list.old.items ++ told_places at (told_of tell.now)) }
 {
@@ -169,7 +169,7 @@ fn tell(list: &mut Vec<usize>, at: usize, tell: &Tell) -> Result<(), AllocError>
     }
 }
 
-fn turn(list: &mut Vec<usize>, at: usize, counter: Name, bound: Bound) -> Result<(), AllocError>
+fn turn(list: &mut Vec<usize>, at: usize, counter: Name, bound: Bound) -> Result<(), NoMemory>
     requires { bound_place at (name_text counter) < 2 ^ 64 }
     ensures { OnOk result (list.new.items ≡ list.old.items ++ (at ∷ bound_places (bound_place at (name_text counter)) bound)) }
 {
@@ -187,7 +187,7 @@ fn turn(list: &mut Vec<usize>, at: usize, counter: Name, bound: Bound) -> Result
 }
 
 /// The names of a line, which begins at this byte behind its blanks.
-fn item(list: &mut Vec<usize>, at: usize, item: &Item) -> Result<(), AllocError>
+fn item(list: &mut Vec<usize>, at: usize, item: &Item) -> Result<(), NoMemory>
     requires { at + length (line_text (line_of item.now)) < 2 ^ 64 }
     ensures { OnOk result (list.new.items ≡ list.old.items ++ line_places at (line_of item.now)) }
 {
@@ -217,7 +217,7 @@ fn item(list: &mut Vec<usize>, at: usize, item: &Item) -> Result<(), AllocError>
 }
 
 /// The names of a line that begins at this byte.
-pub fn row(list: &mut Vec<usize>, at: usize, row: &Indented) -> Result<(), AllocError>
+pub fn row(list: &mut Vec<usize>, at: usize, row: &Indented) -> Result<(), NoMemory>
     requires { at + length (row_bytes (indented_of row.now)) < 2 ^ 64 }
     ensures { OnOk result (list.new.items ≡ list.old.items ++ row_places at (indented_of row.now)) }
 {

@@ -1,5 +1,6 @@
 use crate::{ParseStop, parse};
-use std::alloc::{AllocError, Global};
+use sci_base::NoMemory;
+use std::alloc::Global;
 use std::process::Abort;
 use std::test::Fail;
 
@@ -37,14 +38,14 @@ fn blamed(rt: &impl Abort, alloc: Global, text: &[u8], byte: usize) {
 }
 
 /// The header, and lines behind it.
-fn behind_header(alloc: Global, lines: &str) -> Result<String, AllocError> {
+fn behind_header(alloc: Global, lines: &str) -> Result<String, NoMemory> {
     let mut text = String::from_str(alloc, HEADER)?;
     text.push_str(lines)?;
     Ok(text)
 }
 
 /// A variable that is set to 0 behind so many negations.
-fn negations(alloc: Global, count: u32) -> Result<String, AllocError> {
+fn negations(alloc: Global, count: u32) -> Result<String, NoMemory> {
     let mut text = behind_header(alloc, "static int64_t v1;\nvoid sci_main(void) {\n  v1 = ")?;
     for _ in 0..count {
         text.push_str("(-")?;
@@ -58,7 +59,7 @@ fn negations(alloc: Global, count: u32) -> Result<String, AllocError> {
 }
 
 /// Sixteen Ifs, each in the one before, of which the innermost has a second list.
-fn sixteen_ifs(alloc: Global) -> Result<String, AllocError> {
+fn sixteen_ifs(alloc: Global) -> Result<String, NoMemory> {
     let mut text = behind_header(alloc, "void sci_main(void) {\n")?;
     let mut blanks = String::new(alloc);
     for _ in 0..16 {

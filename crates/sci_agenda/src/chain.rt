@@ -7,7 +7,7 @@ ghost use Rattle.sci_agenda.specs.Chained.{first_later, date_at};
 use crate::agenda::Agenda;
 use sci_base::NoMemory;
 use sci_links::Links;
-use std::alloc::{AllocError, Global};
+use std::alloc::Global;
 use std::marker::Model;
 
 /// An agenda of one chain, in the order of firing. `put` walks it.
@@ -57,7 +57,7 @@ pub(crate) fn zeros(alloc: Global, count: u32) -> Result<Vec<u64>, NoMemory>
     }
 }
 
-fn made_zeros(alloc: Global, count: u32) -> Result<Vec<u64>, AllocError>
+fn made_zeros(alloc: Global, count: u32) -> Result<Vec<u64>, NoMemory>
     ensures { IfOk result (λ v. length v.items ≡ count) }
 {
     let mut dates = Vec::with_capacity(alloc, count as usize)?;

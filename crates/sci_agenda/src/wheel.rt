@@ -193,16 +193,29 @@ fn turn(links: &mut Links, dates: &[u64], now: u64, date: u64)
 }
 
 impl Agenda for WheelAgenda {
+    ghost use Rattle.std.specs.Prelude.{◌≡◌, true, IfSome};
+    ghost use Rattle.sci_links.specs.Table.{counted};
+    ghost use Rattle.sci_agenda.specs.Firing.{MayPut, IsPort, first, is_pending, after_put, after_take, after_remove};
+
     ghost meaning = { λ a. a.meaning };
 
-    fn put(&mut self, date: u64, source: u32) {
+    fn put(&mut self, date: u64, source: u32)
+        requires { MayPut self.old.meaning date source }
+        ensures put { self.new.meaning ≡ after_put self.old.meaning date source }
+        ensures counted { self.new.puts ≡ counted self.old.puts }
+    {
         let node = source - 1;
         self.dates[node as usize] = date;
         self.links.push_back(place(self.now, date), node);
         self.puts = self.puts.saturating_add(1);
     }
 
-    fn take(&mut self) -> Option<(u64, u32)> {
+    fn take(&mut self) -> Option<(u64, u32)>
+        ensures taken { result ≡ first self.old.meaning.events }
+        ensures left { self.new.meaning ≡ after_take self.old.meaning }
+        ensures port { IfSome result (λ e. IsPort self.old.meaning e.1) }
+        ensures counted { self.new.puts ≡ self.old.puts }
+    {
         let node = least(&self.links, &self.dates, self.now)?;
         let date = self.dates[node as usize];
         turn(&mut self.links, &self.dates, self.now, date);
@@ -220,7 +233,11 @@ impl Agenda for WheelAgenda {
         !self.links.is_free(source - 1)
     }
 
-    fn remove(&mut self, source: u32) {
+    fn remove(&mut self, source: u32)
+        requires { is_pending source self.old.meaning.events ≡ true }
+        ensures removed { self.new.meaning ≡ after_remove self.old.meaning source }
+        ensures counted { self.new.puts ≡ self.old.puts }
+    {
         self.links.remove(source - 1);
     }
 }

@@ -1,5 +1,5 @@
 -- What a bank means: the instances of one kind, each with its spec and its state, and the calls of `out`.
-use Rattle.std.specs.Prelude.{◌≡◌, ℕ, ◌+◌, ◌<◌, ◌≤◌, min, true, false, List, ℤ, length, slice_index_or, slice_set, [], ◌∷◌, ◌++◌}
+use Rattle.std.specs.Prelude.{◌≡◌, ℕ, ◌+◌, ◌<◌, ◌≤◌, min, true, List, ℤ, length, slice_index_or, slice_set, [], ◌∷◌, ◌++◌}
 use Rattle.sci_base.specs.declared.Ty.{Ty}
 use Rattle.sci_base.specs.Fit.{InRange}
 use Rattle.sci_base.specs.Lists.{at}
@@ -17,7 +17,7 @@ use Rattle.sci_bank.specs.declared.Fate.TheVariants.{Done, Overflow, Zero}
 
 -- a row that nobody added
 abbrev pub no_spec : Spec
-no_spec = record { kind = Const; params = []; state = []; firing = []; ins = []; outs = []; evtin = 0; evtout = 0; feed = false }
+no_spec = record { kind = Const; params = []; state = []; firing = []; ins = []; outs = []; evtin = 0; evtout = 0; feed = [] }
 
 abbrev pub no_row : Row
 no_row = record { spec = no_spec; state = [] }

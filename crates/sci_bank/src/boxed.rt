@@ -1,7 +1,7 @@
 // A box of a bank is a bank.
 use crate::{Bank, Fate};
+use sci_base::NoMemory;
 use sci_kinds::{Kind, Spec};
-use std::alloc::AllocError;
 
 impl Bank for Box<dyn Bank> {
     ghost meaning = { λ b. (Bank-box b).meaning b.value };
@@ -18,7 +18,7 @@ impl Bank for Box<dyn Bank> {
         (**self).reset()
     }
 
-    fn add(&mut self, spec: &Spec) -> Result<usize, AllocError> {
+    fn add(&mut self, spec: &Spec) -> Result<usize, NoMemory> {
         (**self).add(spec)
     }
 

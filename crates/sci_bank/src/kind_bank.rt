@@ -8,9 +8,9 @@ ghost use Rattle.sci_bank.specs.Bank.{Meaning, IsOfKind, Tells, Held, row_in, ro
 use crate::rows::Row;
 use crate::rule::Rule;
 use crate::{Bank, Fate};
-use sci_base::Ints;
+use sci_base::{Ints, NoMemory};
 use sci_kinds::{Cell, Kind, Spec};
-use std::alloc::{AllocError, Global};
+use std::alloc::Global;
 use std::marker::Model;
 
 /// The blocks of the kind whose functions are `R`.
@@ -112,7 +112,7 @@ impl<R: Rule> Bank for KindBank<R> {
         self.outs = 0;
     }
 
-    fn add(&mut self, spec: &Spec) -> Result<usize, AllocError> {
+    fn add(&mut self, spec: &Spec) -> Result<usize, NoMemory> {
         let slot = self.rows.len();
         let copy = spec.copy(self.alloc)?;
         let state = Ints::spread(self.alloc, &spec.state, spec.state_len())?;

@@ -10,8 +10,8 @@ ghost use Rattle.sci_kinds.specs.Asks.{entering};
 ghost use Rattle.sci_kinds.specs.Table.{branch, delay, out, state_len};
 ghost use Rattle.sci_bank.specs.Bank.{Meaning, IsCall, Tells, row_at, spec_at, after_reset, after_add, after_out, after_update};
 
+use sci_base::NoMemory;
 use sci_kinds::{Kind, Spec};
-use std::alloc::AllocError;
 
 mod boxed;
 pub mod calls;
@@ -51,7 +51,7 @@ pub trait Bank: Drop {
         ensures { meaning self.new ≡ after_reset (meaning self.old) };
 
     /// Adds an instance in its first state. The answer is its slot, counted from 0.
-    fn add(&mut self, spec: &Spec) -> Result<usize, AllocError>
+    fn add(&mut self, spec: &Spec) -> Result<usize, NoMemory>
         requires is_typed { typed spec.now ≡ true }
         requires of_kind { spec.now.kind ≡ (meaning self.old).kind }
         ensures added { IfOk result (λ slot. (slot ≡ length (meaning self.old).rows) × (meaning self.new ≡ after_add (meaning self.old) spec.now)) }

@@ -10,8 +10,9 @@ ghost use Rattle.sci_bank.specs.Bank.{Meaning, IsCall, Tells, row_at, spec_at, a
 ghost use Rattle.sci_bank.specs.Library.{built, place_of, bank_of, with_bank, Holds, AreInOrder, IsFull, next_of, total_outs};
 
 use crate::{Bank, Fate};
+use sci_base::NoMemory;
 use sci_kinds::{Kind, Spec};
-use std::alloc::{AllocError, Global};
+use std::alloc::Global;
 
 /// The banks, in the order of the kinds' numbers. Until all kinds are built, only the banks of kinds 1 to 13 come in.
 #[derive(Drop)]
@@ -86,7 +87,7 @@ impl Library {
     }
 
     /// Adds an instance of a kind in its first state. The answer is its slot.
-    pub fn add(&mut self, kind: Kind, spec: &Spec) -> Result<usize, AllocError>
+    pub fn add(&mut self, kind: Kind, spec: &Spec) -> Result<usize, NoMemory>
         requires known { Holds (map (λ b. (⟦<dyn Bank as Bank>⟧ b.vtable).meaning b.value) self.old.banks.items) kind }
         requires is_typed { typed spec.now ≡ true }
         requires of_kind { spec.now.kind ≡ (bank_of (map (λ b. (⟦<dyn Bank as Bank>⟧ b.vtable).meaning b.value) self.old.banks.items) kind).kind }

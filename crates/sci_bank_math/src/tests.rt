@@ -2,9 +2,9 @@
 use crate::{DeadBand, Demux, Extractor, GainBlk, Mux, Product, Summation};
 use sci_bank::calls::{enters, fills, masks};
 use sci_bank::{Bank, Fate};
-use sci_base::Ints;
+use sci_base::{Ints, NoMemory};
 use sci_kinds::{Kind, Port, Ports, Spec};
-use std::alloc::{AllocError, Global};
+use std::alloc::Global;
 use std::process::Abort;
 use std::test::Fail;
 
@@ -14,7 +14,7 @@ pub(crate) fn evaluate<B: Bank>(
     spec: &Spec,
     ins: &[i64],
     outs: &mut [i64],
-) -> Result<Option<Fate>, AllocError> {
+) -> Result<Option<Fate>, NoMemory> {
     if !spec.is_typed() {
         return Ok(None);
     }
@@ -34,7 +34,7 @@ pub(crate) fn evaluate<B: Bank>(
     Ok(Some(bank.out(slot, 0, ins, outs)))
 }
 
-fn ports(alloc: Global, n: usize, rows: i64, ty: i64) -> Result<Ports, AllocError> {
+fn ports(alloc: Global, n: usize, rows: i64, ty: i64) -> Result<Ports, NoMemory> {
     let mut items = Vec::new(alloc);
     for _ in 0..n {
         items.push(Port { rows, cols: 1, ty })?;
@@ -48,7 +48,7 @@ fn spec(
     params: &[i64],
     ins: Ports,
     outs: Ports,
-) -> Result<Spec, AllocError> {
+) -> Result<Spec, NoMemory> {
     Ok(Spec {
         kind,
         params: Ints::of(params.to_vec(alloc)?),
@@ -71,7 +71,7 @@ pub(crate) fn corner<B: Bank>(
     params: &[i64],
     ins: &[i64],
     want: Result<i64, Fate>,
-) -> Result<(), AllocError> {
+) -> Result<(), NoMemory> {
     let inputs = ports(alloc, ins.len(), 1, ty)?;
     let s = spec(alloc, bank.kind(), params, inputs, ports(alloc, 1, 1, ty)?)?;
     let mut outs = [0; 1];

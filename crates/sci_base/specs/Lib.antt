@@ -4,3 +4,4 @@ pub mod Lists
 pub mod Rules
 pub mod Plain
 pub mod Outcome
+pub mod Stops

@@ -1,8 +1,11 @@
 -- The plain forms of the shared types: numbers, variants and fields as they are, each `Vec`, `SmallVec` and `String` as its list, and no allocator.
-use Rattle.std.specs.Prelude.{ℕ, ℤ, List, [], Bool, Option}
+use Rattle.std.specs.Prelude.{ℕ, ℤ, List, [], Bool, Option, Some, None}
 use Rattle.sci_base.specs.declared.refusal.Rule.{Rule}
 use Rattle.sci_base.specs.declared.refusal.Refusal.{Refusal}
 use Rattle.sci_base.specs.declared.block.BlockFields.{BlockFields}
+use Rattle.sci_base.specs.declared.block.Dep.{Dep}
+use Rattle.sci_base.specs.declared.block.Part.{Part}
+use Rattle.sci_base.specs.declared.block.Part.TheVariants.{All, Each}
 
 -- a broken rule, with its place and detail
 pub record Violation : Type 0 where
@@ -17,6 +20,27 @@ violation_of r = record { rule = r.rule; place = r.place.path.items; detail = r.
 abbrev pub of_the_whole : Rule → Violation
 of_the_whole rule = record { rule = rule; place = []; detail = [] }
 
+-- which regular inputs have direct feedthrough
+pub data Feedthrough : Type 0 where
+  all_inputs : Bool → Feedthrough
+  each_input : List Bool → Feedthrough
+
+-- what `dep_ut` says
+pub record Dependence : Type 0 where
+  pub part : Feedthrough
+  pub always : Bool
+
+abbrev pub feedthrough_of : Part → Feedthrough
+feedthrough_of (All b) = all_inputs b
+feedthrough_of (Each bs) = each_input bs.items
+
+abbrev pub dependence_of : Dep → Dependence
+dependence_of d = record { part = feedthrough_of d.part; always = d.always }
+
+abbrev pub dep_of : Option Dep → Option Dependence
+dep_of None = None
+dep_of (Some d) = Some (dependence_of d)
+
 -- what a block's model says
 pub record Fields : Type 0 where
   pub ins : List ℤ
@@ -30,7 +54,7 @@ pub record Fields : Type 0 where
   pub dstate : List ℤ
   pub ipar : List ℤ
   pub firing : List ℤ
-  pub dep : Option (Bool × Bool)
+  pub dep : Option Dependence
 
 abbrev pub fields_of : BlockFields → Fields
 fields_of f = record {
@@ -45,5 +69,5 @@ fields_of f = record {
   dstate = f.dstate.items;
   ipar = f.ipar.items;
   firing = f.firing.items;
-  dep = f.dep;
+  dep = dep_of f.dep;
 }

@@ -1,7 +1,7 @@
 -- The numbers and names of the rules.
 use Rattle.std.specs.Prelude.{ℕ, List, codes}
 use Rattle.sci_base.specs.declared.refusal.Rule.{Rule}
-use Rattle.sci_base.specs.declared.refusal.Rule.TheVariants.{NotJson, MissingField, WrongField, TooDeep, TooManyBlocks, TooManyLinks, UnknownBlock, BadParameter, PortShape, NotInteger, AlwaysActive, LinkEnd, InputTwice, SuperPorts, NoSource, ColumnTwice, TypeConflict, SizeConflict, TypeOpen, SizeOpen, TypeNotHere, ShapeRule, SignalTooLarge, AlgebraicLoop, ScheduleTooLong, NotC, InputShape, InputRange, FileTooLong, Unbuilt}
+use Rattle.sci_base.specs.declared.refusal.Rule.TheVariants.{NotJson, MissingField, WrongField, TooDeep, TooManyBlocks, TooManyLinks, UnknownBlock, BadParameter, PortShape, NotInteger, AlwaysActive, LinkEnd, InputTwice, SuperPorts, NoSource, ColumnTwice, TypeConflict, SizeConflict, TypeOpen, SizeOpen, TypeNotHere, ShapeRule, SignalTooLarge, AlgebraicLoop, ScheduleTooLong, NotC, InputShape, InputRange, FileTooLong, Unbuilt, TagShape, TagTwice, TagMissing, TooManyTags, RunEnded, NotSave, NotVcd}
 
 abbrev pub number_of : Rule → ℕ
 number_of NotJson = 1
@@ -34,6 +34,13 @@ number_of InputShape = 27
 number_of InputRange = 28
 number_of FileTooLong = 29
 number_of Unbuilt = 30
+number_of TagShape = 31
+number_of TagTwice = 32
+number_of TagMissing = 33
+number_of TooManyTags = 34
+number_of RunEnded = 35
+number_of NotSave = 36
+number_of NotVcd = 37
 
 abbrev pub name_of : Rule → List ℕ
 name_of NotJson = codes "NotJson"
@@ -66,3 +73,10 @@ name_of InputShape = codes "InputShape"
 name_of InputRange = codes "InputRange"
 name_of FileTooLong = codes "FileTooLong"
 name_of Unbuilt = codes "Unbuilt"
+name_of TagShape = codes "TagShape"
+name_of TagTwice = codes "TagTwice"
+name_of TagMissing = codes "TagMissing"
+name_of TooManyTags = codes "TooManyTags"
+name_of RunEnded = codes "RunEnded"
+name_of NotSave = codes "NotSave"
+name_of NotVcd = codes "NotVcd"

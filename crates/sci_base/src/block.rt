@@ -25,6 +25,24 @@ pub struct BlockFields {
     pub ipar: Vec<i64>,
     /// The initial delays of the activation outputs, in ticks.
     pub firing: Vec<i64>,
-    /// Whether the block has direct feedthrough, and whether it is always active.
-    pub dep: Option<(bool, bool)>,
+    /// What `dep_ut` says; absent, the kind's own direct feedthrough holds.
+    pub dep: Option<Dep>,
+}
+
+/// What `dep_ut` says of a block.
+#[derive(Drop)]
+pub struct Dep {
+    /// Which regular inputs have direct feedthrough.
+    pub part: Part,
+    /// Whether the block is always active.
+    pub always: bool,
+}
+
+/// Which regular inputs have direct feedthrough.
+#[derive(Drop)]
+pub enum Part {
+    /// All of them, or none but those of the kind.
+    All(bool),
+    /// Each as its truth says, in order.
+    Each(Vec<bool>),
 }

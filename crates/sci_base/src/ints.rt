@@ -2,7 +2,8 @@
 ghost use Rattle.std.specs.Prelude.{◌≡◌, ◌+◌, ◌^◌, ℤ, pos, List, ◌++◌, ◌∷◌, [], length, ◌<◌, slice_index_or, slice_set, IfOk, OnOk, OnErr, ◌≢◌};
 ghost use Rattle.sci_base.specs.Lists.{at, listed, spread};
 
-use std::alloc::{AllocError, Global};
+use crate::NoMemory;
+use std::alloc::Global;
 use std::marker::Model;
 
 #[derive(Drop)]
@@ -69,7 +70,7 @@ impl Ints {
         self.items.as_slice()
     }
 
-    pub fn push(&mut self, v: i64) -> Result<(), AllocError>
+    pub fn push(&mut self, v: i64) -> Result<(), NoMemory>
         ensures added { OnOk result (self.new ≡ self.old ++ v ∷ []) }
         ensures kept { OnErr result (self.new ≡ self.old) }
     {
@@ -77,7 +78,7 @@ impl Ints {
         Ok(())
     }
 
-    pub fn copy(&self, alloc: Global) -> Result<Ints, AllocError>
+    pub fn copy(&self, alloc: Global) -> Result<Ints, NoMemory>
         ensures { IfOk result (λ r. r ≡ self.now) }
     {
         Ok(Ints {
@@ -86,7 +87,7 @@ impl Ints {
     }
 
     /// `n` numbers: those of `vs`, or its one number for all.
-    pub fn spread(alloc: Global, vs: &Ints, n: usize) -> Result<Ints, AllocError>
+    pub fn spread(alloc: Global, vs: &Ints, n: usize) -> Result<Ints, NoMemory>
         requires { length vs.now ≢ 1 → length vs.now ≡ n }
         ensures { IfOk result (λ r. r ≡ listed (spread vs.now) n) }
     {

@@ -8,15 +8,20 @@ ghost use Rattle.sci_base.specs.Fit.{fit, in_range, low, high, width, span, ty_o
 pub mod bits;
 mod block;
 mod ints;
+pub mod limits;
 mod observation;
 mod refusal;
+mod stop;
 #[cfg(test)]
 mod tests;
+mod truths;
 
-pub use block::BlockFields;
+pub use block::{BlockFields, Dep, Part};
 pub use ints::Ints;
 pub use observation::{EndWord, Obs, StopWord};
-pub use refusal::{NoMemory, Place, Refusal, Rule};
+pub use refusal::{Place, Refusal, Rule};
+pub use stop::{NoMemory, Stop};
+pub use truths::Truths;
 
 /// The integer types of signals.
 #[derive(Clone, Copy, Debug, Drop, PartialEq, Eq)]

@@ -1,12 +1,9 @@
-// The rules that a diagram, an input file or a C text can break, and refusals by them.
-ghost use Rattle.std.specs.Prelude.{◌≡◌};
+// The rules that a file can break, and refusals by them.
+ghost use Rattle.std.specs.Prelude.{◌≡◌, IfOk};
 
+use crate::NoMemory;
 use smallvec::SmallVec;
 use std::alloc::Global;
-
-/// There was no memory.
-#[derive(Clone, Copy, Debug, PartialEq, Eq)]
-pub struct NoMemory;
 
 /// A rule, by the number and the name that a refusal prints.
 #[derive(Clone, Copy, Debug, Drop, PartialEq, Eq)]
@@ -71,12 +68,26 @@ pub enum Rule {
     FileTooLong,
     /// A form that this version doesn't build yet.
     Unbuilt,
+    /// A tag object's count of ports, its tag or its scope breaks its form.
+    TagShape,
+    /// An earlier object gives the same tag in the same scope.
+    TagTwice,
+    /// No object gives the tag that is taken.
+    TagMissing,
+    /// More than 1,024 tag objects over all levels.
+    TooManyTags,
+    /// The run has no reaction after the one whose state is asked for.
+    RunEnded,
+    /// The bytes are no saved state of a run of this diagram.
+    NotSave,
+    /// The bytes are no value change dump.
+    NotVcd,
 }
 
 impl Rule {
     ghost use Rattle.sci_base.specs.Rules.{number_of, name_of};
 
-    /// From 1 to 30.
+    /// From 1 to 37.
     pub fn number(self) -> u8
         ensures { result ≡ number_of self }
     {
@@ -111,6 +122,13 @@ impl Rule {
             Rule::InputRange => 28,
             Rule::FileTooLong => 29,
             Rule::Unbuilt => 30,
+            Rule::TagShape => 31,
+            Rule::TagTwice => 32,
+            Rule::TagMissing => 33,
+            Rule::TooManyTags => 34,
+            Rule::RunEnded => 35,
+            Rule::NotSave => 36,
+            Rule::NotVcd => 37,
         }
     }
 
@@ -149,6 +167,13 @@ impl Rule {
             Rule::InputRange => "InputRange",
             Rule::FileTooLong => "FileTooLong",
             Rule::Unbuilt => "Unbuilt",
+            Rule::TagShape => "TagShape",
+            Rule::TagTwice => "TagTwice",
+            Rule::TagMissing => "TagMissing",
+            Rule::TooManyTags => "TooManyTags",
+            Rule::RunEnded => "RunEnded",
+            Rule::NotSave => "NotSave",
+            Rule::NotVcd => "NotVcd",
         }
     }
 }
@@ -168,8 +193,36 @@ pub struct Refusal {
     pub detail: Vec<i64>,
 }
 
+impl Place {
+    /// The place whose positions these are.
+    pub fn of(alloc: Global, path: &[u32]) -> Result<Place, NoMemory>
+        ensures { IfOk result (λ p. p.path.items ≡ path.now) }
+    {
+        Ok(Place {
+            path: SmallVec::from_slice(alloc, path)?,
+        })
+    }
+
+    pub fn copy(&self, alloc: Global) -> Result<Place, NoMemory>
+        ensures { IfOk result (λ p. p.path.items ≡ self.now.path.items) }
+    {
+        Place::of(alloc, self.path.as_slice())
+    }
+}
+
 impl Refusal {
     ghost use Rattle.sci_base.specs.Plain.{violation_of, of_the_whole};
+
+    /// The refusal by a rule at a place, with these numbers.
+    pub fn of(alloc: Global, rule: Rule, place: &[u32], detail: &[i64]) -> Result<Refusal, NoMemory>
+        ensures { IfOk result (λ r. violation_of r ≡ record { rule = rule; place = place.now; detail = detail.now }) }
+    {
+        Ok(Refusal {
+            rule,
+            place: Place::of(alloc, place)?,
+            detail: detail.to_vec(alloc)?,
+        })
+    }
 
     /// A refusal of the whole file, with no detail. It takes no memory.
     pub fn of_the_whole(alloc: Global, rule: Rule) -> Refusal

@@ -3,15 +3,17 @@ use Rattle.std.proofs.Common.{◌≡◌, ℕ, zero, suc, ℤ, pos, List, length,
 use Rattle.std.specs.Prelude.{nat_eq, is_none}
 use Rattle.std.proofs.lemmas.List.{length-append}
 use Rattle.sci_base.specs.Lists.{at}
-use Rattle.sci_base.specs.Plain.{Fields}
+use Rattle.sci_base.specs.Plain.{Fields, Feedthrough, all_inputs, each_input, Dependence}
 use Rattle.sci_forms.specs.declared.Kind.{Kind}
 use Rattle.sci_forms.specs.declared.broken.Broken.{Broken}
 use Rattle.sci_forms.specs.declared.ports.Port.{Port}
 use Rattle.sci_forms.specs.declared.spec.Spec.{Spec}
-use Rattle.sci_forms.specs.Forms.{or_else, first_not, given, all_to, within, counts_of, feeds, has_delay, has_state, params_len_ok, param_ok, state_len_ok, state_ok, firing_ok}
+use Rattle.sci_forms.specs.Forms.{or_else, first_not, given, all_to, within, counts_of, fed, unfed, has_delay, has_state, params_len_ok, param_ok, state_len_ok, state_ok, firing_ok}
 use Rattle.sci_forms.specs.Names.{by_name}
-use Rattle.sci_check.specs.Check.{counts_broken, lengths_broken, forms_broken, types_broken, active_broken, values_broken, params_broken, state_broken, events_broken, broken, feed_ok, feed_of, date_ok, firing_len_ok, cols_ok, types_len_ok, bad_value, declared_ports, kept, spec_of, judged, checked_kind}
-use Rattle.sci_forms.specs.Typed.{formed_of}
+use Rattle.sci_check.specs.Check.{counts_broken, lengths_broken, forms_broken, types_broken, active_broken, values_broken, params_broken, state_broken, events_broken, broken, feed_by, feed_of, part_broken, feed_broken, bad, bad_truth, date_ok, firing_len_ok, cols_ok, types_len_ok, bad_value, declared_ports, kept, spec_of, judged, checked_kind}
+use Rattle.sci_forms.specs.Typed.{feed_ok, formed_of}
+use Rattle.sci_forms.proofs.Feeds.{length_repeated, length_own, own_fed, all_fed, none_fed}
+use Rattle.std.proofs.lemmas.Bool.Decides.{nat_tests}
 use Rattle.sci_check.specs.Laws.{CheckedLaw}
 
 both : (a b : Bool) → a ≡ true → b ≡ true → (a && b) ≡ true
@@ -46,14 +48,23 @@ kept_dates : (b : Bool) (xs : List ℤ) → (not b || nat_eq (length xs) 1) ≡ 
 kept_dates true xs h k = both _ _ h k
 kept_dates false xs h k = refl
 
-fed : (a b : Bool) → (not a || b) ≡ true → (b || not a) ≡ true
-fed true true h = refl
-fed true false h = cc
-fed false true h = refl
-fed false false h = refl
+same_len : (a b : ℕ) → a ≡ b → nat_eq a b ≡ true
+same_len a b h = grind (arith, nat_tests)
+
+-- what is declared of the feedthrough and breaks no rule has a truth for each input, true where the kind has feedthrough
+part_fed : (c : Kind) (p : Feedthrough) (n : ℕ) → part_broken c p n ≡ None → feed_ok c (feed_by p n) n ≡ true
+part_fed c (all_inputs true) n h = both _ _ (same_len _ n (length_repeated true n)) (all_fed c n)
+part_fed c (all_inputs false) n h = both _ _ (same_len _ n (length_repeated false n)) (none_fed c n (none_given (first_not (unfed c) n) (λ k. bad (pos 4) 1 (pos 0)) h))
+part_fed c (each_input ts) n h =
+    let l = step (nat_eq (length ts) n) (bad (pos 4) 0 (pos (length ts))) (given (first_not (fed c ts) n) bad_truth) h in
+    both _ _ l.0 (none_given (first_not (fed c ts) n) bad_truth l.1)
+
+declared_fed : (c : Kind) (d : Option Dependence) (n : ℕ) → feed_broken c d n ≡ None → feed_ok c (feed_of c d n) n ≡ true
+declared_fed c None n h = both _ _ (same_len _ n (length_own c n)) (own_fed c n)
+declared_fed c (Some d) n h = part_fed c d.part n h
 
 formed : (c : Kind) (f : Fields) (ins outs : List Port) → length ins ≡ length f.ins → length outs ≡ length f.outs → broken c f ≡ None
-    → formed_of c (record { kind = c; params = f.ipar; state = kept (has_state c) f.dstate; firing = kept (has_delay c) f.firing; ins = ins; outs = outs; evtin = f.evtin; evtout = f.evtout; feed = feed_of c f.dep }) ≡ true
+    → formed_of c (record { kind = c; params = f.ipar; state = kept (has_state c) f.dstate; firing = kept (has_delay c) f.firing; ins = ins; outs = outs; evtin = f.evtin; evtout = f.evtout; feed = feed_of c f.dep (length f.ins) }) ≡ true
 formed c f ins outs p q h =
     let b1 = none_both (forms_broken c f) (or_else (types_broken f) (or_else (active_broken f) (values_broken c f))) h in
     let b2 = none_both (types_broken f) (or_else (active_broken f) (values_broken c f)) b1.1 in
@@ -75,12 +86,11 @@ formed c f ins outs p q h =
     let s1 = step (state_len_ok c (length f.dstate)) _ _ b5.0 in
     let s2 = none_given (first_not (state_ok c f.ipar f.dstate) (length f.dstate)) (bad_value (pos 2) f.dstate) s1.1 in
     let e1 = step (date_ok c f.firing) _ _ b5.1 in
-    let e2 = step (feed_ok c f.dep) _ _ e1.1 in
     rw (p, q)
     (both _ _ (both _ _ (both _ _ (both _ _ (both _ _ (both _ _
     (both _ _ (both _ _ (both _ _ c1.0 c2.0) c3.0) c4.0)
     p1.0) p2) (kept_len (has_state c) c f.dstate s1.0)) (kept_all (has_state c) c f.ipar f.dstate s2))
-    (kept_dates (has_delay c) f.firing l9.0 e1.0)) (fed (feeds c) (feed_of c f.dep) e2.0))
+    (kept_dates (has_delay c) f.firing l9.0 e1.0)) (declared_fed c f.dep (length f.ins) e1.1))
 
 judged_formed : (place : List ℕ) (c : Kind) (f : Fields) (o : Option Broken) → broken c f ≡ o → (s : Spec) → judged place c f o ≡ Ok s → formed_of s.kind s ≡ true
 judged_formed place c f (Some b) e s h = cc

@@ -1,15 +1,15 @@
 -- What is tested of a block's fields, in order, and the spec that they give.
 use Rattle.std.specs.Prelude.{ℕ, zero, suc, ◌+◌, ℤ, pos, List, [], ◌∷◌, ◌++◌, length, Bool, false, ◌||◌, not, nat_eq, int_lt, if◌then◌else◌, Option, Some, None, Result, Ok, Err}
 use Rattle.sci_base.specs.declared.refusal.Rule.TheVariants.{UnknownBlock, BadParameter, PortShape, NotInteger, AlwaysActive}
-use Rattle.sci_base.specs.Lists.{at}
-use Rattle.sci_base.specs.Plain.{Violation, Fields}
+use Rattle.sci_base.specs.Lists.{at, repeated}
+use Rattle.sci_base.specs.Plain.{Violation, Fields, Feedthrough, all_inputs, each_input, Dependence}
 use Rattle.sci_forms.specs.declared.Kind.{Kind}
 use Rattle.sci_forms.specs.declared.broken.Broken.{Broken}
-use Rattle.sci_forms.specs.declared.broken.Detail.{Detail}
 use Rattle.sci_forms.specs.declared.broken.Detail.TheVariants.{Empty, Pair, Triple}
 use Rattle.sci_forms.specs.declared.ports.Port.{Port}
 use Rattle.sci_forms.specs.declared.spec.Spec.{Spec}
-use Rattle.sci_forms.specs.Forms.{or_else, first_not, given, counts_of, feeds, has_delay, has_state, between, params_len_ok, param_ok, state_len_ok, state_ok, firing_ok, within}
+use Rattle.sci_forms.specs.Forms.{or_else, first_not, given, counts_of, own_feed, fed, unfed, has_delay, has_state, between, params_len_ok, param_ok, state_len_ok, state_ok, firing_ok, within}
+use Rattle.sci_forms.specs.Broken.{violation_at}
 use Rattle.sci_forms.specs.Names.{by_name}
 
 -- ---- counts and lengths
@@ -61,9 +61,9 @@ side_broken side ts n = given (first_not (integer_at ts) n) (not_integer side ts
 
 -- ---- activation and parameters
 
-abbrev pub always : Option (Bool × Bool) → Bool
+abbrev pub always : Option Dependence → Bool
 always None = false
-always (Some d) = d.1
+always (Some d) = d.always
 
 abbrev pub bad : ℤ → ℕ → ℤ → Broken
 bad field k v = record { rule = BadParameter; detail = Triple field (pos k) v }
@@ -81,13 +81,34 @@ state_broken c f =
     if not (state_len_ok c (length f.dstate)) then Some (bad (pos 2) 0 (pos (length f.dstate))) else
     given (first_not (state_ok c f.ipar f.dstate) (length f.dstate)) (bad_value (pos 2) f.dstate)
 
--- the feedthrough that is declared, or the kind's own
-abbrev pub feed_of : Kind → Option (Bool × Bool) → Bool
-feed_of c None = feeds c
-feed_of c (Some d) = d.0
+-- ---- feedthrough
 
-abbrev pub feed_ok : Kind → Option (Bool × Bool) → Bool
-feed_ok c d = not (feeds c) || feed_of c d
+-- of each of n inputs, as it is declared
+abbrev pub feed_by : Feedthrough → ℕ → List Bool
+feed_by (all_inputs b) n = repeated b n
+feed_by (each_input ts) n = ts
+
+-- as it is declared, or the kind's own
+abbrev pub feed_of : Kind → Option Dependence → ℕ → List Bool
+feed_of c None n = own_feed c n
+feed_of c (Some d) n = feed_by d.part n
+
+abbrev pub bad_truth : ℕ → Broken
+bad_truth k = bad (pos 4) (k + 1) (pos 0)
+
+-- a list has a truth for each of n inputs, which is true where the kind has feedthrough
+abbrev pub list_broken : Kind → List Bool → ℕ → Option Broken
+list_broken c ts n =
+    if not (nat_eq (length ts) n) then Some (bad (pos 4) 0 (pos (length ts))) else given (first_not (fed c ts) n) bad_truth
+
+-- false for all is for kinds that have no input with feedthrough
+abbrev pub part_broken : Kind → Feedthrough → ℕ → Option Broken
+part_broken c (all_inputs b) n = if b then None else given (first_not (unfed c) n) (λ k. bad (pos 4) 1 (pos 0))
+part_broken c (each_input ts) n = list_broken c ts n
+
+abbrev pub feed_broken : Kind → Option Dependence → ℕ → Option Broken
+feed_broken c None n = None
+feed_broken c (Some d) n = part_broken c d.part n
 
 abbrev pub date_ok : Kind → List ℤ → Bool
 date_ok c firing = not (has_delay c) || firing_ok (at firing 0)
@@ -95,7 +116,7 @@ date_ok c firing = not (has_delay c) || firing_ok (at firing 0)
 abbrev pub events_broken : Kind → Fields → Option Broken
 events_broken c f =
     if not (date_ok c f.firing) then Some (bad (pos 3) 1 (at f.firing 0)) else
-    if not (feed_ok c f.dep) then Some (bad (pos 4) 1 (pos 0)) else None
+    feed_broken c f.dep (length f.ins)
 
 -- ---- the whole check
 
@@ -113,14 +134,6 @@ active_broken f = if always f.dep then Some (record { rule = AlwaysActive; detai
 
 abbrev pub broken : Kind → Fields → Option Broken
 broken c f = or_else (forms_broken c f) (or_else (types_broken f) (or_else (active_broken f) (values_broken c f)))
-
-abbrev pub numbers : Detail → List ℤ
-numbers Empty = []
-numbers (Pair a b) = a ∷ b ∷ []
-numbers (Triple a b c) = a ∷ b ∷ c ∷ []
-
-abbrev pub violation_at : List ℕ → Broken → Violation
-violation_at place b = record { rule = b.rule; place = place; detail = numbers b.detail }
 
 -- port k of a side; one column where none are given
 abbrev pub columns_at : List ℤ → ℕ → ℤ
@@ -147,7 +160,7 @@ spec_of c f = record {
   outs = declared_ports f.outs f.out2 f.outtyp (length f.outs);
   evtin = f.evtin;
   evtout = f.evtout;
-  feed = feed_of c f.dep;
+  feed = feed_of c f.dep (length f.ins);
 }
 
 abbrev pub judged : List ℕ → Kind → Fields → Option Broken → Result Spec Violation

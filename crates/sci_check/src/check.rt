@@ -1,44 +1,19 @@
 // The check of one block's fields, and the spec that they give.
 ghost use Rattle.std.specs.Prelude.{◌≡◌, ◌<◌, ◌≤◌, ◌^◌, ◌+◌, IfSome, ◌∷◌, [], pos, length, ℕ, IfOk, IfErr, None, Some, Ok, Err, ◌≢◌, true};
-ghost use Rattle.sci_base.specs.Plain.{fields_of, violation_of};
+ghost use Rattle.sci_base.specs.Plain.{fields_of, feedthrough_of, dep_of};
 ghost use Rattle.sci_forms.specs.declared.Kind.TheVariants.{Logic as LogicKind, ModuloCount as CountKind};
-ghost use Rattle.sci_check.specs.declared.check.SpecStop.TheVariants.{Memory};
 ghost use Rattle.sci_forms.specs.Forms.{has_delay, has_state, first_not};
 ghost use Rattle.sci_forms.specs.Names.{by_name};
-ghost use Rattle.sci_check.specs.Stops.{IsViolation, Stops};
-ghost use Rattle.sci_check.specs.Check.{is_integer, integer_at, date_ok, shape, cols_ok, types_len_ok, firing_len_ok, counts_broken, lengths_broken, forms_broken, not_integer, side_broken, types_broken, bad, params_broken, state_broken, events_broken, feed_of, feed_ok, values_broken, active_broken, broken, violation_at, columns_at, declared_port, declared_ports, kept, spec_of, checked, checked_kind, judged, numbers};
+ghost use Rattle.sci_base.specs.Stops.{Stops};
+ghost use Rattle.sci_check.specs.Check.{is_integer, integer_at, date_ok, shape, cols_ok, types_len_ok, firing_len_ok, counts_broken, lengths_broken, forms_broken, not_integer, side_broken, types_broken, bad, params_broken, state_broken, events_broken, feed_by, feed_of, list_broken, part_broken, feed_broken, values_broken, active_broken, broken, columns_at, declared_port, declared_ports, kept, spec_of, checked, checked_kind, judged};
 
-use sci_base::{BlockFields, Ints, Place, Refusal, Rule};
-use sci_forms::values::{between, first_param, first_state, params_len_ok, state_len_ok, within};
-use sci_forms::{Broken, Detail, Kind, Port, Ports, Spec};
-use smallvec::SmallVec;
-use std::alloc::{AllocError, AllocFailed, Global};
-
-/// Why there is no spec.
-#[derive(Drop)]
-pub enum SpecStop {
-    /// The block breaks a rule: an unknown name (7), a parameter (8), a count or length of ports (9), a type that is no integer
-    /// type (10), always active (11).
-    Refused(Refusal),
-    /// There was no memory.
-    Memory,
-}
-
-impl From<AllocError> for SpecStop {
-    ghost from_gives = { λ _ e. e ≡ Memory };
-
-    fn from(_e: AllocError) -> SpecStop {
-        SpecStop::Memory
-    }
-}
-
-impl<T: Drop> From<AllocFailed<T>> for SpecStop {
-    ghost from_gives = { λ _ e. e ≡ Memory };
-
-    fn from(_e: AllocFailed<T>) -> SpecStop {
-        SpecStop::Memory
-    }
-}
+use sci_base::{BlockFields, Dep, Ints, NoMemory, Part, Place, Rule, Stop, Truths};
+use sci_forms::values::{
+    between, first_fed, first_param, first_state, first_unfed, own_feed, params_len_ok,
+    state_len_ok, within,
+};
+use sci_forms::{Broken, Detail, Kind, Port, Ports, Spec, first_failing};
+use std::alloc::Global;
 
 fn shape(code: i64, n: usize) -> Broken
     requires { n < 2 ^ 63 }
@@ -158,18 +133,12 @@ fn is_integer(v: i64) -> bool
 }
 
 /// The first of `n` types that is none of integers.
-#[tactic(auto, using(sci_forms::proofs::FirstNot::found, sci_forms::proofs::FirstNot::passed))]
 fn first_type(ts: &[i64], n: usize) -> Option<usize>
     requires { n ≤ length ts.now }
     ensures first { result ≡ first_not (integer_at ts.now) n }
     ensures within { IfSome result (λ k. k < n) }
 {
-    for k in 0..n {
-        if !is_integer(ts[k]) {
-            return Some(k);
-        }
-    }
-    None
+    first_failing(n, |k| is_integer(ts[k]))
 }
 
 /// The first date of an activation output.
@@ -208,19 +177,64 @@ fn state_broken(kind: Kind, f: &BlockFields) -> Option<Broken>
     }
 }
 
-fn feed_of(kind: Kind, dep: Option<(bool, bool)>) -> bool
-    ensures { result ≡ feed_of kind dep }
+/// A list of truths, one for each of `n` inputs.
+fn list_broken(kind: Kind, truths: &[bool], n: usize) -> Option<Broken>
+    requires { n < 2 ^ 63 }
+    ensures { result ≡ list_broken kind truths.now n }
 {
-    match dep {
-        None => kind.feeds(),
-        Some((feeds, _)) => feeds,
+    if truths.len() != n {
+        return Some(bad(4, 0, truths.len() as i64));
+    }
+    match first_unfed(kind, truths, n) {
+        None => None,
+        Some(k) => Some(bad(4, k + 1, 0)),
     }
 }
 
-fn feed_ok(kind: Kind, dep: Option<(bool, bool)>) -> bool
-    ensures { result ≡ feed_ok kind dep }
+/// What is declared of the feedthrough of `n` inputs.
+fn part_broken(kind: Kind, part: &Part, n: usize) -> Option<Broken>
+    requires { n < 2 ^ 63 }
+    ensures { result ≡ part_broken kind (feedthrough_of part.now) n }
 {
-    !kind.feeds() || feed_of(kind, dep)
+    match part {
+        Part::All(true) => None,
+        Part::All(false) => match first_fed(kind, n) {
+            None => None,
+            Some(_) => Some(bad(4, 1, 0)),
+        },
+        Part::Each(truths) => list_broken(kind, truths.as_slice(), n),
+    }
+}
+
+fn feed_broken(kind: Kind, dep: &Option<Dep>, n: usize) -> Option<Broken>
+    requires { n < 2 ^ 63 }
+    ensures { result ≡ feed_broken kind (dep_of dep.now) n }
+{
+    match dep {
+        None => None,
+        Some(dep) => part_broken(kind, &dep.part, n),
+    }
+}
+
+/// Of each of `n` inputs whether it has feedthrough, as it is declared.
+fn feed_by(alloc: Global, part: &Part, n: usize) -> Result<Truths, NoMemory>
+    ensures { IfOk result (λ r. r ≡ feed_by (feedthrough_of part.now) n) }
+{
+    match part {
+        Part::All(truth) => Truths::repeated(alloc, *truth, n),
+        Part::Each(truths) => Ok(Truths::of(truths.as_slice().to_vec(alloc)?)),
+    }
+}
+
+/// Of each of `n` inputs whether it has feedthrough.
+fn feed_of(alloc: Global, kind: Kind, dep: &Option<Dep>, n: usize) -> Result<Truths, NoMemory>
+    requires { n < 2 ^ 63 }
+    ensures { IfOk result (λ r. r ≡ feed_of kind (dep_of dep.now) n) }
+{
+    match dep {
+        None => own_feed(alloc, kind, n),
+        Some(dep) => feed_by(alloc, &dep.part, n),
+    }
 }
 
 /// The first date and the feedthrough.
@@ -231,10 +245,7 @@ fn events_broken(kind: Kind, f: &BlockFields) -> Option<Broken>
     if !date_ok(kind, f.firing.as_slice()) {
         return Some(bad(3, 1, f.firing[0]));
     }
-    if !feed_ok(kind, f.dep) {
-        return Some(bad(4, 1, 0));
-    }
-    None
+    feed_broken(kind, &f.dep, f.ins.len())
 }
 
 fn values_broken(kind: Kind, f: &BlockFields) -> Option<Broken>
@@ -263,8 +274,8 @@ fn types_broken(kind: Kind, f: &BlockFields) -> Option<Broken>
 fn active_broken(f: &BlockFields) -> Option<Broken>
     ensures { result ≡ active_broken (fields_of f.now) }
 {
-    match f.dep {
-        Some((_, true)) => Some(Broken {
+    match &f.dep {
+        Some(dep) if dep.always => Some(Broken {
             rule: Rule::AlwaysActive,
             detail: Detail::Empty,
         }),
@@ -288,47 +299,6 @@ fn broken(kind: Kind, f: &BlockFields) -> Option<Broken>
     }
 }
 
-/// The numbers that a refusal shows.
-fn numbers(alloc: Global, d: Detail) -> Result<Vec<i64>, AllocError>
-    ensures { IfOk result (λ v. v.items ≡ numbers d) }
-{
-    let mut v = Vec::new(alloc);
-    match d {
-        Detail::Empty => {}
-        Detail::Pair(a, b) => {
-            v.push(a)?;
-            v.push(b)?;
-        }
-        Detail::Triple(a, b, c) => {
-            v.push(a)?;
-            v.push(b)?;
-            v.push(c)?;
-        }
-    }
-    Ok(v)
-}
-
-fn refusal(alloc: Global, place: &Place, b: Broken) -> Result<Refusal, AllocError>
-    ensures { IfOk result (λ r. violation_of r ≡ violation_at place.now.path.items b) }
-{
-    let path = SmallVec::from_slice(alloc, place.path.as_slice())?;
-    Ok(Refusal {
-        rule: b.rule,
-        place: Place { path },
-        detail: numbers(alloc, b.detail)?,
-    })
-}
-
-/// The refusal of a broken rule.
-fn refused(alloc: Global, place: &Place, b: Broken) -> SpecStop
-    ensures { IsViolation (violation_at place.now.path.items b) result }
-{
-    match refusal(alloc, place, b) {
-        Ok(r) => SpecStop::Refused(r),
-        Err(_) => SpecStop::Memory,
-    }
-}
-
 fn columns_at(cols: &[i64], k: usize) -> i64
     requires { length cols.now ≢ 0 → k < length cols.now }
     ensures { result ≡ columns_at cols.now k }
@@ -343,7 +313,7 @@ fn declared_ports(
     rows: &[i64],
     cols: &[i64],
     types: &[i64],
-) -> Result<Ports, AllocError>
+) -> Result<Ports, NoMemory>
     requires cols { cols_ok (length cols.now) (length rows.now) ≡ true }
     requires types { length rows.now ≤ length types.now }
     ensures { IfOk result (λ r. r ≡ declared_ports rows.now cols.now types.now (length rows.now)) }
@@ -360,7 +330,7 @@ fn declared_ports(
 }
 
 /// A list where the kind has it, else none.
-fn kept(alloc: Global, b: bool, vs: &[i64]) -> Result<Ints, AllocError>
+fn kept(alloc: Global, b: bool, vs: &[i64]) -> Result<Ints, NoMemory>
     ensures { IfOk result (λ r. r ≡ kept b vs.now) }
 {
     if b {
@@ -371,7 +341,7 @@ fn kept(alloc: Global, b: bool, vs: &[i64]) -> Result<Ints, AllocError>
 }
 
 /// The spec of a block that breaks no rule.
-fn spec_of(alloc: Global, kind: Kind, f: &BlockFields) -> Result<Spec, AllocError>
+fn spec_of(alloc: Global, kind: Kind, f: &BlockFields) -> Result<Spec, NoMemory>
     requires { forms_broken kind (fields_of f.now) ≡ None }
     ensures { IfOk result (λ s. s ≡ spec_of kind (fields_of f.now)) }
 {
@@ -394,43 +364,37 @@ fn spec_of(alloc: Global, kind: Kind, f: &BlockFields) -> Result<Spec, AllocErro
         )?,
         evtin: f.evtin,
         evtout: f.evtout,
-        feed: feed_of(kind, f.dep),
+        feed: feed_of(alloc, kind, &f.dep, f.ins.len())?,
     })
 }
 
 /// The spec of the block at `place` whose model has these fields and whose `gui` is this name, or the first rule that it breaks,
 /// in the order 7, 9, 10, 11, 8. Rule 8 looks at the parameters (their number, then each), the state, the first date and the
 /// feedthrough. The block is neither a superblock nor a pass-through object.
-pub fn check_spec(
-    alloc: Global,
-    gui: &str,
-    f: &BlockFields,
-    place: &Place,
-) -> Result<Spec, SpecStop>
+pub fn check_spec(alloc: Global, gui: &str, f: &BlockFields, place: &Place) -> Result<Spec, Stop>
     ensures ok { IfOk result (λ s. checked place.now.path.items gui.now (fields_of f.now) ≡ Ok s) }
     ensures stop { IfErr result (λ e. Stops (checked place.now.path.items gui.now (fields_of f.now)) e) }
 {
     match Kind::by_name(gui) {
-        None => Err(refused(
-            alloc,
-            place,
-            Broken {
+        None => {
+            let unknown = Broken {
                 rule: Rule::UnknownBlock,
                 detail: Detail::Empty,
-            },
-        )),
+            };
+            Err(unknown.stop(alloc, place.path.as_slice()))
+        }
         Some(kind) => check_kind(alloc, kind, f, place),
     }
 }
 
 /// The same for a known kind.
-#[tactic(auto, using(crate::proofs::CheckSteps::stops_violation))]
-fn check_kind(alloc: Global, kind: Kind, f: &BlockFields, place: &Place) -> Result<Spec, SpecStop>
+#[tactic(auto, using(sci_base::proofs::Stopping::stops_violation))]
+fn check_kind(alloc: Global, kind: Kind, f: &BlockFields, place: &Place) -> Result<Spec, Stop>
     ensures ok { IfOk result (λ s. checked_kind place.now.path.items (fields_of f.now) (Some kind) ≡ Ok s) }
     ensures stop { IfErr result (λ e. Stops (checked_kind place.now.path.items (fields_of f.now) (Some kind)) e) }
 {
     match broken(kind, f) {
-        Some(b) => Err(refused(alloc, place, b)),
+        Some(b) => Err(b.stop(alloc, place.path.as_slice())),
         None => Ok(spec_of(alloc, kind, f)?),
     }
 }

@@ -7,7 +7,7 @@ pub mod check;
 #[cfg(test)]
 mod tests;
 
-pub use check::{SpecStop, check_spec};
+pub use check::check_spec;
 
 /// What the check gives has the counts and values that its kind's form asks.
 pub fn checked_law()

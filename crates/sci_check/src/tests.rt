@@ -1,5 +1,5 @@
-use crate::{SpecStop, check_spec};
-use sci_base::{BlockFields, Place, Rule};
+use crate::check_spec;
+use sci_base::{BlockFields, Place, Rule, Stop};
 use sci_forms::Kind;
 use smallvec::SmallVec;
 use std::alloc::Global;
@@ -29,7 +29,11 @@ fn gives_a_spec(rt: HostRuntime) -> Result<(), Fail> {
     };
     match check_spec(rt.alloc(), "GAINBLK", &gain(rt.alloc(), 2)?, &place) {
         Ok(s) => assert!(rt;
-            s.kind == Kind::GainBlk && s.params.at(1) == 3 && s.ins.port(0).rows == -1 && s.feed
+            s.kind == Kind::GainBlk
+                && s.params.at(1) == 3
+                && s.ins.port(0).rows == -1
+                && s.feed.len() == 1
+                && s.feed.at(0)
         ),
         Err(_) => panic!(&rt; "refused"),
     }
@@ -42,7 +46,7 @@ fn refuses_a_mode(rt: HostRuntime) -> Result<(), Fail> {
         path: SmallVec::from_slice(rt.alloc(), &[2, 1])?,
     };
     match check_spec(rt.alloc(), "GAINBLK", &gain(rt.alloc(), 3)?, &place) {
-        Err(SpecStop::Refused(r)) => {
+        Err(Stop::Refused(r)) => {
             assert!(rt; r.rule == Rule::BadParameter && r.place.path.len() == 2);
             assert_eq!(rt; r.detail.as_slice(), [1, 1, 3].as_slice());
         }

@@ -7,6 +7,7 @@ ghost use Rattle.sci_bank.specs.Library.{AreInOrder};
 use sci_bank::calls::{enters, fills, masks};
 use sci_bank::library::Library;
 use sci_bank::{Bank, Fate};
+use sci_base::NoMemory;
 use sci_kinds::Spec;
 use std::alloc::AllocError;
 
@@ -62,6 +63,9 @@ pub fn evaluate(
     if !fills(&spec.outs, outs) {
         return Ok(None);
     }
-    let slot = lib.add(spec.kind, spec)?;
+    let slot = match lib.add(spec.kind, spec) {
+        Ok(slot) => slot,
+        Err(NoMemory) => return Err(AllocError),
+    };
     Ok(Some(lib.out(spec.kind, slot, 0, ins, outs)))
 }

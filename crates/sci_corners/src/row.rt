@@ -1,6 +1,6 @@
 // The rows of the table.
 use anyhow::bail;
-use sci_base::Ints;
+use sci_base::{Ints, Truths};
 use sci_kinds::{Kind, Port, Ports, Spec};
 use std::alloc::{AllocError, Global};
 
@@ -29,7 +29,7 @@ impl Row {
             outs: ports(alloc, &lists[2], &lists[3])?,
             evtin: 0,
             evtout: 0,
-            feed: true,
+            feed: Truths::of(vec![in alloc; true; lists[0].len()]?),
         };
         Ok(Row {
             spec,

@@ -9,7 +9,7 @@ use Rattle.std.proofs.lemmas.List.{get_or-take, length-take-le, take_more, lengt
 use Rattle.std.proofs.lemmas.List.Elements.{Contains-append_left, Contains-push, Contains-push_cases, Contains-get_or}
 use Rattle.std.proofs.lemmas.List.Kept.{AllPairs-from_increasing}
 use Rattle.std.proofs.lemmas.Option.{slice_get-get_or, slice_get_within, slice_get_cases, get_or_from_slice_get}
-use Rattle.sci_walk.specs.Lists.{plain, list_at}
+use Rattle.sci_loop.specs.Lists.{plain, list_at}
 use Rattle.sci_loop.specs.declared.table.DepTable.{DepTable}
 use Rattle.sci_loop.specs.Table.{Needs, IsRow}
 use Rattle.sci_net.specs.declared.Source.{Source}

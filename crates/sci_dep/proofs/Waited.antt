@@ -1,5 +1,5 @@
 -- What each block waits for.
-use Rattle.std.proofs.Common.{◌≡◌, ◌<◌, ◌≤◌, ◌+◌, ◌-◌, ◌↔◌, ◌∙◌, ℕ, zero, suc, true, List, ◌∷◌, [], ◌++◌, ◌⊎◌, inl, inr, ⊎_elim, refl, sym, ap, subst, arith, length, get_or, take, length-append}
+use Rattle.std.proofs.Common.{◌≡◌, ◌<◌, ◌≤◌, ◌+◌, ◌-◌, ◌↔◌, ◌∙◌, ℕ, zero, suc, Bool, true, false, List, ◌∷◌, [], ◌++◌, ◌⊎◌, inl, inr, ⊎_elim, refl, sym, ap, subst, arith, length, get_or, take, length-append}
 use Rattle.std.specs.Prelude.{Contains, eqb}
 use Rattle.std.specs.List.{dedup}
 use Rattle.std.specs.List.Sorted.{IsStrictlyIncreasing, IsPermutation, IsSorted}
@@ -10,42 +10,60 @@ use Rattle.std.proofs.lemmas.List.Elements.{Contains-append_left, Contains-push,
 use Rattle.std.proofs.lemmas.List.Sorted.{Contains-permutation, IsPermutation-sym}
 use Rattle.std.proofs.lemmas.List.Kept.{Contains-dedup_nat, Contains-from_dedup}
 use Rattle.std.proofs.lemmas.Map.Keys.{IsStrictlyIncreasing-dedup}
-use Rattle.sci_walk.specs.Lists.{list_at}
+use Rattle.sci_base.specs.Lists.{truth_at}
+use Rattle.sci_loop.specs.Lists.{list_at}
 use Rattle.sci_net.specs.declared.Feed.{Feed}
 use Rattle.sci_net.specs.Parts.{Parts, numbered, spec_of, wire_of, IsBlock}
-use Rattle.sci_reaction.specs.Links.{SuppliesThrough}
+use Rattle.sci_reaction.specs.Links.{SuppliesThrough, has_feedthrough}
 use Rattle.sci_reaction.specs.Depends.{Conditions}
 use Rattle.sci_inherit.specs.Origins.{Origins, AreOrigins}
 use Rattle.sci_inherit.proofs.Gathering.{reaches_block}
 use Rattle.sci_dep.specs.Tables.{AreWaits}
-use Rattle.sci_dep.specs.Building.{Puts, SuppliesBelow, IsBlockOf, AreBlocksOf, IsWaitsOf, WaitsTo}
+use Rattle.sci_dep.specs.Building.{Puts, SuppliesAt, SuppliesBelow, IsBlockOf, AreBlocksOf, IsWaitsOf, WaitsTo}
 
 -- ---- the sources of inputs
 
 pub puts_none : (n : Parts) (b : ℕ) (xs : List ℕ) → Puts (SuppliesBelow n b 0) xs xs
 puts_none n b xs = record { exactly = λ x. ((λ h. inl h), λ h. elim h [ inl l ↦ l | inr s ↦ let l = s.below in absurd (omega (arith, l)) ]) }
 
-pub puts_next : (n : Parts) (b k : ℕ) (old mid new : List ℕ) (y : ℕ) → (wire_of n b (k + 1)).block ≡ y → new ≡ mid ++ y ∷ [] → Puts (SuppliesBelow n b k) old mid
-    → Puts (SuppliesBelow n b (k + 1)) old new
-puts_next n b k old mid new y is e before = record {
+-- the truth of an input, counted from 1
+pub truth_of : (ts : List Bool) (k : ℕ) → 1 ≤ k → truth_at ts (k - 1) ≡ numbered false ts k
+truth_of ts zero least = absurd (omega (arith, least))
+truth_of ts (suc k) least = let e : suc k - 1 ≡ k = omega arith in ap (truth_at ts) e
+
+pub puts_source : (n : Parts) (b k : ℕ) (old new : List ℕ) (y : ℕ) → has_feedthrough (spec_of n b) k ≡ true → (wire_of n b k).block ≡ y → new ≡ old ++ y ∷ [] → Puts (SuppliesAt n b k) old new
+puts_source n b k old new y on is e = record {
   exactly = λ x. (
-    (λ h. elim (Contains-push_cases mid y x (subst (λ (l : List ℕ). Contains l x) e h)) [
-      | inl m ↦ elim ((before.exactly x).0 m) [ inl o ↦ inl o | inr s ↦ inr (record { input = s.input; below = let l = s.below in omega (arith, l); from = s.from }) ]
-      | inr s ↦ inr (record { input = k; below = omega arith; from = is ∙ s })
-    ]),
+    (λ h. elim (Contains-push_cases old y x (subst (λ (l : List ℕ). Contains l x) e h)) [ inl o ↦ inl o | inr s ↦ inr (record { through = on; from = is ∙ s }) ]),
     λ h. subst (λ (l : List ℕ). Contains l x) (sym e) (elim h [
-      | inl o ↦ Contains-append_left mid (y ∷ []) x ((before.exactly x).1 (inl o))
+      | inl o ↦ Contains-append_left old (y ∷ []) x o
+      | inr s ↦ subst (Contains (old ++ y ∷ [])) (sym is ∙ s.from) (Contains-push old y)
+    ]),
+  );
+}
+
+pub puts_no_source : (n : Parts) (b k : ℕ) (xs : List ℕ) → (has_feedthrough (spec_of n b) k ≡ true → ⊥) → Puts (SuppliesAt n b k) xs xs
+puts_no_source n b k xs off = record { exactly = λ x. ((λ h. inl h), λ h. elim h [ inl l ↦ l | inr s ↦ absurd (off s.through) ]) }
+
+pub puts_next : (n : Parts) (b k : ℕ) (old mid new : List ℕ) → Puts (SuppliesAt n b (k + 1)) mid new → Puts (SuppliesBelow n b k) old mid → Puts (SuppliesBelow n b (k + 1)) old new
+puts_next n b k old mid new put before = record {
+  exactly = λ x. (
+    (λ h. elim ((put.exactly x).0 h) [
+      | inl m ↦ elim ((before.exactly x).0 m) [ inl o ↦ inl o | inr s ↦ inr (record { input = s.input; below = let l = s.below in omega (arith, l); supplies = s.supplies }) ]
+      | inr s ↦ inr (record { input = k; below = omega arith; supplies = s })
+    ]),
+    λ h. (put.exactly x).1 (elim h [
+      | inl o ↦ inl ((before.exactly x).1 (inl o))
       | inr s ↦ ⊎_elim
-          (λ d. subst (Contains (mid ++ y ∷ [])) (sym is ∙ (ap (λ (j : ℕ). (wire_of n b (j + 1)).block) (sym d) ∙ s.from)) (Contains-push mid y))
-          (λ d. Contains-append_left mid (y ∷ []) x ((before.exactly x).1 (inr (record { input = s.input; below = let l = s.below in omega (arith, l, d); from = s.from }))))
+          (λ d. inr (subst (λ (j : ℕ). SuppliesAt n b (j + 1) x) d s.supplies))
+          (λ d. inl ((before.exactly x).1 (inr (record { input = s.input; below = let l = s.below in omega (arith, l, d); supplies = s.supplies }))))
           (cases_eq s.input k)
     ]),
   );
 }
 
-pub puts_through : (n : Parts) (b : ℕ) (old new : List ℕ) → 1 ≤ b → b ≤ length n.specs → (spec_of n b).feed ≡ true
-    → Puts (SuppliesBelow n b (length (spec_of n b).ins)) old new → Puts (λ x. SuppliesThrough n x b) old new
-puts_through n b old new least most feeds p = record {
+pub puts_through : (n : Parts) (b : ℕ) (old new : List ℕ) → 1 ≤ b → b ≤ length n.specs → Puts (SuppliesBelow n b (length (spec_of n b).ins)) old new → Puts (λ x. SuppliesThrough n x b) old new
+puts_through n b old new least most p = record {
   exactly = λ x. (
     (λ h. elim ((p.exactly x).0 h) [ inl o ↦ inl o | inr s ↦ inr (to x s) ]),
     λ h. (p.exactly x).1 (elim h [ inl o ↦ inl o | inr s ↦ inr (from x s) ]),
@@ -56,19 +74,16 @@ puts_through n b old new least most feeds p = record {
     to x s = record {
       input = s.input + 1;
       within = record { block = record { least = least; most = most }; least = omega arith; most = let l = s.below in omega (arith, l) };
-      from = s.from;
-      through = feeds;
+      from = s.supplies.from;
+      through = s.supplies.through;
     }
 
     from : (x : ℕ) → SuppliesThrough n x b → SuppliesBelow n b (length (spec_of n b).ins) x
     from x s = let low = s.within.least in let high = s.within.most in let next : (s.input - 1) + 1 ≡ s.input = omega (arith, low) in record {
       input = s.input - 1;
       below = omega (arith, low, high);
-      from = subst (λ (j : ℕ). (wire_of n b j).block ≡ x) (sym next) s.from;
+      supplies = subst (λ (j : ℕ). SuppliesAt n b j x) (sym next) (record { through = s.through; from = s.from });
     }
-
-pub puts_nothing : (n : Parts) (b : ℕ) (xs : List ℕ) → ((spec_of n b).feed ≡ true → ⊥) → Puts (λ x. SuppliesThrough n x b) xs xs
-puts_nothing n b xs not_fed = record { exactly = λ x. ((λ h. inl h), λ h. elim h [ inl l ↦ l | inr s ↦ absurd (not_fed s.through) ]) }
 
 -- ---- the blocks of branches
 

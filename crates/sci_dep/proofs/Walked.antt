@@ -2,8 +2,8 @@
 use Rattle.std.proofs.Common.{◌≡◌, ◌<◌, ◌+◌, ◌↔◌, ℕ, List, arith, length, get_or}
 use Rattle.std.specs.Prelude.{Contains, All}
 use Rattle.std.proofs.lemmas.List.Elements.{Contains-get_or}
-use Rattle.sci_walk.specs.Lists.{list_at}
-use Rattle.sci_walk.specs.Reached.{IsReached, start, onward}
+use Rattle.sci_loop.specs.Lists.{list_at}
+use Rattle.sci_loop.specs.Reached.{IsReached, start, onward}
 use Rattle.sci_net.specs.declared.Source.{Source}
 use Rattle.sci_net.specs.Parts.{Parts, IsBlock}
 use Rattle.sci_reaction.specs.Links.{Inherits, Supplies}

@@ -1,21 +1,26 @@
 -- Waits and tables, as they are built.
-use Rattle.std.specs.Prelude.{◌≡◌, ℕ, ◌+◌, ◌<◌, ◌⊎◌, ◌↔◌, List, [], length, Contains, slice_index}
+use Rattle.std.specs.Prelude.{◌≡◌, ℕ, ◌+◌, ◌<◌, ◌⊎◌, ◌↔◌, true, List, [], length, Contains, slice_index}
 use Rattle.std.specs.List.Sorted.{IsStrictlyIncreasing}
-use Rattle.sci_walk.specs.Lists.{list_at}
+use Rattle.sci_loop.specs.Lists.{list_at}
 use Rattle.sci_net.specs.declared.Feed.{Feed}
-use Rattle.sci_net.specs.Parts.{Parts, numbered, wire_of}
-use Rattle.sci_reaction.specs.Links.{SuppliesThrough}
+use Rattle.sci_net.specs.Parts.{Parts, numbered, spec_of, wire_of}
+use Rattle.sci_reaction.specs.Links.{SuppliesThrough, has_feedthrough}
 use Rattle.sci_reaction.specs.Depends.{Conditions}
 
 -- these numbers are put besides
 pub record Puts (more : ℕ → Type 0) (old new : List ℕ) : Type 0 where
   pub exactly : (x : ℕ) → Contains new x ↔ (Contains old x ⊎ more x)
 
--- x is the source block of one of the first k inputs of b
+-- x is the source block of input k of b, which has feedthrough
+pub record SuppliesAt (n : Parts) (b k x : ℕ) : Type 0 where
+  pub through : has_feedthrough (spec_of n b) k ≡ true
+  pub from : (wire_of n b k).block ≡ x
+
+-- x is the source block of one of the first k inputs of b, which has feedthrough
 pub record SuppliesBelow (n : Parts) (b k x : ℕ) : Type 0 where
   pub input : ℕ
   pub below : input < k
-  pub from : (wire_of n b (input + 1)).block ≡ x
+  pub supplies : SuppliesAt n b (input + 1) x
 
 -- x is the block of one of these activation outputs
 pub record IsBlockOf (fs : List Feed) (x : ℕ) : Type 0 where

@@ -7,15 +7,13 @@ ghost use Rattle.sci_inherit.specs.Origins.{AreOrigins};
 ghost use Rattle.sci_dep.specs.Tables.{AreWaits, ArePossible, IsTableOf};
 
 mod table;
-#[cfg(test)]
-mod tests;
 mod waiting;
 
 use sci_base::NoMemory;
 use sci_inherit::Reach;
 use sci_loop::DepTable;
+use sci_loop::walk::Walk;
 use sci_net::Net;
-use sci_walk::Walk;
 use std::alloc::Global;
 pub use waiting::Waits;
 
@@ -24,10 +22,7 @@ pub fn waits(alloc: Global, net: &Net, reach: &Reach) -> Result<Waits, NoMemory>
     requires { AreOrigins net.now reach.now }
     ensures { IfOk result (λ w. AreWaits net.now w) }
 {
-    match waiting::made(alloc, net, reach) {
-        Ok(waits) => Ok(waits),
-        Err(_) => Err(NoMemory),
-    }
+    waiting::made(alloc, net, reach)
 }
 
 /// Finds, by a walk over the numbers of the blocks and 0, which is no block, the blocks that the source at this place may activate. The
@@ -40,10 +35,7 @@ pub fn possible(net: &Net, reach: &Reach, source: u32, walk: &mut Walk) -> Resul
     ensures possible { OnOk result (ArePossible net.now (source_of net.now source) walk.new.found) }
 {
     net.well_formed();
-    match walk.walk(reach.onward(), reach.always(source)) {
-        Ok(()) => Ok(()),
-        Err(_) => Err(NoMemory),
-    }
+    walk.walk(reach.onward(), reach.always(source))
 }
 
 /// The table of the dependencies among the possible blocks of the source at this place, which the walk has found. The time is that of
@@ -60,8 +52,5 @@ pub fn depends(
     requires possible { ArePossible net.now (source_of net.now source) walk.now.found }
     ensures { IfOk result (λ t. IsTableOf net.now (source_of net.now source) t) }
 {
-    match table::made(alloc, net, waits, source, walk) {
-        Ok(table) => Ok(table),
-        Err(_) => Err(NoMemory),
-    }
+    table::made(alloc, net, waits, source, walk)
 }

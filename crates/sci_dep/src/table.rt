@@ -1,20 +1,21 @@
 // The table of a source.
 ghost use Rattle.std.specs.Prelude.{◌≡◌, ℕ, ◌+◌, ◌<◌, ◌≤◌, ◌↔◌, [], length, All, Contains, IfOk, OnOk};
 ghost use Rattle.std.specs.List.Sorted.{IsStrictlyIncreasing};
-ghost use Rattle.sci_walk.specs.Lists.{plain};
+ghost use Rattle.sci_loop.specs.Lists.{plain};
 ghost use Rattle.sci_net.specs.Parts.{numbered, IsBlock};
 ghost use Rattle.sci_net.specs.Sources.{source_of};
 ghost use Rattle.sci_dep.specs.Tables.{AreWaits, ArePossible, IsTableOf};
 ghost use Rattle.sci_dep.specs.Building.{KeepsFound, AreNeeds};
 
 use crate::waiting::Waits;
+use sci_base::NoMemory;
 use sci_loop::DepTable;
+use sci_loop::walk::Walk;
 use sci_net::Net;
-use sci_walk::Walk;
-use std::alloc::{AllocError, Global};
+use std::alloc::Global;
 
 // What the walk has found, in order.
-fn members(alloc: Global, walk: &Walk) -> Result<Vec<u32>, AllocError>
+fn members(alloc: Global, walk: &Walk) -> Result<Vec<u32>, NoMemory>
     ensures rising { IfOk result (λ v. IsStrictlyIncreasing v.items) }
     ensures exactly { IfOk result (λ v. (b : ℕ) → Contains v.items b ↔ Contains walk.now.found b) }
 {
@@ -24,7 +25,7 @@ fn members(alloc: Global, walk: &Walk) -> Result<Vec<u32>, AllocError>
 }
 
 // Those of some blocks, in order, that the walk has found.
-fn needs_of(alloc: Global, blocks: &[u32], walk: &Walk) -> Result<Vec<u32>, AllocError>
+fn needs_of(alloc: Global, blocks: &[u32], walk: &Walk) -> Result<Vec<u32>, NoMemory>
     requires rising { IsStrictlyIncreasing blocks.now }
     requires within { All (λ b. b < walk.now.count) blocks.now }
     ensures { IfOk result (λ v. KeepsFound walk.now.found blocks.now v.items) }
@@ -45,7 +46,7 @@ fn needs(
     waits: &Waits,
     members: &[u32],
     walk: &Walk,
-) -> Result<Vec<Vec<u32>>, AllocError>
+) -> Result<Vec<Vec<u32>>, NoMemory>
     requires waits { AreWaits net.now waits.now }
     requires count { walk.now.count ≡ length net.now.specs + 1 }
     requires blocks { All (IsBlock net.now) members.now }
@@ -66,7 +67,7 @@ pub fn made(
     waits: &Waits,
     _source: u32,
     walk: &Walk,
-) -> Result<DepTable, AllocError>
+) -> Result<DepTable, NoMemory>
     requires waits { AreWaits net.now waits.now }
     requires count { walk.now.count ≡ length net.now.specs + 1 }
     requires possible { ArePossible net.now (source_of net.now _source) walk.now.found }

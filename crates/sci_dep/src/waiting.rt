@@ -4,11 +4,12 @@ ghost use Rattle.sci_net.specs.Parts.{numbered, spec_of};
 ghost use Rattle.sci_reaction.specs.Links.{SuppliesThrough};
 ghost use Rattle.sci_inherit.specs.Origins.{AreOrigins};
 ghost use Rattle.sci_dep.specs.Tables.{AreWaits};
-ghost use Rattle.sci_dep.specs.Building.{Puts, SuppliesBelow, AreBlocksOf, IsWaitsOf};
+ghost use Rattle.sci_dep.specs.Building.{Puts, SuppliesAt, AreBlocksOf, IsWaitsOf};
 
+use sci_base::NoMemory;
 use sci_inherit::Reach;
 use sci_net::{Feed, Net};
-use std::alloc::{AllocError, Global};
+use std::alloc::Global;
 use std::marker::Model;
 
 /// By block, the blocks that it waits for, whatever the source is: the source blocks of its inputs with feedthrough, and the synchronous
@@ -20,7 +21,7 @@ pub struct Waits {
 
 impl Model for Waits {
     ghost use Rattle.std.specs.Prelude.{List, ℕ};
-    ghost use Rattle.sci_walk.specs.Lists.{plain};
+    ghost use Rattle.sci_loop.specs.Lists.{plain};
 
     ghost Value = { List (List ℕ) };
 
@@ -38,35 +39,38 @@ impl Waits {
     }
 }
 
-// Puts the source blocks of a block's inputs.
-fn push_sources(blocks: &mut Vec<u32>, net: &Net, block: u32) -> Result<(), AllocError>
+// Puts the source block of a block's input, if the input has feedthrough.
+fn push_source(blocks: &mut Vec<u32>, net: &Net, block: u32, input: u32) -> Result<(), NoMemory>
     requires least { 1 ≤ block }
     requires most { block ≤ length net.now.specs }
-    ensures { OnOk result (Puts (SuppliesBelow net.now block (length (spec_of net.now block).ins)) blocks.old.items blocks.new.items) }
+    requires input_least { 1 ≤ input }
+    requires input_most { input ≤ length (spec_of net.now block).ins }
+    ensures { OnOk result (Puts (SuppliesAt net.now block input) blocks.old.items blocks.new.items) }
 {
-    net.well_formed();
-    for at in 0..net.spec(block).ins.len() {
-        let wire = net.wire(block, at as u32 + 1);
+    if net.spec(block).feed.at(input as usize - 1) {
+        let wire = net.wire(block, input);
         blocks.push(wire.block)?;
-    }
-    Ok(())
-}
-
-// The same of a block with feedthrough.
-fn push_through(blocks: &mut Vec<u32>, net: &Net, block: u32) -> Result<(), AllocError>
-    requires least { 1 ≤ block }
-    requires most { block ≤ length net.now.specs }
-    ensures { OnOk result (Puts (λ b. SuppliesThrough net.now b block) blocks.old.items blocks.new.items) }
-{
-    if net.spec(block).feed {
-        push_sources(blocks, net, block)
+        Ok(())
     } else {
         Ok(())
     }
 }
 
+// Puts the source blocks of a block's inputs with feedthrough.
+fn push_sources(blocks: &mut Vec<u32>, net: &Net, block: u32) -> Result<(), NoMemory>
+    requires least { 1 ≤ block }
+    requires most { block ≤ length net.now.specs }
+    ensures { OnOk result (Puts (λ b. SuppliesThrough net.now b block) blocks.old.items blocks.new.items) }
+{
+    net.well_formed();
+    for at in 0..net.spec(block).ins.len() {
+        push_source(blocks, net, block, at as u32 + 1)?;
+    }
+    Ok(())
+}
+
 // Puts a block, unless it stands at the end.
-fn push_other(blocks: &mut Vec<u32>, block: u32) -> Result<(), AllocError>
+fn push_other(blocks: &mut Vec<u32>, block: u32) -> Result<(), NoMemory>
     ensures { OnOk result (Puts (λ b. block ≡ b) blocks.old.items blocks.new.items) }
 {
     if blocks.last() == Some(&block) {
@@ -78,7 +82,7 @@ fn push_other(blocks: &mut Vec<u32>, block: u32) -> Result<(), AllocError>
 }
 
 // The blocks of some branches, which stand block by block.
-fn blocks_of(alloc: Global, branches: &[Feed]) -> Result<Vec<u32>, AllocError>
+fn blocks_of(alloc: Global, branches: &[Feed]) -> Result<Vec<u32>, NoMemory>
     ensures { IfOk result (λ v. AreBlocksOf branches.now v.items) }
 {
     let mut blocks = Vec::new(alloc);
@@ -89,21 +93,21 @@ fn blocks_of(alloc: Global, branches: &[Feed]) -> Result<Vec<u32>, AllocError>
 }
 
 // The blocks that a block waits for.
-fn waits_of(alloc: Global, net: &Net, reach: &Reach, block: u32) -> Result<Vec<u32>, AllocError>
+fn waits_of(alloc: Global, net: &Net, reach: &Reach, block: u32) -> Result<Vec<u32>, NoMemory>
     requires least { 1 ≤ block }
     requires most { block ≤ length net.now.specs }
     requires origins { AreOrigins net.now reach.now }
     ensures { IfOk result (λ v. IsWaitsOf net.now block v.items) }
 {
     let mut blocks = blocks_of(alloc, reach.branches(block))?;
-    push_through(&mut blocks, net, block)?;
+    push_sources(&mut blocks, net, block)?;
     blocks.sort_unstable();
     blocks.dedup();
     Ok(blocks)
 }
 
 /// What each block waits for.
-pub fn made(alloc: Global, net: &Net, reach: &Reach) -> Result<Waits, AllocError>
+pub fn made(alloc: Global, net: &Net, reach: &Reach) -> Result<Waits, NoMemory>
     requires { AreOrigins net.now reach.now }
     ensures { IfOk result (λ w. AreWaits net.now w) }
 {

@@ -1,7 +1,7 @@
 -- The items that are left of a list.
 use Rattle.std.proofs.Common.{◌≡◌, Some, None, refl}
 use Rattle.serde_json.specs.Data.{Data, Items, no_items, item}
-use Rattle.sci_document.specs.View.{NextItem}
+use Rattle.sci_json.specs.View.{NextItem}
 
 pub taken : (ds : Items) (d : Data) (es : Items) → NextItem ds (Some d) es → ds ≡ item d es
 taken no_items d es h = let e = h.0 in cc

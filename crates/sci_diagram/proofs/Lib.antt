@@ -1,5 +1,5 @@
-pub mod Stopping
 pub mod Light
+pub mod Told
 pub mod Walking
 pub mod Bytes
 pub mod Values

@@ -7,14 +7,14 @@ use Rattle.serde_json.specs.Find.{get, as_array, as_object}
 use Rattle.sci_base.specs.Plain.{Violation}
 use Rattle.sci_base.specs.Outcome.{Outcome, ◌>>=◌}
 use Rattle.sci_json.specs.Field.{formed, field_of, field}
-use Rattle.sci_diagram.specs.declared.stop.ReadStop.{ReadStop}
+use Rattle.sci_base.specs.declared.stop.Stop.{Stop}
 use Rattle.sci_diagram.specs.Objects.{Object, Objects, no_objects, object as one_object, objects_of, object_view, diagram_view}
 use Rattle.sci_diagram.specs.declared.diagram.Obj.{Obj}
 use Rattle.sci_diagram.specs.declared.diagram.Diagram.{roll-Diagram, the_lemmas}
 use Rattle.sci_diagram.specs.Tree.{wrong, too_deep, required, whole_object, Inner, read_object, walk, list_of, diagram_at}
-use Rattle.sci_diagram.specs.Stops.{Stops}
+use Rattle.sci_base.specs.Stops.{Stops}
 use Rattle.sci_diagram.specs.Weight.{weight, items_weight}
-use Rattle.sci_diagram.proofs.Stopping.{stops_then}
+use Rattle.sci_base.proofs.Stopping.{stops_then}
 use Rattle.sci_diagram.proofs.Light.{AtMost, get_light, positive}
 
 -- ---- levels
@@ -114,7 +114,7 @@ module _ (inner : Inner) (at : List ℕ) (ds : Items) (d : Data) (es : Items) (i
   unfolding walk
   opens xs k there = rw (is, there) refl
 
-  pub rest_stops : (xs : List Object) (k : ℕ) → here ≡ at ++ k ∷ [] → (w : Outcome Objects) → rest inner at xs k ds ≡ w → (e : ReadStop) → Stops (read_object inner here d) e → Stops w e
+  pub rest_stops : (xs : List Object) (k : ℕ) → here ≡ at ++ k ∷ [] → (w : Outcome Objects) → rest inner at xs k ds ≡ w → (e : Stop) → Stops (read_object inner here d) e → Stops w e
   rest_stops xs k there w whole e s = rw (sym whole ∙ opens xs k there) (stops_then _ _ e (stops_then _ _ e s))
 
   one_more : (xs : List Object) (k : ℕ) → here ≡ at ++ k ∷ [] → (o : Object) → read_object inner here d ≡ Ok o → rest inner at (xs ++ o ∷ []) (k + 1) es ≡ rest inner at xs k ds

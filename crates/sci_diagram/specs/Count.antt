@@ -1,11 +1,11 @@
--- How many objects a tree has over all levels, where an object counts with those within it; how many blocks that are neither superblocks nor pass-through objects; how many links.
+-- How many objects a tree has over all levels, where an object counts with those within it; how many blocks that are neither superblocks nor pass-through nor tag objects; how many links.
 use Rattle.std.specs.Prelude.{ℕ, ◌+◌, pos, [], ◌∷◌, nat_le, if◌then◌else◌, Ok, Err}
 use Rattle.sci_base.specs.declared.refusal.Rule.{Rule}
 use Rattle.sci_base.specs.declared.refusal.Rule.TheVariants.{TooManyBlocks, TooManyLinks}
 use Rattle.sci_base.specs.Plain.{Violation}
 use Rattle.sci_base.specs.Outcome.{Outcome}
 use Rattle.sci_diagram.specs.declared.sorts.Role.{Role}
-use Rattle.sci_diagram.specs.declared.sorts.Role.TheVariants.{Kind, Port, Joint, Super}
+use Rattle.sci_diagram.specs.declared.sorts.Role.TheVariants.{Kind, Port, Joint, Tag, Super}
 use Rattle.sci_diagram.specs.Objects.{Object, block, superblock, link, text, deleted, Objects, no_objects, object}
 use Rattle.sci_diagram.specs.Tree.{role_of}
 
@@ -13,6 +13,7 @@ abbrev pub one_of_kind : Role → ℕ
 one_of_kind Kind = 1
 one_of_kind Port = 0
 one_of_kind Joint = 0
+one_of_kind Tag = 0
 one_of_kind Super = 0
 
 abbrev mutual

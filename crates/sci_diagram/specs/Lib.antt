@@ -1,7 +1,7 @@
 pub mod Objects
 pub mod Tree
 pub mod Numbers
-pub mod Stops
 pub mod Weight
+pub mod Telling
 pub mod Reading
 pub mod Count

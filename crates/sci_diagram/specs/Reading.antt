@@ -4,11 +4,11 @@ use Rattle.std.specs.Str.{is_utf8}
 use Rattle.serde_json.specs.Data.{Data}
 use Rattle.serde_json.specs.Read.{read}
 use Rattle.sci_base.specs.declared.refusal.Rule.TheVariants.{NotJson}
-use Rattle.sci_base.specs.Plain.{Violation, violation_of, of_the_whole}
+use Rattle.sci_base.specs.Plain.{Violation, of_the_whole}
 use Rattle.sci_base.specs.Outcome.{Outcome, ◌>>=◌}
 use Rattle.sci_diagram.specs.declared.diagram.Diagram.{Diagram}
-use Rattle.sci_diagram.specs.declared.stop.ReadStop.{ReadStop}
-use Rattle.sci_diagram.specs.declared.stop.ReadStop.TheVariants.{Refused, Memory}
+use Rattle.sci_base.specs.declared.stop.Stop.{Stop}
+use Rattle.sci_base.specs.Stops.{Answers}
 use Rattle.sci_diagram.specs.Count.{counted}
 use Rattle.sci_diagram.specs.Objects.{Objects, diagram_view}
 use Rattle.sci_diagram.specs.Tree.{tree}
@@ -34,11 +34,9 @@ abbrev pub Breaks : List ℕ → Violation → Type 0
 Breaks bytes v = judge bytes ≡ Err v
 
 -- the answer is this outcome; want of memory may come at any time
-abbrev pub IsAnswer : Outcome Objects → Result Diagram ReadStop → Type 0
-IsAnswer o (Ok d) = o ≡ Ok (diagram_view d)
-IsAnswer o (Err (Refused r)) = o ≡ Err (violation_of r)
-IsAnswer o (Err Memory) = Unit {0}
+abbrev pub IsAnswer : Outcome Objects → Result Diagram Stop → Type 0
+IsAnswer = Answers diagram_view
 
 -- what a reader of these bytes answers
-abbrev pub IsRead : List ℕ → Result Diagram ReadStop → Type 0
+abbrev pub IsRead : List ℕ → Result Diagram Stop → Type 0
 IsRead bytes result = IsAnswer (judge bytes) result

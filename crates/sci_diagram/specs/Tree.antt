@@ -5,12 +5,12 @@ use Rattle.std.specs.Str.{bytes_eq}
 use Rattle.serde_json.specs.Data.{Data, null, boolean, number, string, array, object, Items, no_items, item}
 use Rattle.serde_json.specs.Find.{get, as_str, as_array, as_object}
 use Rattle.sci_base.specs.declared.refusal.Rule.TheVariants.{MissingField, WrongField, TooDeep}
-use Rattle.sci_base.specs.Plain.{Violation, Fields}
+use Rattle.sci_base.specs.Plain.{Violation, Dependence, Fields}
 use Rattle.sci_base.specs.Outcome.{Outcome, ◌>>=◌}
-use Rattle.sci_json.specs.Field.{Field, absent, ill_formed, holds, field, as_ints, as_flags}
+use Rattle.sci_json.specs.Field.{Field, absent, ill_formed, holds, field, as_ints, as_dep}
 use Rattle.sci_diagram.specs.declared.diagram.End.{End}
 use Rattle.sci_diagram.specs.declared.sorts.Role.{Role}
-use Rattle.sci_diagram.specs.declared.sorts.Role.TheVariants.{Kind, Port, Joint, Super}
+use Rattle.sci_diagram.specs.declared.sorts.Role.TheVariants.{Kind, Port, Joint, Tag, Super}
 use Rattle.sci_diagram.specs.declared.sorts.Sort.{Sort}
 use Rattle.sci_diagram.specs.Objects.{Object, block, superblock, link, text, deleted, Objects, no_objects, object as one_object}
 
@@ -106,19 +106,25 @@ is_joint s = bytes_eq s (codes "SPLIT_f") || bytes_eq s (codes "CLKSPLIT_f") || 
 abbrev pub is_pass_through : List ℕ → Bool
 is_pass_through s = is_port s || is_joint s
 
+-- GOTO, FROM, CLKGOTO and CLKFROM carry a link without drawing it
+abbrev pub is_tag : List ℕ → Bool
+is_tag s = bytes_eq s (codes "GOTO") || bytes_eq s (codes "FROM") || bytes_eq s (codes "CLKGOTO") || bytes_eq s (codes "CLKFROM")
+
 abbrev pub role_of : List ℕ → Role
-role_of gui = if is_port gui then Port else (if is_joint gui then Joint else Kind)
+role_of gui = if is_port gui then Port else (if is_joint gui then Joint else (if is_tag gui then Tag else Kind))
 
 abbrev pub keeps_state : Role → Bool
 keeps_state Kind = true
 keeps_state Port = false
 keeps_state Joint = false
+keeps_state Tag = false
 keeps_state Super = false
 
 abbrev pub keeps_ipar : Role → Bool
 keeps_ipar Kind = true
 keeps_ipar Port = true
 keeps_ipar Joint = false
+keeps_ipar Tag = true
 keeps_ipar Super = false
 
 -- a list that is looked at only in some roles
@@ -135,12 +141,13 @@ abbrev pub inner_there : Role → List ℕ → Data → Outcome (Unit {0})
 inner_there Kind at model = Ok tt
 inner_there Port at model = Ok tt
 inner_there Joint at model = Ok tt
+inner_there Tag at model = Ok tt
 inner_there Super at model = there at (get (codes "rpar") model)
 
-abbrev pub flags_of : List ℕ → Field (Bool × Bool) → Outcome (Option (Bool × Bool))
-flags_of at absent = Ok None
-flags_of at ill_formed = Err (wrong at (pos 18))
-flags_of at (holds p) = Ok (Some p)
+abbrev pub dep_at : List ℕ → Field Dependence → Outcome (Option Dependence)
+dep_at at absent = Ok None
+dep_at at ill_formed = Err (wrong at (pos 18))
+dep_at at (holds p) = Ok (Some p)
 
 unfoldable pub read_fields : Role → List ℕ → Data → Outcome Fields
 read_fields role at m = do
@@ -156,7 +163,7 @@ read_fields role at m = do
   rpar ← inner_there role at m
   ipar ← list_where (keeps_ipar role) at (pos 16) (codes "ipar") m
   firing ← list_where (keeps_state role) at (pos 17) (codes "firing") m
-  dep ← flags_of at (field as_flags (codes "dep_ut") m)
+  dep ← dep_at at (field as_dep (codes "dep_ut") m)
   Ok (record {
     ins = ins;
     in2 = in2;

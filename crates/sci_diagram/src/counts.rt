@@ -4,8 +4,9 @@ ghost use Rattle.sci_diagram.specs.Count.{blocks_in, blocks_of, links_in, links_
 ghost use Rattle.sci_diagram.specs.Tree.{role_of};
 
 use crate::diagram::{Diagram, Obj};
+use crate::sorts::Role;
 
-/// The blocks that are neither superblocks nor pass-through objects, over all levels.
+/// The blocks that are neither superblocks nor pass-through nor tag objects, over all levels.
 #[cycle(count)]
 pub fn count_blocks(d: &Diagram) -> u64
     requires { blocks_in (diagram_view d.now) < 2 ^ 64 }
@@ -37,10 +38,9 @@ fn count_object(obj: &Obj) -> u64
 fn of_kind(gui: &str) -> u64
     ensures { result ≡ one_of_kind (role_of gui.now) }
 {
-    match gui {
-        "IN_f" | "OUT_f" | "CLKINV_f" | "CLKOUTV_f" => 0,
-        "SPLIT_f" | "CLKSPLIT_f" | "CLKSOM_f" | "CLKSOMV_f" => 0,
-        _ => 1,
+    match Role::of(gui) {
+        Role::Kind => 1,
+        Role::Port | Role::Joint | Role::Tag | Role::Super => 0,
     }
 }
 

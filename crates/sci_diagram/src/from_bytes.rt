@@ -1,41 +1,38 @@
 ghost use Rattle.std.specs.Prelude.{◌≡◌, ◌≤◌, Ok, Some, IfOk, IfErr, length, ◌<◌, ◌^◌};
-ghost use Rattle.sci_document.specs.View.{view};
+ghost use Rattle.sci_json.specs.View.{view};
 ghost use Rattle.sci_diagram.specs.Objects.{diagram_view};
 ghost use Rattle.sci_diagram.specs.Reading.{judge_value, IsRead};
 ghost use Rattle.sci_diagram.specs.Count.{counted, objects_in};
 ghost use Rattle.sci_diagram.specs.Weight.{weight};
-ghost use Rattle.sci_diagram.specs.Stops.{Stops};
+ghost use Rattle.sci_base.specs.Stops.{Stops};
+ghost use Rattle.sci_diagram.specs.Telling.{Tells};
 
 use crate::counts::{count_blocks, count_links};
 use crate::diagram::Diagram;
 use crate::fields::too_many;
-use crate::stop::ReadStop;
 use crate::walk::read_diagram;
 use json::Scratch;
-use sci_base::{Refusal, Rule};
-use sci_document::{Document, ParseStop, Value};
+use sci_base::{Refusal, Rule, Stop};
+use sci_json::document::{Document, ParseStop, Value};
 use std::alloc::Global;
 
 /// Reads a diagram from the bytes of its file. Refused are, in this order: bytes that are no JSON (rule 1); in the order of
 /// the objects and of their fields, an absent field, a field of another form, and a superblock at level 17 (rules 2 to 4);
 /// too many blocks, and too many links (rules 5 and 6).
-pub fn read(alloc: Global, bytes: &[u8]) -> Result<Diagram, ReadStop>
+pub fn read(alloc: Global, bytes: &[u8]) -> Result<Diagram, Stop>
     requires short { length bytes.now ≤ 16777216 }
     ensures { IsRead bytes.now result }
 {
     let mut scratch = Scratch::new(alloc);
     match Document::parse(alloc, bytes, &mut scratch) {
         Ok(document) => read_value(alloc, &document.root()),
-        Err(ParseStop::Invalid) => Err(ReadStop::Refused(Refusal::of_the_whole(
-            alloc,
-            Rule::NotJson,
-        ))),
-        Err(ParseStop::Memory) => Err(ReadStop::Memory),
+        Err(ParseStop::Invalid) => Err(Stop::Refused(Refusal::of_the_whole(alloc, Rule::NotJson))),
+        Err(ParseStop::Memory) => Err(Stop::Memory),
     }
 }
 
-#[tactic(auto, using(crate::proofs::Stopping::stops_then))]
-fn read_value(alloc: Global, v: &Value<'_, '_>) -> Result<Diagram, ReadStop>
+#[tactic(auto, using(sci_base::proofs::Stopping::stops_then, crate::proofs::Told::tells_stops))]
+fn read_value(alloc: Global, v: &Value<'_, '_>) -> Result<Diagram, Stop>
     requires light { weight (view v.now) < 2 ^ 32 }
     ensures ok { IfOk result (λ d. judge_value (Some (view v.now)) ≡ Ok (diagram_view d)) }
     ensures stop { IfErr result (λ e. Stops (judge_value (Some (view v.now))) e) }
@@ -44,11 +41,11 @@ fn read_value(alloc: Global, v: &Value<'_, '_>) -> Result<Diagram, ReadStop>
     within_counts(alloc, d)
 }
 
-#[tactic(auto, unfolding(crate::specs::Count::counted), using(crate::proofs::Stopping::stops_violation))]
-fn within_counts(alloc: Global, d: Diagram) -> Result<Diagram, ReadStop>
+#[tactic(auto, unfolding(crate::specs::Count::counted), using(crate::proofs::Told::tells_violation))]
+fn within_counts(alloc: Global, d: Diagram) -> Result<Diagram, Stop>
     requires few { objects_in (diagram_view d) < 2 ^ 32 }
     ensures ok { IfOk result (λ r. counted (diagram_view d) ≡ Ok (diagram_view r)) }
-    ensures stop { IfErr result (λ e. Stops (counted (diagram_view d)) e) }
+    ensures stop { IfErr result (λ e. Tells (counted (diagram_view d)) e) }
 {
     let blocks = count_blocks(&d);
     if blocks > 2048 {

@@ -11,7 +11,6 @@ mod model;
 mod numbers;
 mod pass_through;
 mod sorts;
-mod stop;
 #[cfg(test)]
 mod tests;
 mod walk;
@@ -20,6 +19,5 @@ pub use counts::{count_blocks, count_links};
 pub use diagram::{BlockObj, Diagram, End, LinkObj, Obj};
 pub use from_bytes::read;
 pub use laws::{one_diagram, one_verdict, one_violation};
-pub use pass_through::is_pass_through;
+pub use pass_through::{is_pass_through, is_tag};
 pub use sorts::{Role, Sort};
-pub use stop::ReadStop;

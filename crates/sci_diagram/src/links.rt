@@ -1,22 +1,22 @@
 ghost use Rattle.std.specs.Prelude.{◌≡◌, Ok, IfOk, IfErr};
-ghost use Rattle.sci_document.specs.View.{view};
+ghost use Rattle.sci_json.specs.View.{view};
 ghost use Rattle.sci_diagram.specs.Objects.{link};
 ghost use Rattle.sci_diagram.specs.Numbers.{link_kind};
 ghost use Rattle.sci_diagram.specs.Tree.{link_end, read_link};
-ghost use Rattle.sci_diagram.specs.Stops.{Stops};
+ghost use Rattle.sci_diagram.specs.Telling.{Tells};
 
 use crate::diagram::{End, LinkObj};
 use crate::fields::{missing, wrong};
 use crate::numbers::{end_of, kind_of};
-use crate::stop::ReadStop;
-use sci_document::Value;
+use sci_base::Stop;
+use sci_json::document::Value;
 use std::alloc::Global;
 
-#[tactic(auto, using(crate::proofs::Stopping::stops_then), unfolding(crate::specs::Tree::read_link))]
-pub(crate) fn read_link(alloc: Global, v: &Value<'_, '_>, at: &[u32]) -> Result<LinkObj, ReadStop>
+#[tactic(auto, using(crate::proofs::Told::tells_then), unfolding(crate::specs::Tree::read_link))]
+pub(crate) fn read_link(alloc: Global, v: &Value<'_, '_>, at: &[u32]) -> Result<LinkObj, Stop>
     ensures ok { IfOk result
         (λ l. read_link at.now (view v.now) ≡ Ok (link l.from l.to l.kind)) }
-    ensures stop { IfErr result (λ e. Stops (read_link at.now (view v.now)) e) }
+    ensures stop { IfErr result (λ e. Tells (read_link at.now (view v.now)) e) }
 {
     let from = read_end(alloc, v, "from", 19, 0, at)?;
     let to = read_end(alloc, v, "to", 20, 1, at)?;
@@ -25,6 +25,7 @@ pub(crate) fn read_link(alloc: Global, v: &Value<'_, '_>, at: &[u32]) -> Result<
 }
 
 #[inline]
+#[tactic(auto, using(crate::proofs::Told::tells_violation))]
 fn read_end(
     alloc: Global,
     v: &Value<'_, '_>,
@@ -32,9 +33,9 @@ fn read_end(
     code: i64,
     side: i64,
     at: &[u32],
-) -> Result<End, ReadStop>
+) -> Result<End, Stop>
     ensures ok { IfOk result (λ e. link_end at.now code side name.now (view v.now) ≡ Ok e) }
-    ensures stop { IfErr result (λ e. Stops (link_end at.now code side name.now (view v.now)) e) }
+    ensures stop { IfErr result (λ e. Tells (link_end at.now code side name.now (view v.now)) e) }
 {
     match v.get(name) {
         None => Err(missing(alloc, at, code)),
@@ -46,9 +47,10 @@ fn read_end(
 }
 
 #[inline]
-fn read_kind(alloc: Global, v: &Value<'_, '_>, at: &[u32]) -> Result<i64, ReadStop>
+#[tactic(auto, using(crate::proofs::Told::tells_violation))]
+fn read_kind(alloc: Global, v: &Value<'_, '_>, at: &[u32]) -> Result<i64, Stop>
     ensures ok { IfOk result (λ k. link_kind at.now (view v.now) ≡ Ok k) }
-    ensures stop { IfErr result (λ e. Stops (link_kind at.now (view v.now)) e) }
+    ensures stop { IfErr result (λ e. Tells (link_kind at.now (view v.now)) e) }
 {
     match v.get("ct") {
         None => Err(missing(alloc, at, 21)),

@@ -1,18 +1,19 @@
 ghost use Rattle.std.specs.Prelude.{◌≡◌, ◌^◌, ◌<◌, Ok, IfOk, IfErr, codes, option_map};
 ghost use Rattle.serde_json.specs.Find.{get};
-ghost use Rattle.sci_base.specs.Plain.{fields_of};
-ghost use Rattle.sci_document.specs.View.{view};
-ghost use Rattle.sci_json.specs.Field.{field, as_flags};
-ghost use Rattle.sci_diagram.specs.Tree.{is_super_name, sim_name, is_super, list_where, inner_there, flags_of, count_of, read_fields};
-ghost use Rattle.sci_diagram.specs.Stops.{Stops};
+ghost use Rattle.sci_base.specs.Plain.{dep_of, fields_of};
+ghost use Rattle.sci_json.specs.View.{view};
+ghost use Rattle.sci_json.specs.Field.{field, as_dep};
+ghost use Rattle.sci_diagram.specs.Tree.{is_super_name, sim_name, is_super, list_where, inner_there, dep_at, count_of, read_fields};
+ghost use Rattle.sci_base.specs.Stops.{Stops};
+ghost use Rattle.sci_diagram.specs.Telling.{Tells};
 ghost use Rattle.sci_diagram.specs.Weight.{weight};
 
 use crate::fields::{missing, optional_ints, small_ints, wrong};
 use crate::numbers::small_count;
 use crate::sorts::Role;
-use crate::stop::ReadStop;
-use sci_base::BlockFields;
-use sci_document::Value;
+use sci_base::{BlockFields, Dep, Stop};
+use sci_json::FieldStop;
+use sci_json::document::Value;
 use std::alloc::Global;
 
 fn is_super_name(name: &str) -> bool
@@ -31,11 +32,12 @@ fn sim_name<'a>(v: &Value<'_, 'a>) -> Option<&'a str>
 }
 
 /// Whether the block is a superblock.
-pub(crate) fn is_super(alloc: Global, model: &Value<'_, '_>, at: &[u32]) -> Result<bool, ReadStop>
+#[tactic(auto, using(crate::proofs::Told::tells_violation))]
+pub(crate) fn is_super(alloc: Global, model: &Value<'_, '_>, at: &[u32]) -> Result<bool, Stop>
     ensures ok { IfOk result
         (λ b. is_super at.now (field sim_name (codes "sim") (view model.now)) ≡ Ok b) }
     ensures stop { IfErr result
-        (λ e. Stops (is_super at.now (field sim_name (codes "sim") (view model.now))) e) }
+        (λ e. Tells (is_super at.now (field sim_name (codes "sim") (view model.now))) e) }
 {
     match model.get("sim") {
         None => Ok(false),
@@ -54,7 +56,7 @@ fn ints_where(
     name: &str,
     code: i64,
     at: &[u32],
-) -> Result<Vec<i64>, ReadStop>
+) -> Result<Vec<i64>, Stop>
     ensures ok { IfOk result
         (λ xs. list_where looked_at at.now code name.now (view v.now) ≡ Ok xs.items) }
     ensures stop { IfErr result
@@ -68,9 +70,10 @@ fn ints_where(
 }
 
 #[inline(always)]
-fn inner_there(alloc: Global, role: Role, model: &Value<'_, '_>, at: &[u32]) -> Result<(), ReadStop>
+#[tactic(auto, using(crate::proofs::Told::tells_violation))]
+fn inner_there(alloc: Global, role: Role, model: &Value<'_, '_>, at: &[u32]) -> Result<(), Stop>
     ensures ok { IfOk result (λ u. inner_there role at.now (view model.now) ≡ Ok u) }
-    ensures stop { IfErr result (λ e. Stops (inner_there role at.now (view model.now)) e) }
+    ensures stop { IfErr result (λ e. Tells (inner_there role at.now (view model.now)) e) }
 {
     match role {
         Role::Super => match model.get("rpar") {
@@ -82,33 +85,25 @@ fn inner_there(alloc: Global, role: Role, model: &Value<'_, '_>, at: &[u32]) -> 
 }
 
 #[inline(always)]
-fn dep_flags(
-    alloc: Global,
-    model: &Value<'_, '_>,
-    at: &[u32],
-) -> Result<Option<(bool, bool)>, ReadStop>
+fn dep_ut(alloc: Global, model: &Value<'_, '_>, at: &[u32]) -> Result<Option<Dep>, Stop>
     ensures ok { IfOk result
-        (λ o. flags_of at.now (field as_flags (codes "dep_ut") (view model.now)) ≡ Ok o) }
+        (λ o. dep_at at.now (field as_dep (codes "dep_ut") (view model.now)) ≡ Ok (dep_of o)) }
     ensures stop { IfErr result
-        (λ e. Stops (flags_of at.now (field as_flags (codes "dep_ut") (view model.now))) e) }
+        (λ e. Stops (dep_at at.now (field as_dep (codes "dep_ut") (view model.now))) e) }
 {
-    match sci_json::flags(model, "dep_ut") {
-        Ok(o) => Ok(o),
+    match sci_json::dep(alloc, model, "dep_ut") {
+        Ok(dep) => Ok(dep),
+        Err(FieldStop::Memory) => Err(Stop::Memory),
         Err(_) => Err(wrong(alloc, at, 18)),
     }
 }
 
 #[inline(always)]
-fn count(
-    alloc: Global,
-    v: &Value<'_, '_>,
-    name: &str,
-    code: i64,
-    at: &[u32],
-) -> Result<u32, ReadStop>
+#[tactic(auto, using(crate::proofs::Told::tells_violation))]
+fn count(alloc: Global, v: &Value<'_, '_>, name: &str, code: i64, at: &[u32]) -> Result<u32, Stop>
     requires light { weight (view v.now) < 2 ^ 32 }
     ensures ok { IfOk result (λ n. count_of at.now code name.now (view v.now) ≡ Ok n) }
-    ensures stop { IfErr result (λ e. Stops (count_of at.now code name.now (view v.now)) e) }
+    ensures stop { IfErr result (λ e. Tells (count_of at.now code name.now (view v.now)) e) }
 {
     match v.get(name) {
         None => Ok(0),
@@ -120,13 +115,13 @@ fn count(
 }
 
 /// What a block's model says.
-#[tactic(auto, using(crate::proofs::Stopping::stops_then), unfolding(crate::specs::Tree::read_fields))]
+#[tactic(auto, using(sci_base::proofs::Stopping::stops_then, crate::proofs::Told::told_then), unfolding(crate::specs::Tree::read_fields))]
 pub(crate) fn read_fields(
     alloc: Global,
     role: Role,
     model: &Value<'_, '_>,
     at: &[u32],
-) -> Result<BlockFields, ReadStop>
+) -> Result<BlockFields, Stop>
     requires light { weight (view model.now) < 2 ^ 32 }
     ensures ok { IfOk result
         (λ f. read_fields role at.now (view model.now) ≡ Ok (fields_of f)) }
@@ -144,7 +139,7 @@ pub(crate) fn read_fields(
     inner_there(alloc, role, model, at)?;
     let ipar = ints_where(alloc, role.keeps_ipar(), model, "ipar", 16, at)?;
     let firing = ints_where(alloc, role.keeps_state(), model, "firing", 17, at)?;
-    let dep = dep_flags(alloc, model, at)?;
+    let dep = dep_ut(alloc, model, at)?;
     Ok(BlockFields {
         ins,
         in2,

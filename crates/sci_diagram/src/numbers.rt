@@ -1,13 +1,13 @@
 // The numbers of a field, looked at where they stand: no list is made of them.
 ghost use Rattle.std.specs.Prelude.{◌≡◌, ◌<◌, ◌^◌};
-ghost use Rattle.sci_document.specs.View.{view, items_view};
+ghost use Rattle.sci_json.specs.View.{view, items_view};
 ghost use Rattle.sci_json.specs.Field.{whole, wholes};
 ghost use Rattle.sci_diagram.specs.Numbers.{small_whole, all_whole, count_small, small_count, side_in, as_end, as_kind};
 ghost use Rattle.sci_diagram.specs.Weight.{weight, items_weight};
 
 use crate::diagram::End;
 use crate::fields::is_small;
-use sci_document::{Items, Value};
+use sci_json::document::{Items, Value};
 
 fn is_small_number(v: &Value<'_, '_>) -> bool
     ensures { result ≡ small_whole (whole (view v.now)) }

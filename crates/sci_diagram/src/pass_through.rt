@@ -1,6 +1,6 @@
-// Pass-through objects.
+// Pass-through objects and tag objects.
 ghost use Rattle.std.specs.Prelude.{◌≡◌};
-ghost use Rattle.sci_diagram.specs.Tree.{is_pass_through};
+ghost use Rattle.sci_diagram.specs.Tree.{is_pass_through, is_tag};
 
 use crate::sorts::Role;
 
@@ -9,4 +9,11 @@ pub fn is_pass_through(gui: &str) -> bool
     ensures { result ≡ is_pass_through gui.now }
 {
     matches!(Role::of(gui), Role::Port | Role::Joint)
+}
+
+/// Whether a name is that of a tag object, an end of a link that isn't drawn: GOTO, FROM, CLKGOTO or CLKFROM.
+pub fn is_tag(gui: &str) -> bool
+    ensures { result ≡ is_tag gui.now }
+{
+    matches!(gui, "GOTO" | "FROM" | "CLKGOTO" | "CLKFROM")
 }

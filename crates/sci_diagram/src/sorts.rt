@@ -1,12 +1,12 @@
 ghost use Rattle.std.specs.Prelude.{◌≡◌, Ok, IfOk, IfErr, Some};
 ghost use Rattle.serde_json.specs.Find.{get};
-ghost use Rattle.sci_document.specs.View.{view};
-ghost use Rattle.sci_diagram.specs.Stops.{Stops};
+ghost use Rattle.sci_json.specs.View.{view};
+ghost use Rattle.sci_diagram.specs.Telling.{Tells};
 ghost use Rattle.sci_diagram.specs.Tree.{sort_of, as_sort, read_sort};
 
 use crate::fields::{missing, required_text, wrong};
-use crate::stop::ReadStop;
-use sci_document::Value;
+use sci_base::Stop;
+use sci_json::document::Value;
 use std::alloc::Global;
 
 /// What an object is.
@@ -27,6 +27,8 @@ pub enum Role {
     Port,
     /// A split or a union: SPLIT_f, CLKSPLIT_f, CLKSOM_f, CLKSOMV_f.
     Joint,
+    /// An end of a link that isn't drawn: GOTO, FROM, CLKGOTO, CLKFROM.
+    Tag,
     /// A superblock.
     Super,
 }
@@ -41,6 +43,7 @@ impl Role {
         match gui {
             "IN_f" | "OUT_f" | "CLKINV_f" | "CLKOUTV_f" => Role::Port,
             "SPLIT_f" | "CLKSPLIT_f" | "CLKSOM_f" | "CLKSOMV_f" => Role::Joint,
+            "GOTO" | "FROM" | "CLKGOTO" | "CLKFROM" => Role::Tag,
             _ => Role::Kind,
         }
     }
@@ -56,7 +59,7 @@ impl Role {
     pub fn keeps_ipar(self) -> bool
         ensures { result ≡ keeps_ipar self }
     {
-        matches!(self, Role::Kind | Role::Port)
+        matches!(self, Role::Kind | Role::Port | Role::Tag)
     }
 }
 
@@ -78,10 +81,10 @@ fn as_sort(v: &Value<'_, '_>) -> Option<Sort>
     sort_of(v.as_str()?)
 }
 
-#[tactic(auto, unfolding(crate::specs::Tree::read_sort))]
-pub(crate) fn read_sort(alloc: Global, v: &Value<'_, '_>, at: &[u32]) -> Result<Sort, ReadStop>
+#[tactic(auto, using(crate::proofs::Told::tells_violation), unfolding(crate::specs::Tree::read_sort))]
+pub(crate) fn read_sort(alloc: Global, v: &Value<'_, '_>, at: &[u32]) -> Result<Sort, Stop>
     ensures ok { IfOk result (λ s. read_sort at.now (view v.now) ≡ Ok s) }
-    ensures stop { IfErr result (λ e. Stops (read_sort at.now (view v.now)) e) }
+    ensures stop { IfErr result (λ e. Tells (read_sort at.now (view v.now)) e) }
 {
     if !v.is_object() {
         return Err(wrong(alloc, at, 2));

@@ -1,12 +1,12 @@
-use crate::{Diagram, Obj, ReadStop, is_pass_through, read};
-use sci_base::{Refusal, Rule};
-use std::alloc::{AllocError, Global};
+use crate::{Diagram, Obj, is_pass_through, is_tag, read};
+use sci_base::{NoMemory, Refusal, Rule, Stop};
+use std::alloc::Global;
 use std::process::Abort;
 use std::test::Fail;
 
-fn refusal_of(rt: &impl Abort, answer: Result<Diagram, ReadStop>) -> Refusal {
+fn refusal_of(rt: &impl Abort, answer: Result<Diagram, Stop>) -> Refusal {
     match answer {
-        Err(ReadStop::Refused(refusal)) => refusal,
+        Err(Stop::Refused(refusal)) => refusal,
         _ => panic!(rt; "not refused"),
     }
 }
@@ -33,7 +33,7 @@ fn repeated(
     again: &str,
     times: u32,
     last: &str,
-) -> Result<String, AllocError> {
+) -> Result<String, NoMemory> {
     let mut text = String::from_str(alloc, first)?;
     for _ in 0..times {
         text.push_str(again)?;
@@ -43,7 +43,7 @@ fn repeated(
 }
 
 /// The text of a diagram inside so many superblocks, each in the one around it.
-fn nested(alloc: Global, times: u32, inner: &str) -> Result<String, AllocError> {
+fn nested(alloc: Global, times: u32, inner: &str) -> Result<String, NoMemory> {
     let head = repeated(
         alloc,
         "",
@@ -75,6 +75,7 @@ fn reads_a_superblock_among_blocks_and_links(rt: HostRuntime) -> Result<(), Fail
         _ => panic!(&rt; "no link"),
     }
     assert!(rt; is_pass_through("CLKSOM_f") && !is_pass_through("CLKIN_f"));
+    assert!(rt; is_tag("CLKGOTO") && !is_tag("GotoTagVisibility"));
     Ok(())
 }
 
@@ -177,6 +178,21 @@ fn refuses_fields_of_another_form(rt: HostRuntime) {
             &[1],
             18,
         ),
+        (
+            r#"{"objs":[{"obj":"Block","gui":"x","model":{"dep_ut":[[],true,0]}}]}"#,
+            &[1],
+            18,
+        ),
+        (
+            r#"{"objs":[{"obj":"Block","gui":"x","model":{"dep_ut":null}}]}"#,
+            &[1],
+            18,
+        ),
+        (
+            r#"{"objs":[{"obj":"Block","gui":"GOTO","model":{"ipar":"7"}}]}"#,
+            &[1],
+            16,
+        ),
         (r#"{"objs":[{"obj":"Link","from":[1]}]}"#, &[1], 19),
         (
             r#"{"objs":[{"obj":"Link","from":[1,1],"to":[1,1,1,1]}]}"#,
@@ -216,6 +232,7 @@ fn accepts_what_is_not_looked_at(rt: HostRuntime) {
         r#"{"objs":[{"obj":"Block","gui":"x","model":{"sim":"other","rpar":3,"in":-2147483648}}]}"#,
         r#"{"objs":[{"obj":"Block","gui":"SPLIT_f","model":{"dstate":"","ipar":"","firing":""}}]}"#,
         r#"{"objs":[{"obj":"Block","gui":"IN_f","model":{"dstate":"","ipar":1,"firing":""}}]}"#,
+        r#"{"objs":[{"obj":"Block","gui":"GOTO","model":{"dstate":"","ipar":[7,1],"firing":""}}]}"#,
         r#"{"objs":[{"obj":"Block","gui":"IN_f","model":{"sim":"super","rpar":{"objs":[]},"ipar":""}}]}"#,
     ] {
         accepted(&rt, alloc, text);
@@ -239,7 +256,8 @@ fn refuses_level_17(rt: HostRuntime) -> Result<(), Fail> {
 #[test]
 fn refuses_too_many_blocks_and_links(rt: HostRuntime) -> Result<(), Fail> {
     let alloc = rt.alloc();
-    let first = r#"{"objs":[{"obj":"Block","gui":"IN_f","model":{}}"#;
+    let first =
+        r#"{"objs":[{"obj":"Block","gui":"IN_f","model":{}},{"obj":"Block","gui":"FROM","model":{}}"#;
     let block = r#",{"obj":"Block","gui":"x","model":{}}"#;
     let link = r#",{"obj":"Link","from":[1,1],"to":[1,1],"ct":[1,1]}"#;
     for (again, rule, most, over) in [

@@ -1,9 +1,10 @@
 ghost use Rattle.std.specs.Prelude.{◌≡◌, ◌^◌, ◌<◌, ◌≤◌, ◌++◌, ◌∷◌, [], Ok, IfOk, IfErr, pos, codes, map, Some, None, if◌then◌else◌};
-ghost use Rattle.sci_document.specs.View.{view, items_view};
+ghost use Rattle.sci_json.specs.View.{view, items_view};
 ghost use Rattle.sci_json.specs.Field.{field};
 ghost use Rattle.sci_diagram.specs.Objects.{objects_of, object_view, block_view, diagram_view};
 ghost use Rattle.sci_diagram.specs.Tree.{required, whole_object, read_block, read_object, walk, list_of, diagram_at};
-ghost use Rattle.sci_diagram.specs.Stops.{Stops};
+ghost use Rattle.sci_base.specs.Stops.{Stops};
+ghost use Rattle.sci_diagram.specs.Telling.{Tells};
 ghost use Rattle.sci_diagram.specs.Weight.{weight, items_weight};
 
 use crate::diagram::{BlockObj, Diagram, Obj};
@@ -11,21 +12,21 @@ use crate::fields::{missing, required_text, too_deep, wrong};
 use crate::links::read_link;
 use crate::model::{is_super, read_fields};
 use crate::sorts::{Role, Sort, read_sort};
-use crate::stop::ReadStop;
-use sci_document::{Items, Value};
+use sci_base::Stop;
 use sci_json::FieldStop;
+use sci_json::document::{Items, Value};
 use smallvec::SmallVec;
 use std::alloc::Global;
 
 /// The diagram at a place, where `left` levels are left.
 #[cycle(walk)]
-#[tactic(auto, using(crate::proofs::Stopping::stops_then))]
+#[tactic(auto, using(sci_base::proofs::Stopping::stops_then))]
 pub(crate) fn read_diagram(
     alloc: Global,
     v: &Value<'_, '_>,
     at: &[u32],
     left: u32,
-) -> Result<Diagram, ReadStop>
+) -> Result<Diagram, Stop>
     requires light { weight (view v.now) < 2 ^ 32 }
     requires levels { left ≤ 16 }
     ensures ok { IfOk result
@@ -47,7 +48,7 @@ fn read_objs(
     mut items: Items<'_, '_>,
     at: &[u32],
     left: u32,
-) -> Result<Vec<Obj>, ReadStop>
+) -> Result<Vec<Obj>, Stop>
     requires light { items_weight (items_view items) < 2 ^ 32 }
     requires levels { left ≤ 16 }
     ensures ok { IfOk result (λ os. walk (diagram_at left) at.now 1 (items_view items.entry)
@@ -65,8 +66,8 @@ fn read_objs(
 
 /// One object.
 #[cycle(walk)]
-#[tactic(auto, using(crate::proofs::Stopping::stops_then), unfolding(crate::specs::Tree::read_object))]
-fn read_obj(alloc: Global, v: &Value<'_, '_>, at: &[u32], left: u32) -> Result<Obj, ReadStop>
+#[tactic(auto, using(sci_base::proofs::Stopping::stops_then, crate::proofs::Told::told_then), unfolding(crate::specs::Tree::read_object))]
+fn read_obj(alloc: Global, v: &Value<'_, '_>, at: &[u32], left: u32) -> Result<Obj, Stop>
     requires light { weight (view v.now) < 2 ^ 32 }
     requires levels { left ≤ 16 }
     ensures ok { IfOk result
@@ -84,8 +85,8 @@ fn read_obj(alloc: Global, v: &Value<'_, '_>, at: &[u32], left: u32) -> Result<O
 
 /// A block, with what is inside a superblock.
 #[cycle(walk)]
-#[tactic(auto, using(crate::proofs::Stopping::stops_then), unfolding(crate::specs::Tree::read_block))]
-fn read_block(alloc: Global, v: &Value<'_, '_>, at: &[u32], left: u32) -> Result<BlockObj, ReadStop>
+#[tactic(auto, using(sci_base::proofs::Stopping::stops_then, crate::proofs::Told::told_then), unfolding(crate::specs::Tree::read_block))]
+fn read_block(alloc: Global, v: &Value<'_, '_>, at: &[u32], left: u32) -> Result<BlockObj, Stop>
     requires light { weight (view v.now) < 2 ^ 32 }
     requires levels { left ≤ 16 }
     ensures ok { IfOk result
@@ -117,19 +118,19 @@ fn read_block(alloc: Global, v: &Value<'_, '_>, at: &[u32], left: u32) -> Result
 }
 
 // The place of the object at a position of the diagram at a place. It is short enough to stand in line at every level.
-fn child(alloc: Global, at: &[u32], position: u32) -> Result<SmallVec<u32, 16, Global>, ReadStop>
+fn child(alloc: Global, at: &[u32], position: u32) -> Result<SmallVec<u32, 16, Global>, Stop>
     ensures ok { IfOk result (λ p. p.items ≡ at.now ++ position ∷ []) }
-    ensures stop { IfErr result (λ e. e ≡ ReadStop.Memory) }
+    ensures stop { IfErr result (λ e. e ≡ Stop.Memory) }
 {
     let mut path = SmallVec::from_slice(alloc, at)?;
     path.push(position)?;
     Ok(path)
 }
 
-#[tactic(auto, unfolding(crate::specs::Tree::list_of))]
-fn list_of<'t, 'a>(alloc: Global, v: &Value<'t, 'a>, at: &[u32]) -> Result<Items<'t, 'a>, ReadStop>
+#[tactic(auto, using(crate::proofs::Told::tells_violation), unfolding(crate::specs::Tree::list_of))]
+fn list_of<'t, 'a>(alloc: Global, v: &Value<'t, 'a>, at: &[u32]) -> Result<Items<'t, 'a>, Stop>
     ensures ok { IfOk result (λ s. list_of at.now (view v.now) ≡ Ok (items_view s)) }
-    ensures stop { IfErr result (λ e. Stops (list_of at.now (view v.now)) e) }
+    ensures stop { IfErr result (λ e. Tells (list_of at.now (view v.now)) e) }
 {
     if !v.is_object() {
         return Err(wrong(alloc, at, 1));
@@ -138,15 +139,16 @@ fn list_of<'t, 'a>(alloc: Global, v: &Value<'t, 'a>, at: &[u32]) -> Result<Items
         Ok(items) => Ok(items),
         Err(FieldStop::Missing) => Err(missing(alloc, at, 1)),
         Err(FieldStop::Wrong) => Err(wrong(alloc, at, 1)),
-        Err(FieldStop::Memory) => Err(ReadStop::Memory),
+        Err(FieldStop::Memory) => Err(Stop::Memory),
     }
 }
 
-fn model_of<'t, 'a>(alloc: Global, v: &Value<'t, 'a>, at: &[u32]) -> Result<Value<'t, 'a>, ReadStop>
+#[tactic(auto, using(crate::proofs::Told::tells_violation))]
+fn model_of<'t, 'a>(alloc: Global, v: &Value<'t, 'a>, at: &[u32]) -> Result<Value<'t, 'a>, Stop>
     ensures ok { IfOk result
         (λ m. required at.now (pos 4) (field whole_object (codes "model") (view v.now)) ≡ Ok (view m)) }
     ensures stop { IfErr result
-        (λ e. Stops (required at.now (pos 4) (field whole_object (codes "model") (view v.now))) e) }
+        (λ e. Tells (required at.now (pos 4) (field whole_object (codes "model") (view v.now))) e) }
 {
     match v.get("model") {
         None => Err(missing(alloc, at, 4)),

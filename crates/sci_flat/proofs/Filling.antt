@@ -6,17 +6,17 @@ use Rattle.std.specs.List.{range_with_len}
 use Rattle.std.proofs.lemmas.Bool.Decides.{eqb_tells, nat_tests}
 use Rattle.std.specs.declared.alloc.Global.{Global}
 use Rattle.sci_net.specs.Parts.{rows_of}
-use Rattle.sci_reach.specs.Lists.{plain, list_at}
-use Rattle.sci_reach.proofs.Filling.{list_at-plain}
+use Rattle.sci_flat.specs.Lists.{plain, list_at}
+use Rattle.sci_flat.proofs.ReachFilling.{list_at-plain}
 use Rattle.std.proofs.lemmas.Bool.{cases_lt}
 use Rattle.std.proofs.lemmas.List.{drop_more, map-append, length_push, get_or_push, get_or_append_left, get_or_default, map_push, nil_from_length}
 use Rattle.sci_net.specs.declared.Wire.{Wire}
 use Rattle.sci_net.specs.declared.Feed.{Feed}
-use Rattle.sci_parts.specs.declared.class.PortClass.{PortClass}
-use Rattle.sci_parts.specs.declared.class.PortClass.TheVariants.{Input, ActivationInput}
+use Rattle.sci_blocks.specs.declared.class.PortClass.{PortClass}
+use Rattle.sci_blocks.specs.declared.class.PortClass.TheVariants.{Input, ActivationInput}
 use Rattle.sci_forms.specs.declared.spec.Spec.{Spec}
-use Rattle.sci_steps.specs.declared.seat.Seat.{Seat}
-use Rattle.sci_steps.specs.Seat.{count}
+use Rattle.sci_flat.specs.declared.steps.seat.Seat.{Seat}
+use Rattle.sci_flat.specs.Seat.{count}
 use Rattle.sci_flat.specs.Ends.{end_of, seat_numbers, seat_ends, numbers_of, ends_of}
 use Rattle.sci_flat.specs.Wired.{feed_at, wire_at, no_wire, input_list, activation_list, AreWires, IsFirstUnfed, AreFeeds, seat_of, IsTakenAt, IsSoundAt, AllWired, AllFed}
 

@@ -7,4 +7,25 @@ pub mod Net
 pub mod Whole
 pub mod Making
 pub mod Reading
+pub mod PortCount
+pub mod Room
 pub mod Verdicts
+pub mod ReachFilling
+pub mod Leading
+pub mod Searching
+pub mod ReachReaching
+pub mod Listing
+pub mod Valid
+pub mod Naming
+pub mod Walking
+pub mod Finding
+pub mod Placing
+pub mod StepsWhole
+mod Lists
+mod Leads
+pub mod OneBefore
+mod Before
+mod SingleBlocks
+pub mod Source
+pub mod Origins
+pub mod Sharing

@@ -12,24 +12,24 @@ use Rattle.sci_forms.specs.declared.spec.Spec.{Spec}
 use Rattle.sci_check.specs.Laws.{CheckedLaw}
 use Rattle.sci_net.specs.declared.Wire.{Wire}
 use Rattle.sci_net.specs.declared.Feed.{Feed}
-use Rattle.sci_net.specs.Parts.{no_spec, paths_of, rows_of, feed_rows_of, parts_of as net_parts}
-use Rattle.sci_parts.specs.declared.class.PortClass.{PortClass}
-use Rattle.sci_parts.specs.declared.class.PortClass.TheVariants.{Input, Output, ActivationInput, ActivationOutput}
-use Rattle.sci_parts.specs.Blocks.{Placed, placed, parts_in, parts_of}
-use Rattle.sci_parts.specs.Wiring.{links_of}
-use Rattle.sci_reach.specs.Lists.{list_at}
-use Rattle.sci_steps.specs.declared.seat.Seat.{Seat}
-use Rattle.sci_steps.specs.declared.numbered.Numbered.{Numbered}
-use Rattle.sci_steps.specs.Seat.{start, count, no_seat}
-use Rattle.sci_steps.specs.Numbered.{IsNumbered}
-use Rattle.sci_steps.proofs.Valid.{then_ok, tree_ok}
-use Rattle.sci_flat.specs.declared.stop.FlatStop.{FlatStop}
-use Rattle.sci_flat.specs.declared.stop.FlatStop.TheVariants.{Refused, Memory}
+use Rattle.sci_net.specs.Parts.{no_spec, paths_of, rows_of, parts_of as net_parts}
+use Rattle.sci_blocks.specs.declared.class.PortClass.{PortClass}
+use Rattle.sci_blocks.specs.declared.class.PortClass.TheVariants.{Input, Output, ActivationInput, ActivationOutput}
+use Rattle.sci_blocks.specs.Blocks.{Placed, placed, parts_in, parts_of}
+use Rattle.sci_blocks.specs.Wiring.{links_of}
+use Rattle.sci_flat.specs.Lists.{list_at}
+use Rattle.sci_flat.specs.declared.steps.seat.Seat.{Seat}
+use Rattle.sci_flat.specs.declared.steps.numbered.Numbered.{Numbered}
+use Rattle.sci_flat.specs.Seat.{start, count, no_seat}
+use Rattle.sci_flat.specs.Numbered.{IsNumbered}
+use Rattle.sci_flat.proofs.Valid.{then_ok, tree_ok}
+use Rattle.sci_base.specs.declared.stop.Stop.{Stop}
+use Rattle.sci_base.specs.declared.stop.Stop.TheVariants.{Refused, Memory}
 use Rattle.sci_flat.specs.Ends.{IsInside, AreFeeding}
 use Rattle.sci_flat.specs.Wired.{seat_of, AllWired, AllFed, BreaksAt}
 use Rattle.sci_flat.specs.Placed.{placed_all}
 use Rattle.sci_flat.specs.Ready.{IsReady}
-use Rattle.sci_flat.specs.Stops.{StopsBy}
+use Rattle.sci_base.specs.Stops.{StopsBy}
 use Rattle.sci_flat.specs.Answer.{IsFlattened}
 use Rattle.sci_flat.specs.Refused.{Breaks}
 use Rattle.sci_flat.specs.Flat.{blocks}
@@ -104,12 +104,12 @@ inside_lists ss ports m c all e b k h l = let low = all b (no_seat 0) h c k l in
 
 -- ---- the answers
 
-pub stop_flattened : (t : Objects) (P : Violation → Type 0) (e : FlatStop) → ((v : Violation) → P v → Breaks t v) → StopsBy P e → IsFlattened t (Err e)
+pub stop_flattened : (t : Objects) (P : Violation → Type 0) (e : Stop) → ((v : Violation) → P v → Breaks t v) → StopsBy P e → IsFlattened t (Err e)
 stop_flattened t P (Refused r) f s = f (violation_of r) s
 stop_flattened t P Memory f s = tt
 
 pub wires_stop : (t : Objects) (specs : List Spec) (places : List Place) (n : Numbered) (num : IsNumbered t (placed_all specs places) n) → blocks t ≡ Ok (placed_all specs places) → length places ≡ length specs → (ss : List Seat) (es : List (ℕ × ℕ)) → ss ≡ n.blocks.items → es ≡ n.steps.items
-    → (feeds : List Feed) (lists : List (List ℕ)) → AreFeeding ss es n.ports Output Input feeds lists → (specs' : List Spec) (places' : List Place) → specs' ≡ specs → places' ≡ places → (e : FlatStop) → StopsBy (BreaksAt lists ss specs' (paths_of places')) e → IsFlattened t (Err e)
+    → (feeds : List Feed) (lists : List (List ℕ)) → AreFeeding ss es n.ports Output Input feeds lists → (specs' : List Spec) (places' : List Place) → specs' ≡ specs → places' ≡ places → (e : Stop) → StopsBy (BreaksAt lists ss specs' (paths_of places')) e → IsFlattened t (Err e)
 wires_stop t specs places n num found long ss es ss_is es_is feeds lists fed specs' places' specs_is places_is e s =
     let ps = placed_all specs places in
     let P : List Seat → Type 0 = λ x. AreFeeding x es n.ports Output Input feeds lists in
@@ -123,7 +123,7 @@ wires_stop t specs places n num found long ss es ss_is es_is feeds lists fed spe
 
 pub made : CheckedLaw → (t : Objects) (specs : List Spec) (places : List Place) (n : Numbered) → IsReady t → IsNumbered t (placed_all specs places) n → blocks t ≡ Ok (placed_all specs places) → length places ≡ length specs → (ss : List Seat) (es : List (ℕ × ℕ)) → ss ≡ n.blocks.items → es ≡ n.steps.items
     → (feeds : List Feed) (lists : List (List ℕ)) → AreFeeding ss es n.ports Output Input feeds lists → (specs' : List Spec) → specs' ≡ specs → (wires : List (Vec Wire Global)) → AllWired feeds lists ss specs' (length ss) (rows_of wires)
-    → (acts : List Feed) (act_lists : List (List ℕ)) → AreFeeding ss es n.ports ActivationOutput ActivationInput acts act_lists → (rows : List (Vec (Vec Feed Global) Global)) → AllFed acts act_lists ss (length ss) (feed_rows_of rows)
+    → (acts : List Feed) (act_lists : List (List ℕ)) → AreFeeding ss es n.ports ActivationOutput ActivationInput acts act_lists → (rows : List (List (List Feed))) → AllFed acts act_lists ss (length ss) rows
     → Made t (placed_all specs places) n (net_parts specs places wires rows)
 made law t specs places n ready num found long ss es ss_is es_is feeds lists fed specs' specs_is wires wired acts act_lists act_fed rows all =
     let P : List Seat → Type 0 = λ x. AreFeeding x es n.ports Output Input feeds lists in
@@ -132,7 +132,7 @@ made law t specs places n ready num found long ss es ss_is es_is feeds lists fed
     let S : List (ℕ × ℕ) → Type 0 = λ x. AreFeeding n.blocks.items x n.ports ActivationOutput ActivationInput acts act_lists in
     let A : List Seat → Type 0 = λ x. AllWired feeds lists x specs' (length x) (rows_of wires) in
     let B : List Spec → Type 0 = λ x. AllWired feeds lists n.blocks.items x (length n.blocks.items) (rows_of wires) in
-    let C : List Seat → Type 0 = λ x. AllFed acts act_lists x (length x) (feed_rows_of rows) in
+    let C : List Seat → Type 0 = λ x. AllFed acts act_lists x (length x) rows in
     record {
       num = num;
       blocks = found;

@@ -9,16 +9,16 @@ use Rattle.std.proofs.lemmas.List.FromFn.{length-range_with_len, get_or-range_wi
 use Rattle.sci_diagram.specs.Objects.{Objects}
 use Rattle.sci_net.specs.declared.Feed.{Feed}
 use Rattle.sci_net.specs.Parts.{precedes}
-use Rattle.sci_parts.specs.declared.class.PortClass.{PortClass}
-use Rattle.sci_parts.specs.Blocks.{Placed, placed}
+use Rattle.sci_blocks.specs.declared.class.PortClass.{PortClass}
+use Rattle.sci_blocks.specs.Blocks.{Placed, placed}
 use Rattle.sci_net.specs.Parts.{no_spec}
-use Rattle.sci_reach.specs.Chain.{Step, Chain, stay, onward, AllWithin}
-use Rattle.sci_reach.specs.Lists.{list_at}
-use Rattle.sci_steps.specs.declared.seat.Seat.{Seat}
-use Rattle.sci_steps.specs.declared.numbered.Numbered.{Numbered}
-use Rattle.sci_steps.specs.Seat.{start, count, no_seat}
-use Rattle.sci_steps.specs.Ports.{Port, port, PortStep}
-use Rattle.sci_steps.specs.Numbered.{no_port, named_step, IsSeat, IsNumbered}
+use Rattle.sci_flat.specs.Chain.{Step, Chain, stay, onward, AllWithin}
+use Rattle.sci_flat.specs.Lists.{list_at}
+use Rattle.sci_flat.specs.declared.steps.seat.Seat.{Seat}
+use Rattle.sci_flat.specs.declared.steps.numbered.Numbered.{Numbered}
+use Rattle.sci_flat.specs.Seat.{start, count, no_seat}
+use Rattle.sci_flat.specs.Ports.{Port, port, PortStep}
+use Rattle.sci_flat.specs.Numbered.{no_port, named_step, IsSeat, IsNumbered}
 use Rattle.sci_flat.specs.Ends.{end_of, seat_numbers, seat_ends, numbers_of, ends_of, AreFeeding}
 use Rattle.sci_flat.specs.Wired.{feed_at, seat_of}
 use Rattle.sci_flat.specs.Flat.{block_at, FedBy}

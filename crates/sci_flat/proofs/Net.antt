@@ -10,12 +10,12 @@ use Rattle.sci_forms.specs.declared.spec.Spec.{Spec}
 use Rattle.sci_net.specs.declared.Wire.{Wire}
 use Rattle.sci_net.specs.declared.Feed.{Feed}
 use Rattle.sci_net.specs.Parts.{no_spec, precedes, AreRising, is_sensor, column_of}
-use Rattle.sci_parts.specs.declared.class.PortClass.{PortClass}
-use Rattle.sci_parts.specs.declared.class.PortClass.TheVariants.{Input, Output, ActivationInput, ActivationOutput}
-use Rattle.sci_parts.specs.Blocks.{Placed, placed}
-use Rattle.sci_steps.specs.declared.numbered.Numbered.{Numbered}
-use Rattle.sci_steps.specs.Seat.{start, count}
-use Rattle.sci_steps.specs.Numbered.{spec_ports, IsNumbered}
+use Rattle.sci_blocks.specs.declared.class.PortClass.{PortClass}
+use Rattle.sci_blocks.specs.declared.class.PortClass.TheVariants.{Input, Output, ActivationInput, ActivationOutput}
+use Rattle.sci_blocks.specs.Blocks.{Placed, placed}
+use Rattle.sci_flat.specs.declared.steps.numbered.Numbered.{Numbered}
+use Rattle.sci_flat.specs.Seat.{start, count}
+use Rattle.sci_flat.specs.Numbered.{spec_ports, IsNumbered}
 use Rattle.sci_flat.specs.Ends.{end_of, ends_of, AreFeeding}
 use Rattle.sci_flat.specs.Wired.{feed_at, wire_at, no_wire, input_list, activation_list, seat_of, spec_at, IsTakenAt, IsReached, IsSoundAt, AllWired, AllFed, IsUnreached, source_missing, column_shared, BreaksAt}
 use Rattle.sci_flat.specs.Flat.{block_at, IsWire, IsFeed}

@@ -6,12 +6,12 @@ use Rattle.std.proofs.lemmas.List.{length-append, length-map}
 use Rattle.std.proofs.lemmas.List.FromFn.{length-range_with_len, get_or-range_with_len}
 use Rattle.std.proofs.lemmas.List.Elements.{All-nil, All-append, All-head, All-tail}
 use Rattle.sci_net.specs.declared.Feed.{Feed}
-use Rattle.sci_parts.specs.declared.class.PortClass.{PortClass}
-use Rattle.sci_reach.specs.Chain.{Chain}
-use Rattle.sci_reach.specs.Lists.{list_at}
-use Rattle.sci_reach.specs.Reached.{IsWanted, AreReached}
-use Rattle.sci_steps.specs.declared.seat.Seat.{Seat}
-use Rattle.sci_steps.specs.Seat.{start, count}
+use Rattle.sci_blocks.specs.declared.class.PortClass.{PortClass}
+use Rattle.sci_flat.specs.Chain.{Chain}
+use Rattle.sci_flat.specs.Lists.{list_at}
+use Rattle.sci_flat.specs.Reached.{IsWanted, AreReached}
+use Rattle.sci_flat.specs.declared.steps.seat.Seat.{Seat}
+use Rattle.sci_flat.specs.Seat.{start, count}
 use Rattle.sci_flat.specs.Ends.{end_of, seat_numbers, seat_ends, numbers_of, ends_of, IsInside, AreFeeding}
 
 pub numbers_within : (ports : ℕ) (c : PortClass) (ss : List Seat) → All (IsInside ports) ss → All (λ n. n < ports) (numbers_of c ss)

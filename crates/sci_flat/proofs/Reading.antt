@@ -9,19 +9,20 @@ use Rattle.serde_json.specs.Find.{get, as_str}
 use Rattle.serde_json.specs.Read.{read}
 use Rattle.sci_base.specs.Plain.{Violation, Fields}
 use Rattle.sci_base.specs.Outcome.{◌>>=◌}
-use Rattle.sci_json.specs.Field.{field, as_ints, as_flags}
+use Rattle.sci_json.specs.Field.{field, as_ints, as_dep}
 use Rattle.sci_diagram.specs.declared.sorts.Role.{Role}
 use Rattle.sci_diagram.specs.declared.sorts.Role.TheVariants.{Super}
 use Rattle.sci_diagram.specs.declared.sorts.Sort.{Sort}
 use Rattle.sci_diagram.specs.Objects.{Object, Objects, block, superblock, link, text, deleted, no_objects, object as one_object, listed}
-use Rattle.sci_diagram.specs.Tree.{Inner, wrong, count_of, list_where, keeps_state, keeps_ipar, inner_there, flags_of, required, optional, whole_object, sim_name, is_super, is_small, if_small, small_list, role_of, read_fields, inside, block_of, read_block, read_sort, object_of, read_object, read_link, link_end, second, walk, list_of, diagram_at, tree}
+use Rattle.sci_diagram.specs.Tree.{Inner, wrong, count_of, list_where, keeps_state, keeps_ipar, inner_there, dep_at, required, optional, whole_object, sim_name, is_super, is_small, if_small, small_list, role_of, read_fields, inside, block_of, read_block, read_sort, object_of, read_object, read_link, link_end, second, walk, list_of, diagram_at, tree}
 use Rattle.sci_diagram.specs.Count.{blocks_in, links_in, objects_in, objects_within, counted}
 use Rattle.sci_diagram.specs.Reading.{judge, judge_value, value_of, Accepts}
 use Rattle.sci_diagram.specs.Weight.{weight}
 use Rattle.sci_diagram.proofs.Few.{few_objects}
 use Rattle.sci_diagram.proofs.Bytes.{read_weighs}
-use Rattle.sci_parts.specs.Sizes.{AreInsidesShort, IsInsideShort}
-use Rattle.sci_steps.proofs.Valid.{then_ok}
+use Rattle.sci_blocks.specs.Sizes.{AreInsidesShort, IsInsideShort}
+use Rattle.sci_flat.proofs.Valid.{then_ok}
+use Rattle.sci_flat.proofs.PortCount.{ports_few}
 use Rattle.sci_flat.specs.Ready.{AreFieldsSmall, AreSmall, IsObjectSmall, IsReady}
 
 refused : {A : Type 0} (v : Violation) (a : A) → Err v ≡ Ok a → ⊥
@@ -56,7 +57,7 @@ fields_small role at m f h =
     let a10 = then_ok (inner_there role at m) _ f a9.2 in
     let a11 = then_ok (list_where (keeps_ipar role) at (pos 16) (codes "ipar") m) _ f a10.2 in
     let a12 = then_ok (list_where (keeps_state role) at (pos 17) (codes "firing") m) _ f a11.2 in
-    let a13 = then_ok (flags_of at (field as_flags (codes "dep_ut") m)) _ f a12.2 in
+    let a13 = then_ok (dep_at at (field as_dep (codes "dep_ut") m)) _ f a12.2 in
     let last = ok_same _ f a13.2 in
     let ins : a1.0 ≡ f.ins = ap (λ (x : Fields). x.ins) last in
     let in2 : a2.0 ≡ f.in2 = ap (λ (x : Fields). x.in2) last in
@@ -183,6 +184,7 @@ value_ready bytes (Some d) t short e h =
     subst IsReady c.0 (record {
       short = (omega (arith, few, light, long), insides_short a.0 (omega (arith, few, light)));
       few = c.1;
+      few_ports = (let low = ports_few 16 [] d a.0 a.1 in omega (arith, low, light, short));
       small = diagram_small 16 [] d a.0 a.1;
     })
 

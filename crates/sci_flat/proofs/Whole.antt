@@ -7,11 +7,11 @@ use Rattle.sci_net.specs.declared.Wire.{Wire}
 use Rattle.sci_net.specs.declared.Feed.{Feed}
 use Rattle.sci_net.specs.Parts.{Parts, numbered, no_spec, spec_of, wire_of, feeds_of, IsBlock, IsInput, IsOutput, IsActivationInput, IsActivationOutput, column_of, IsSensor, IsWired}
 use Rattle.sci_net.specs.Flat.{IsFlat}
-use Rattle.sci_parts.specs.declared.class.PortClass.TheVariants.{Input, Output, ActivationInput, ActivationOutput}
-use Rattle.sci_parts.specs.Blocks.{Placed, placed}
-use Rattle.sci_steps.specs.declared.numbered.Numbered.{Numbered}
-use Rattle.sci_steps.specs.Seat.{count}
-use Rattle.sci_steps.specs.Numbered.{IsNumbered}
+use Rattle.sci_blocks.specs.declared.class.PortClass.TheVariants.{Input, Output, ActivationInput, ActivationOutput}
+use Rattle.sci_blocks.specs.Blocks.{Placed, placed}
+use Rattle.sci_flat.specs.declared.steps.numbered.Numbered.{Numbered}
+use Rattle.sci_flat.specs.Seat.{count}
+use Rattle.sci_flat.specs.Numbered.{IsNumbered}
 use Rattle.sci_flat.specs.Ends.{AreFeeding}
 use Rattle.sci_flat.specs.Wired.{feed_at, seat_of, AllWired, AllFed}
 use Rattle.sci_flat.specs.Flat.{blocks, IsWire, IsFeedList, IsFlatNet}

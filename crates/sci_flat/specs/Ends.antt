@@ -2,11 +2,11 @@
 use Rattle.std.specs.Prelude.{◌≡◌, ℕ, ◌+◌, ◌<◌, ◌↔◌, List, [], ◌∷◌, ◌++◌, length, map, Contains, AllPairs, slice_index}
 use Rattle.std.specs.List.{range_with_len}
 use Rattle.sci_net.specs.declared.Feed.{Feed}
-use Rattle.sci_parts.specs.declared.class.PortClass.{PortClass}
-use Rattle.sci_reach.specs.Chain.{Chain}
-use Rattle.sci_reach.specs.Lists.{list_at}
-use Rattle.sci_steps.specs.declared.seat.Seat.{Seat}
-use Rattle.sci_steps.specs.Seat.{start, count}
+use Rattle.sci_blocks.specs.declared.class.PortClass.{PortClass}
+use Rattle.sci_flat.specs.Chain.{Chain}
+use Rattle.sci_flat.specs.Lists.{list_at}
+use Rattle.sci_flat.specs.declared.steps.seat.Seat.{Seat}
+use Rattle.sci_flat.specs.Seat.{start, count}
 
 abbrev pub end_of : ℕ → ℕ → Feed
 end_of block port = record { block = block; port = port }

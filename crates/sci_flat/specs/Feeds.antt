@@ -1,7 +1,7 @@
 -- Which port feeds which.
 use Rattle.sci_diagram.specs.Objects.{Objects}
-use Rattle.sci_reach.specs.Chain.{Chain}
-use Rattle.sci_steps.specs.Ports.{Port, tree_steps}
+use Rattle.sci_flat.specs.Chain.{Chain}
+use Rattle.sci_flat.specs.Ports.{Port, tree_steps}
 
 -- a finite chain of steps leads from p to q
 abbrev pub Feeds : Objects → Port → Port → Type 0

@@ -6,11 +6,11 @@ use Rattle.sci_net.specs.declared.Wire.{Wire}
 use Rattle.sci_net.specs.declared.Feed.{Feed}
 use Rattle.sci_net.specs.Parts.{Parts, numbered, no_spec, AreRising, IsInput, IsActivationInput, wire_of, feeds_of}
 use Rattle.sci_net.specs.Flat.{IsFlat}
-use Rattle.sci_parts.specs.declared.class.PortClass.{PortClass}
-use Rattle.sci_parts.specs.declared.class.PortClass.TheVariants.{Input, Output, ActivationInput, ActivationOutput}
-use Rattle.sci_parts.specs.Blocks.{Placed, placed, parts_of}
-use Rattle.sci_parts.specs.Wiring.{links_of}
-use Rattle.sci_steps.specs.Ports.{port}
+use Rattle.sci_blocks.specs.declared.class.PortClass.{PortClass}
+use Rattle.sci_blocks.specs.declared.class.PortClass.TheVariants.{Input, Output, ActivationInput, ActivationOutput}
+use Rattle.sci_blocks.specs.Blocks.{Placed, placed, parts_of}
+use Rattle.sci_blocks.specs.Wiring.{links_of}
+use Rattle.sci_flat.specs.Ports.{port}
 use Rattle.sci_flat.specs.Feeds.{Feeds}
 
 -- the blocks in tree order, where no object and no link breaks a rule; else the first rule broken

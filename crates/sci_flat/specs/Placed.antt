@@ -2,7 +2,7 @@
 use Rattle.std.specs.Prelude.{List, [], ◌∷◌}
 use Rattle.sci_base.specs.declared.refusal.Place.{Place}
 use Rattle.sci_forms.specs.declared.spec.Spec.{Spec}
-use Rattle.sci_parts.specs.Blocks.{Placed, placed}
+use Rattle.sci_blocks.specs.Blocks.{Placed, placed}
 
 abbrev pub placed_all : List Spec → List Place → List Placed
 placed_all [] ps = []

@@ -7,7 +7,7 @@ use Rattle.sci_diagram.specs.Objects.{Objects}
 use Rattle.sci_forms.specs.declared.spec.Spec.{Spec}
 use Rattle.sci_net.specs.declared.Wire.{Wire}
 use Rattle.sci_net.specs.Parts.{is_sensor, column_of}
-use Rattle.sci_parts.specs.Blocks.{Placed}
+use Rattle.sci_blocks.specs.Blocks.{Placed}
 use Rattle.sci_flat.specs.Flat.{block_at, IsWire, blocks}
 
 -- two sensors that read one column of the input file

@@ -2,8 +2,8 @@
 use Rattle.std.specs.Prelude.{ℕ, ℤ, pos, negsuc, [], ◌∷◌, codes, None}
 use Rattle.sci_base.specs.Plain.{Fields}
 use Rattle.sci_diagram.specs.Objects.{Object, block, link, Objects, no_objects, object}
-use Rattle.sci_parts.specs.declared.class.PortClass.TheVariants.{ActivationInput, ActivationOutput}
-use Rattle.sci_steps.specs.Ports.{port}
+use Rattle.sci_blocks.specs.declared.class.PortClass.TheVariants.{ActivationInput, ActivationOutput}
+use Rattle.sci_flat.specs.Ports.{port}
 use Rattle.sci_flat.specs.Feeds.{Feeds}
 
 abbrev pub clocked : ℕ → ℕ → Fields

@@ -7,10 +7,10 @@ use Rattle.sci_forms.specs.declared.spec.Spec.{Spec}
 use Rattle.sci_net.specs.Parts.{no_spec}
 use Rattle.sci_net.specs.declared.Wire.{Wire}
 use Rattle.sci_net.specs.declared.Feed.{Feed}
-use Rattle.sci_parts.specs.declared.class.PortClass.TheVariants.{Input, ActivationInput}
-use Rattle.sci_reach.specs.Lists.{list_at}
-use Rattle.sci_steps.specs.declared.seat.Seat.{Seat}
-use Rattle.sci_steps.specs.Seat.{start, count, no_seat}
+use Rattle.sci_blocks.specs.declared.class.PortClass.TheVariants.{Input, ActivationInput}
+use Rattle.sci_flat.specs.Lists.{list_at}
+use Rattle.sci_flat.specs.declared.steps.seat.Seat.{Seat}
+use Rattle.sci_flat.specs.Seat.{start, count, no_seat}
 use Rattle.sci_flat.specs.Ends.{end_of}
 use Rattle.sci_flat.specs.Refused.{ShareColumn}
 

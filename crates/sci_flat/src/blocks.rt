@@ -1,12 +1,12 @@
 // The specs of a diagram's blocks, and their places.
 ghost use Rattle.std.specs.Prelude.{◌≡◌, length, map, IfOk};
-ghost use Rattle.sci_parts.specs.Blocks.{part_view};
+ghost use Rattle.sci_blocks.specs.Blocks.{part_view};
 ghost use Rattle.sci_flat.specs.Placed.{placed_all};
 
-use sci_base::Place;
+use sci_base::{NoMemory, Place};
+use sci_blocks::Part;
 use sci_forms::Spec;
-use sci_parts::Part;
-use std::alloc::{AllocError, Global};
+use std::alloc::Global;
 
 /// The blocks of a diagram in tree order.
 #[derive(Drop)]
@@ -17,7 +17,7 @@ pub struct Blocks {
 
 impl Blocks {
     /// Specs and places apart.
-    pub(crate) fn of(alloc: Global, parts: Vec<Part>) -> Result<Blocks, AllocError>
+    pub(crate) fn of(alloc: Global, parts: Vec<Part>) -> Result<Blocks, NoMemory>
         ensures same { IfOk result (λ b. placed_all b.specs.items b.places.items ≡ map part_view parts.items) }
         ensures long { IfOk result (λ b. length b.places.items ≡ length b.specs.items) }
     {

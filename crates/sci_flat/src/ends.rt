@@ -1,17 +1,19 @@
 // The ports of one class of all blocks, and which of another class they reach.
-ghost use Rattle.std.specs.Prelude.{◌≡◌, ◌+◌, ◌<◌, ◌≤◌, ◌^◌, ◌++◌, All, Contains, IfOk, OnOk, map, length, ℕ};
+ghost use Rattle.std.specs.Prelude.{◌≡◌, ◌+◌, ◌<◌, ◌≤◌, ◌^◌, ◌++◌, All, Contains, IfOk, OnOk, map, length, slice_index, ℕ};
 ghost use Rattle.std.specs.List.{range_with_len};
-ghost use Rattle.sci_reach.specs.Chain.{AllWithin};
-ghost use Rattle.sci_reach.specs.Lists.{lists_of};
-ghost use Rattle.sci_reach.specs.Reached.{IsWanted};
-ghost use Rattle.sci_reach.specs.Successors.{AreSuccessors};
+ghost use Rattle.sci_flat.specs.Chain.{AllWithin};
+ghost use Rattle.sci_flat.specs.Lists.{lists_of};
+ghost use Rattle.sci_flat.specs.Reached.{IsWanted};
+ghost use Rattle.sci_flat.specs.Successors.{AreSuccessors};
 ghost use Rattle.sci_flat.specs.Ends.{end_of, seat_numbers, seat_ends, numbers_of, ends_of, IsInside, AreFeeding};
+ghost use Rattle.sci_flat.specs.Sharing.{AreSharing};
 
+use crate::reach::{Successors, find_origins, reached};
+use crate::steps::Seat;
+use sci_base::NoMemory;
+use sci_blocks::PortClass;
 use sci_net::Feed;
-use sci_parts::PortClass;
-use sci_reach::{Successors, reached};
-use sci_steps::{NoRoom, Seat};
-use std::alloc::{AllocError, Global};
+use std::alloc::Global;
 
 /// The ports of one class, by block and port.
 #[derive(Drop)]
@@ -28,18 +30,23 @@ pub struct Feeding {
     /// The ports of the first class, by block and port.
     pub feeds: Vec<Feed>,
     /// By the number of a port of the second class, the indices of those that reach it.
-    pub lists: Vec<Vec<u32>>,
+    pub lists: Vec<Vec<usize>>,
+}
+
+/// Which activation outputs reach the activation inputs, where inputs that the same outputs reach share a list.
+#[derive(Drop)]
+pub struct Sharing {
+    /// The activation outputs, by block and port.
+    pub feeds: Vec<Feed>,
+    /// By port, the indices of those that reach it, where it is the origin of an input.
+    pub lists: Vec<Vec<usize>>,
+    /// By the number of an input, the port that has its list.
+    pub origins: Vec<u32>,
 }
 
 impl Ends {
     // Adds the ports of one block.
-    fn add(
-        &mut self,
-        ports: u32,
-        block: u32,
-        seat: Seat,
-        class: PortClass,
-    ) -> Result<(), AllocError>
+    fn add(&mut self, ports: u32, block: u32, seat: Seat, class: PortClass) -> Result<(), NoMemory>
         requires { IsInside ports seat }
         ensures numbers { OnOk result (self.new.numbers.items ≡ self.old.numbers.items ++ seat_numbers class seat) }
         ensures feeds { OnOk result (self.new.feeds.items ≡ self.old.feeds.items ++ seat_ends class block seat) }
@@ -58,7 +65,7 @@ impl Ends {
         ports: u32,
         seats: &[Seat],
         class: PortClass,
-    ) -> Result<Ends, AllocError>
+    ) -> Result<Ends, NoMemory>
         requires inside { All (IsInside ports) seats.now }
         requires few { length seats.now ≤ 2048 }
         ensures numbers { IfOk result (λ r. r.numbers.items ≡ numbers_of class seats.now) }
@@ -78,7 +85,7 @@ impl Ends {
 }
 
 /// One mark for each port, set where its number is among these.
-fn marked(alloc: Global, ports: u32, numbers: &[u32]) -> Result<Vec<bool>, AllocError>
+fn marked(alloc: Global, ports: u32, numbers: &[u32]) -> Result<Vec<bool>, NoMemory>
     requires { All (λ n. n < ports) numbers.now }
     ensures long { IfOk result (λ v. length v.items ≡ ports) }
     ensures marks { IfOk result (λ v. (q : ℕ) → Contains numbers.now q → IsWanted v.items q) }
@@ -99,7 +106,7 @@ pub(crate) fn feeding_of(
     seats: &[Seat],
     from: PortClass,
     to: PortClass,
-) -> Result<Feeding, NoRoom>
+) -> Result<Feeding, NoMemory>
     requires within { AllWithin ports steps.now }
     requires successors { AreSuccessors steps.now ports successors.now }
     requires inside { All (IsInside ports) seats.now }
@@ -109,10 +116,47 @@ pub(crate) fn feeding_of(
     let sources = Ends::of(alloc, ports, seats, from)?;
     let targets = Ends::of(alloc, ports, seats, to)?;
     let wanted = marked(alloc, ports, &targets.numbers)?;
-    if sources.numbers.len() >= 4294967296 {
-        return Err(NoRoom);
-    }
     let lists = reached(alloc, steps, successors, &sources.numbers, &wanted)?;
     let Ends { numbers: _, feeds } = sources;
     Ok(Feeding { feeds, lists })
+}
+
+/// The origins of these ports.
+fn origins_of(alloc: Global, origins: &[u32], targets: &[u32]) -> Result<Vec<u32>, NoMemory>
+    requires { All (λ q. q < length origins.now) targets.now }
+    ensures { IfOk result (λ v. v.items ≡ map (λ q. slice_index origins.now q) targets.now) }
+{
+    let mut found = Vec::with_capacity(alloc, targets.len())?;
+    for target in targets {
+        found.push(origins[*target as usize])?;
+    }
+    Ok(found)
+}
+
+/// Which activation outputs reach the activation inputs.
+pub(crate) fn sharing_of(
+    alloc: Global,
+    ports: u32,
+    steps: &[(u32, u32)],
+    successors: &Successors,
+    seats: &[Seat],
+) -> Result<Sharing, NoMemory>
+    requires within { AllWithin ports steps.now }
+    requires successors { AreSuccessors steps.now ports successors.now }
+    requires inside { All (IsInside ports) seats.now }
+    requires few { length seats.now ≤ 2048 }
+    ensures { IfOk result (λ r. AreSharing seats.now steps.now ports r) }
+{
+    let sources = Ends::of(alloc, ports, seats, PortClass::ActivationOutput)?;
+    let targets = Ends::of(alloc, ports, seats, PortClass::ActivationInput)?;
+    let origins = find_origins(alloc, ports, steps, &sources.numbers, &targets.numbers)?;
+    let ends = origins_of(alloc, &origins, &targets.numbers)?;
+    let wanted = marked(alloc, ports, &ends)?;
+    let lists = reached(alloc, steps, successors, &sources.numbers, &wanted)?;
+    let Ends { numbers: _, feeds } = sources;
+    Ok(Sharing {
+        feeds,
+        lists,
+        origins,
+    })
 }

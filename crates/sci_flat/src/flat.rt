@@ -1,25 +1,25 @@
 ghost use Rattle.std.specs.Prelude.{◌≡◌, ◌≤◌, Ok, IfOk, length};
 ghost use Rattle.sci_diagram.specs.Objects.{diagram_view};
 ghost use Rattle.sci_net.specs.Parts.{IsBlock};
-ghost use Rattle.sci_steps.specs.Numbered.{IsNumbered};
+ghost use Rattle.sci_flat.specs.Numbered.{IsNumbered};
 ghost use Rattle.sci_flat.specs.Flat.{blocks};
 ghost use Rattle.sci_flat.specs.Placed.{placed_all};
 ghost use Rattle.sci_flat.specs.Ready.{IsReady};
 ghost use Rattle.sci_flat.specs.Answer.{IsFlattened};
 
 use crate::blocks::Blocks;
-use crate::ends::feeding_of;
-use crate::stop::FlatStop;
+use crate::ends::{feeding_of, sharing_of};
+use crate::reach::successors_of;
+use crate::steps::{Numbered, number};
 use crate::wires::{feeds, wires};
+use sci_base::Stop;
+use sci_blocks::{PortClass, links, parts};
 use sci_diagram::Diagram;
 use sci_net::Flat;
-use sci_parts::{PortClass, links, parts};
-use sci_reach::successors_of;
-use sci_steps::{Numbered, number};
 use std::alloc::Global;
 
 /// The flat net of these blocks.
-fn net_of(alloc: Global, d: &Diagram, numbered: &Numbered, found: Blocks) -> Result<Flat, FlatStop>
+fn net_of(alloc: Global, d: &Diagram, numbered: &Numbered, found: Blocks) -> Result<Flat, Stop>
     requires ready { IsReady (diagram_view d.now) }
     requires blocks { blocks (diagram_view d.now) ≡ Ok (placed_all found.specs.items found.places.items) }
     requires long { length found.places.items ≡ length found.specs.items }
@@ -30,9 +30,6 @@ fn net_of(alloc: Global, d: &Diagram, numbered: &Numbered, found: Blocks) -> Res
     let ports = numbered.ports;
     let steps = numbered.steps.as_slice();
     let seats = numbered.blocks.as_slice();
-    if steps.len() >= 4294967296 {
-        return Err(FlatStop::Memory);
-    }
     let successors = successors_of(alloc, steps, ports as usize)?;
     let regular = feeding_of(
         alloc,
@@ -43,19 +40,8 @@ fn net_of(alloc: Global, d: &Diagram, numbered: &Numbered, found: Blocks) -> Res
         PortClass::Output,
         PortClass::Input,
     )?;
-    let wires = match wires(alloc, &regular, seats, &specs, &places) {
-        Ok(wires) => wires,
-        Err(stop) => return Err(stop),
-    };
-    let activation = feeding_of(
-        alloc,
-        ports,
-        steps,
-        &successors,
-        seats,
-        PortClass::ActivationOutput,
-        PortClass::ActivationInput,
-    )?;
+    let wires = wires(alloc, &regular, seats, &specs, &places)?;
+    let activation = sharing_of(alloc, ports, steps, &successors, seats)?;
     let feeds = feeds(alloc, &activation, seats)?;
     Ok(Flat::new(specs, wires, feeds, places))
 }
@@ -64,7 +50,7 @@ fn net_of(alloc: Global, d: &Diagram, numbered: &Numbered, found: Blocks) -> Res
 /// output feeds each regular input, which activation outputs feed each activation input. Refused is the first rule that the diagram breaks,
 /// in this order: an object in tree order (rules 14, 7, 9, 10, 11 and 8); a link in tree order (rules 12 and 13); a block by number, of
 /// which no output feeds a regular input (rule 15), or whose column an earlier sensor reads (rule 16).
-pub fn flatten(alloc: Global, d: &Diagram) -> Result<Flat, FlatStop>
+pub fn flatten(alloc: Global, d: &Diagram) -> Result<Flat, Stop>
     requires { IsReady (diagram_view d.now) }
     ensures { IsFlattened (diagram_view d.now) result }
 {

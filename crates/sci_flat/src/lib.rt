@@ -8,16 +8,17 @@ mod columns;
 mod ends;
 mod flat;
 mod laws;
+pub mod reach;
 mod refusals;
 mod rows;
-mod stop;
+pub mod single;
+pub mod steps;
 #[cfg(test)]
 mod tests;
 mod wires;
 
 pub use flat::flatten;
 pub use laws::{one_verdict, one_violation, read_is_ready};
-pub use stop::FlatStop;
 
 /// The definitions say what was worked out by hand for a small diagram.
 pub fn worked_feeds()

@@ -1,13 +1,13 @@
 // Flat nets worked out by hand.
-use crate::{FlatStop, flatten};
-use sci_base::{Refusal, Rule};
+use crate::flatten;
+use sci_base::{Refusal, Rule, Stop};
 use sci_diagram::read;
 use sci_net::{Feed, Flat, Wire};
 use std::alloc::Global;
 use std::process::Abort;
 use std::test::Fail;
 
-fn flattened(rt: &impl Abort, alloc: Global, text: &str) -> Result<Flat, FlatStop> {
+fn flattened(rt: &impl Abort, alloc: Global, text: &str) -> Result<Flat, Stop> {
     let bytes = text.as_bytes();
     assert!(rt; bytes.len() <= 16777216);
     match read(alloc, bytes) {
@@ -25,7 +25,7 @@ fn net_of(rt: &impl Abort, alloc: Global, text: &str) -> Flat {
 
 fn refusal_of(rt: &impl Abort, alloc: Global, text: &str) -> Refusal {
     match flattened(rt, alloc, text) {
-        Err(FlatStop::Refused(refusal)) => refusal,
+        Err(Stop::Refused(refusal)) => refusal,
         _ => panic!(rt; "not refused"),
     }
 }

@@ -1,22 +1,23 @@
 // The wires and the feed lists of all blocks.
 ghost use Rattle.std.specs.Prelude.{◌≡◌, ◌+◌, ◌<◌, ◌≤◌, All, Contains, IfOk, IfErr, length, ℕ};
-ghost use Rattle.sci_net.specs.Parts.{rows_of, feed_rows_of, paths_of};
-ghost use Rattle.sci_parts.specs.declared.class.PortClass.TheVariants.{Input, ActivationInput};
-ghost use Rattle.sci_reach.specs.Lists.{lists_of};
-ghost use Rattle.sci_steps.specs.Seat.{start, count};
-ghost use Rattle.sci_flat.specs.Wired.{input_list, activation_list, seat_of, AllWired, AllFed, BreaksAt};
-ghost use Rattle.sci_flat.specs.Stops.{StopsBy};
+ghost use Rattle.sci_net.specs.Parts.{rows_of, paths_of};
+ghost use Rattle.sci_blocks.specs.declared.class.PortClass.TheVariants.{Input, ActivationInput};
+ghost use Rattle.sci_flat.specs.Lists.{lists_of, list_at};
+ghost use Rattle.sci_flat.specs.Origins.{shared};
+ghost use Rattle.sci_flat.specs.Sharing.{AllNumbers};
+ghost use Rattle.sci_flat.specs.Seat.{start, count};
+ghost use Rattle.sci_flat.specs.Wired.{input_list, seat_of, AllWired, AllFed, BreaksAt};
+ghost use Rattle.sci_base.specs.Stops.{StopsBy};
 
 use crate::columns::is_taken;
-use crate::ends::Feeding;
+use crate::ends::{Feeding, Sharing};
 use crate::refusals::{column_twice, no_source};
-use crate::rows::{RowStop, feed_row, wire_row};
-use crate::stop::FlatStop;
-use sci_base::Place;
+use crate::rows::{RowStop, feed_rows, number_row, wire_row};
+use crate::steps::Seat;
+use sci_base::{NoMemory, Place, Stop};
 use sci_forms::Spec;
-use sci_net::{Feed, Wire};
-use sci_steps::Seat;
-use std::alloc::{AllocError, Global};
+use sci_net::{Feeds, Wire};
+use std::alloc::Global;
 
 /// The wires of all blocks, or the first block that breaks a rule: nothing feeds one of its regular inputs, or else an earlier sensor reads
 /// its column.
@@ -26,7 +27,7 @@ pub(crate) fn wires(
     seats: &[Seat],
     specs: &[Spec],
     paths: &[Place],
-) -> Result<Vec<Vec<Wire>>, FlatStop>
+) -> Result<Vec<Vec<Wire>>, Stop>
     requires specs { length specs.now ≡ length seats.now }
     requires paths { length paths.now ≡ length seats.now }
     requires inside { (b k : ℕ) → b < length seats.now → k < count (seat_of seats.now b) Input → start (seat_of seats.now b) Input + k < length feeding.now.lists.items }
@@ -45,26 +46,32 @@ pub(crate) fn wires(
                 rows.push(row)?;
             }
             Err(RowStop::Unfed(k)) => return Err(no_source(alloc, &paths[block], k)),
-            Err(RowStop::Memory) => return Err(FlatStop::Memory),
+            Err(RowStop::Memory) => return Err(Stop::Memory),
         }
     }
     Ok(rows)
 }
 
-/// The feed lists of all blocks.
-pub(crate) fn feeds(
-    alloc: Global,
-    feeding: &Feeding,
-    seats: &[Seat],
-) -> Result<Vec<Vec<Vec<Feed>>>, AllocError>
-    requires inside { (b k : ℕ) → b < length seats.now → k < count (seat_of seats.now b) ActivationInput → start (seat_of seats.now b) ActivationInput + k < length feeding.now.lists.items }
-    requires there { (b k : ℕ) → b < length seats.now → k < count (seat_of seats.now b) ActivationInput
-        → All (λ i. i < length feeding.now.feeds.items) (activation_list (lists_of feeding.now.lists) (seat_of seats.now b) k) }
-    ensures { IfOk result (λ r. AllFed feeding.now.feeds.items (lists_of feeding.now.lists) seats.now (length seats.now) (feed_rows_of r.items)) }
+/// The numbers of the lists of all activation inputs.
+fn number_rows(alloc: Global, origins: &[u32], seats: &[Seat]) -> Result<Vec<Vec<u32>>, NoMemory>
+    requires { (b p : ℕ) → b < length seats.now → p < count (seat_of seats.now b) ActivationInput → start (seat_of seats.now b) ActivationInput + p < length origins.now }
+    ensures { IfOk result (λ r. AllNumbers origins.now seats.now (length seats.now) (rows_of r.items)) }
 {
     let mut rows = Vec::with_capacity(alloc, seats.len())?;
     for seat in seats {
-        rows.push(feed_row(alloc, &feeding.feeds, &feeding.lists, *seat)?)?;
+        rows.push(number_row(alloc, origins, *seat)?)?;
     }
     Ok(rows)
+}
+
+/// The activation outputs that feed each activation input.
+pub(crate) fn feeds(alloc: Global, sharing: &Sharing, seats: &[Seat]) -> Result<Feeds, NoMemory>
+    requires inside { (b p : ℕ) → b < length seats.now → p < count (seat_of seats.now b) ActivationInput → start (seat_of seats.now b) ActivationInput + p < length sharing.now.origins.items }
+    requires within { All (λ o. o < length sharing.now.lists.items) sharing.now.origins.items }
+    requires under { (q : ℕ) → All (λ i. i < length sharing.now.feeds.items) (list_at (lists_of sharing.now.lists) q) }
+    ensures { IfOk result (AllFed sharing.now.feeds.items (shared (lists_of sharing.now.lists) sharing.now.origins.items) seats.now (length seats.now)) }
+{
+    let lists = feed_rows(alloc, &sharing.feeds, &sharing.lists)?;
+    let numbers = number_rows(alloc, &sharing.origins, seats)?;
+    Ok(Feeds::new(lists, numbers))
 }

@@ -1,8 +1,8 @@
 -- The form of each kind: its counts of ports, feedthrough, parameters, types and sizes.
-use Rattle.std.specs.Prelude.{ℕ, zero, suc, ◌+◌, ◌*◌, ◌^◌, ℤ, pos, negsuc, ◌-ℤ◌, List, length, Bool, true, false, ◌&&◌, ◌||◌, not, nat_eq, nat_lt, nat_le, int_lt, int_le, if◌then◌else◌, Option, Some, None, is_none, unsigned_abs}
+use Rattle.std.specs.Prelude.{ℕ, zero, suc, ◌+◌, ◌*◌, ◌^◌, ℤ, pos, negsuc, ◌-ℤ◌, List, [], ◌∷◌, ◌++◌, length, Bool, true, false, ◌&&◌, ◌||◌, not, nat_eq, nat_lt, nat_le, int_lt, int_le, if◌then◌else◌, Option, Some, None, is_none, unsigned_abs}
 use Rattle.sci_base.specs.declared.Ty.{Ty}
 use Rattle.sci_base.specs.Fit.{int_eq, in_range, width}
-use Rattle.sci_base.specs.Lists.{at}
+use Rattle.sci_base.specs.Lists.{at, truth_at}
 use Rattle.sci_forms.specs.declared.Kind.{Kind}
 use Rattle.sci_forms.specs.declared.Kind.TheVariants.{Const, Summation, GainBlk, Product, AbsValue, Signum, MaxMin, Saturation, DeadBand, Convert, Mux, Demux, Extractor, LogicalOp, RelationalOp, Shift, BitSet, BitClear, ExtractBits, Switch2, Select, Logic, AndLog, Dollar, SampHold, Register, ModuloCount, GatedDelay, Sensor, EvtDly, EvtVarDly, IfThEl, ESelect, Halt}
 use Rattle.sci_forms.specs.declared.forms.Counts.{Counts}
@@ -56,26 +56,55 @@ counts_of Halt n = counts 0 0 0 0 1 1 0 0
 
 -- ---- feedthrough, states, events
 
--- whether the kind's outputs or branch depend on input k, counted from 0
-abbrev pub needs : Kind → ℕ → Bool
-needs Dollar k = false
-needs Register k = false
-needs EvtVarDly k = false
-needs GatedDelay k = nat_eq k 1
-needs _ k = true
+-- whether the kind has direct feedthrough from input k, counted from 1: its outputs or its branch depend on the input
+abbrev pub feeds : Kind → ℕ → Bool
+feeds Const k = false
+feeds Summation k = true
+feeds GainBlk k = true
+feeds Product k = true
+feeds AbsValue k = true
+feeds Signum k = true
+feeds MaxMin k = true
+feeds Saturation k = true
+feeds DeadBand k = true
+feeds Convert k = true
+feeds Mux k = true
+feeds Demux k = true
+feeds Extractor k = true
+feeds LogicalOp k = true
+feeds RelationalOp k = true
+feeds Shift k = true
+feeds BitSet k = true
+feeds BitClear k = true
+feeds ExtractBits k = true
+feeds Switch2 k = true
+feeds Select k = true
+feeds Logic k = true
+feeds AndLog k = false
+feeds Dollar k = false
+feeds SampHold k = true
+feeds Register k = false
+feeds ModuloCount k = false
+feeds GatedDelay k = nat_eq k 2
+feeds Sensor k = false
+feeds EvtDly k = false
+feeds EvtVarDly k = false
+feeds IfThEl k = true
+feeds ESelect k = true
+feeds Halt k = false
 
--- whether the kind has feedthrough
-abbrev pub feeds : Kind → Bool
-feeds Const = false
-feeds AndLog = false
-feeds Dollar = false
-feeds Register = false
-feeds ModuloCount = false
-feeds Sensor = false
-feeds EvtDly = false
-feeds EvtVarDly = false
-feeds Halt = false
-feeds _ = true
+-- input k, counted from 0, has no feedthrough by the kind
+abbrev pub unfed : Kind → ℕ → Bool
+unfed c k = not (feeds c (k + 1))
+
+-- of each of n inputs, whether it has feedthrough by the kind
+abbrev pub own_feed : Kind → ℕ → List Bool
+own_feed c zero = []
+own_feed c (suc n) = own_feed c n ++ feeds c (suc n) ∷ []
+
+-- these truths give input k, counted from 0, the feedthrough that the kind has
+abbrev pub fed : Kind → List Bool → ℕ → Bool
+fed c ts k = truth_at ts k || unfed c k
 
 abbrev pub is_sync : Kind → Bool
 is_sync IfThEl = true

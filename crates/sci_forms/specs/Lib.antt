@@ -1,3 +1,4 @@
+pub mod Broken
 pub mod Ports
 pub mod Names
 pub mod Words

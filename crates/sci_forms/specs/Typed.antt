@@ -1,5 +1,5 @@
 -- The rules on types and sizes of a spec whose ports are known, and typed specs.
-use Rattle.std.specs.Prelude.{ℕ, ◌+◌, ℤ, pos, length, Bool, ◌&&◌, ◌||◌, not, nat_eq, nat_le, int_le, if◌then◌else◌, Option, is_none}
+use Rattle.std.specs.Prelude.{ℕ, ◌+◌, ℤ, pos, List, length, Bool, ◌&&◌, nat_eq, nat_le, int_le, if◌then◌else◌, Option, is_none}
 use Rattle.sci_base.specs.Lists.{at}
 use Rattle.sci_forms.specs.declared.Kind.{Kind}
 use Rattle.sci_forms.specs.declared.forms.Counts.{Counts}
@@ -9,7 +9,7 @@ use Rattle.sci_forms.specs.Ports.{port_at, elements, type_of}
 use Rattle.sci_base.specs.declared.refusal.Rule.TheVariants.{TypeNotHere, ShapeRule}
 use Rattle.sci_forms.specs.declared.broken.Broken.{Broken}
 use Rattle.sci_forms.specs.declared.broken.Detail.TheVariants.{Triple}
-use Rattle.sci_forms.specs.Forms.{or_else, unless, first_not, given, all_to, within, counts_of, feeds, has_delay, has_state, between, params_len_ok, param_ok, state_len_ok, state_ok, firing_ok, in_type_ok, out_type_ok, param_fits, state_fits, in_size_ok, out_size_ok, params_spread, state_spread, index_ok}
+use Rattle.sci_forms.specs.Forms.{or_else, unless, first_not, given, all_to, within, counts_of, fed, has_delay, has_state, between, params_len_ok, param_ok, state_len_ok, state_ok, firing_ok, in_type_ok, out_type_ok, param_fits, state_fits, in_size_ok, out_size_ok, params_spread, state_spread, index_ok}
 
 -- ---- types and sizes of a spec whose ports are known
 
@@ -57,6 +57,10 @@ counted s c =
     within c.ins_least c.ins_most (length s.ins) && within c.outs_least c.outs_most (length s.outs)
     && within c.evtin_least c.evtin_most s.evtin && within c.evtout_least c.evtout_most s.evtout
 
+-- one truth for each of n inputs, true wherever the kind has feedthrough
+abbrev pub feed_ok : Kind → List Bool → ℕ → Bool
+feed_ok c ts n = nat_eq (length ts) n && all_to (fed c ts) n
+
 -- as a check of what is declared can give it
 abbrev pub formed_of : Kind → Spec → Bool
 formed_of c s =
@@ -65,7 +69,7 @@ formed_of c s =
     && (if has_state c then state_len_ok c (length s.state) else nat_eq (length s.state) 0)
     && all_to (state_ok c s.params s.state) (length s.state)
     && (if has_delay c then nat_eq (length s.firing) 1 && firing_ok (at s.firing 0) else nat_eq (length s.firing) 0)
-    && (s.feed || not (feeds c))
+    && feed_ok c s.feed (length s.ins)
 
 abbrev pub known_in : Spec → ℕ → Bool
 known_in s k = is_known (port_at s.ins k)

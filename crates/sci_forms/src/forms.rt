@@ -193,12 +193,53 @@ impl Kind {
     pub fn is_sync(self) -> bool
         ensures { result ≡ is_sync self }
     {
-        matches!(self, Kind::IfThEl | Kind::ESelect)
+        match self {
+            Kind::IfThEl | Kind::ESelect => true,
+            Kind::Const
+            | Kind::Summation
+            | Kind::GainBlk
+            | Kind::Product
+            | Kind::AbsValue
+            | Kind::Signum
+            | Kind::MaxMin
+            | Kind::Saturation
+            | Kind::DeadBand
+            | Kind::Convert
+            | Kind::Mux
+            | Kind::Demux
+            | Kind::Extractor
+            | Kind::LogicalOp
+            | Kind::RelationalOp
+            | Kind::Shift
+            | Kind::BitSet
+            | Kind::BitClear
+            | Kind::ExtractBits
+            | Kind::Switch2
+            | Kind::Select
+            | Kind::Logic
+            | Kind::AndLog
+            | Kind::Dollar
+            | Kind::SampHold
+            | Kind::Register
+            | Kind::ModuloCount
+            | Kind::GatedDelay
+            | Kind::Sensor
+            | Kind::EvtDly
+            | Kind::EvtVarDly
+            | Kind::Halt => false,
+        }
     }
 
-    /// Whether the kind has feedthrough.
-    pub fn feeds(self) -> bool
-        ensures { result ≡ feeds self }
+    /// Whether the kind has direct feedthrough from an input, counted from 1: within a reaction its outputs, or the branch that it
+    /// takes, depend on the input's value.
+    pub fn feeds(self, input: u32) -> bool
+        ensures { result ≡ feeds self input }
+    {
+        self.feeds_at(input as usize)
+    }
+
+    pub(crate) fn feeds_at(self, input: usize) -> bool
+        ensures { result ≡ feeds self input }
     {
         match self {
             Kind::Const
@@ -210,7 +251,31 @@ impl Kind {
             | Kind::EvtDly
             | Kind::EvtVarDly
             | Kind::Halt => false,
-            _ => true,
+            Kind::GatedDelay => input == 2,
+            Kind::Summation
+            | Kind::GainBlk
+            | Kind::Product
+            | Kind::AbsValue
+            | Kind::Signum
+            | Kind::MaxMin
+            | Kind::Saturation
+            | Kind::DeadBand
+            | Kind::Convert
+            | Kind::Mux
+            | Kind::Demux
+            | Kind::Extractor
+            | Kind::LogicalOp
+            | Kind::RelationalOp
+            | Kind::Shift
+            | Kind::BitSet
+            | Kind::BitClear
+            | Kind::ExtractBits
+            | Kind::Switch2
+            | Kind::Select
+            | Kind::Logic
+            | Kind::SampHold
+            | Kind::IfThEl
+            | Kind::ESelect => true,
         }
     }
 
@@ -218,17 +283,80 @@ impl Kind {
     pub fn has_delay(self) -> bool
         ensures { result ≡ has_delay self }
     {
-        matches!(self, Kind::EvtDly | Kind::EvtVarDly)
+        match self {
+            Kind::EvtDly | Kind::EvtVarDly => true,
+            Kind::Const
+            | Kind::Summation
+            | Kind::GainBlk
+            | Kind::Product
+            | Kind::AbsValue
+            | Kind::Signum
+            | Kind::MaxMin
+            | Kind::Saturation
+            | Kind::DeadBand
+            | Kind::Convert
+            | Kind::Mux
+            | Kind::Demux
+            | Kind::Extractor
+            | Kind::LogicalOp
+            | Kind::RelationalOp
+            | Kind::Shift
+            | Kind::BitSet
+            | Kind::BitClear
+            | Kind::ExtractBits
+            | Kind::Switch2
+            | Kind::Select
+            | Kind::Logic
+            | Kind::AndLog
+            | Kind::Dollar
+            | Kind::SampHold
+            | Kind::Register
+            | Kind::ModuloCount
+            | Kind::GatedDelay
+            | Kind::Sensor
+            | Kind::IfThEl
+            | Kind::ESelect
+            | Kind::Halt => false,
+        }
     }
 
     /// Whether the kind has a state.
     pub fn has_state(self) -> bool
         ensures { result ≡ has_state self }
     {
-        matches!(
-            self,
-            Kind::Dollar | Kind::Register | Kind::ModuloCount | Kind::GatedDelay
-        )
+        match self {
+            Kind::Dollar | Kind::Register | Kind::ModuloCount | Kind::GatedDelay => true,
+            Kind::Const
+            | Kind::Summation
+            | Kind::GainBlk
+            | Kind::Product
+            | Kind::AbsValue
+            | Kind::Signum
+            | Kind::MaxMin
+            | Kind::Saturation
+            | Kind::DeadBand
+            | Kind::Convert
+            | Kind::Mux
+            | Kind::Demux
+            | Kind::Extractor
+            | Kind::LogicalOp
+            | Kind::RelationalOp
+            | Kind::Shift
+            | Kind::BitSet
+            | Kind::BitClear
+            | Kind::ExtractBits
+            | Kind::Switch2
+            | Kind::Select
+            | Kind::Logic
+            | Kind::AndLog
+            | Kind::SampHold
+            | Kind::Sensor
+            | Kind::EvtDly
+            | Kind::EvtVarDly
+            | Kind::IfThEl
+            | Kind::ESelect
+            | Kind::Halt => false,
+        }
     }
 
     /// The counts of ports, of a block with `n` regular inputs.

@@ -5,6 +5,7 @@
 mod broken;
 mod forms;
 mod ports;
+mod search;
 mod spec;
 mod typed;
 pub mod values;
@@ -12,6 +13,7 @@ pub mod values;
 pub use broken::{Broken, Detail};
 pub use forms::Counts;
 pub use ports::{Port, Ports};
+pub use search::first_failing;
 pub use spec::Spec;
 
 /// The kinds of block, in the order of their numbers, each with the name that a diagram's `gui` has. In what follows u1, u2, ..

@@ -2,8 +2,8 @@
 ghost use Rattle.std.specs.Prelude.{◌≡◌, ◌<◌, ◌+◌, ◌^◌, List, length, ◌++◌, ◌∷◌, [], IfOk};
 ghost use Rattle.sci_forms.specs.Ports.{port_at, elements, type_of, sum_rows};
 
-use sci_base::Ty;
-use std::alloc::{AllocError, Global};
+use sci_base::{NoMemory, Ty};
+use std::alloc::Global;
 use std::marker::Model;
 
 /// A regular port: its size and the code of its type, 3 to 8 for the integer types. A number below 0 stands for an unknown,
@@ -100,7 +100,7 @@ impl Ports {
     }
 
     /// A copy of the list.
-    pub fn copy(&self, alloc: Global) -> Result<Ports, AllocError>
+    pub fn copy(&self, alloc: Global) -> Result<Ports, NoMemory>
         ensures { IfOk result (λ r. r ≡ self.now) }
     {
         Ok(Ports {

@@ -3,8 +3,8 @@ ghost use Rattle.std.specs.Prelude.{◌≡◌, ◌<◌, List, length, IfOk};
 
 use crate::Kind;
 use crate::ports::Ports;
-use sci_base::Ints;
-use std::alloc::{AllocError, Global};
+use sci_base::{Ints, NoMemory, Truths};
+use std::alloc::Global;
 
 /// What is declared of a block. `Kind` says what the parameters mean; a part that the kind doesn't have is empty.
 #[derive(Drop)]
@@ -25,13 +25,13 @@ pub struct Spec {
     pub evtin: u32,
     /// The number of activation outputs.
     pub evtout: u32,
-    /// Whether the block has direct feedthrough: `dep_ut`'s first part, or the kind's own.
-    pub feed: bool,
+    /// Of each regular input whether it has direct feedthrough: by `dep_ut`'s first part, or by the kind.
+    pub feed: Truths,
 }
 
 impl Spec {
     /// A copy of the spec.
-    pub fn copy(&self, alloc: Global) -> Result<Spec, AllocError>
+    pub fn copy(&self, alloc: Global) -> Result<Spec, NoMemory>
         ensures { IfOk result (λ r. r ≡ self.now) }
     {
         Ok(Spec {
@@ -43,7 +43,7 @@ impl Spec {
             outs: self.outs.copy(alloc)?,
             evtin: self.evtin,
             evtout: self.evtout,
-            feed: self.feed,
+            feed: self.feed.copy(alloc)?,
         })
     }
 }

@@ -5,14 +5,15 @@ ghost use Rattle.sci_base.specs.Lists.{at};
 ghost use Rattle.sci_forms.specs.Ports.{port_at, elements, type_of, sum_rows};
 ghost use Rattle.sci_forms.specs.Forms.{first_not, counts_of, has_state, has_delay, state_len_ok, firing_ok, first_port, any_in, any_out, type_wanted, in_type_ok, out_type_ok, param_fits, state_fits, is_scalar, same_size, is_column, all_scalar, as_first, in_size_ok, out_size_ok, is_spread, params_spread, state_spread, index_ok};
 ghost use Rattle.sci_forms.specs.Words.{state_len_of};
-ghost use Rattle.sci_forms.specs.Typed.{is_known, known_in, known_out, known_of, param_fits_at, state_fits_at, types_broken_of, sizes_broken_of, type_not_here, value_not_here, wrong_size, wrong_shape, formed_of, counted, typed};
+ghost use Rattle.sci_forms.specs.Typed.{is_known, known_in, known_out, known_of, param_fits_at, state_fits_at, types_broken_of, sizes_broken_of, type_not_here, value_not_here, wrong_size, wrong_shape, formed_of, feed_ok, counted, typed};
 
 use crate::Kind;
 use crate::broken::{Broken, Detail};
 use crate::ports::Port;
+use crate::search::first_failing;
 use crate::spec::Spec;
 use crate::values::{
-    between, first_param, first_state, is_equal, params_len_ok, state_len_ok, within,
+    between, first_param, first_state, first_unfed, is_equal, params_len_ok, state_len_ok, within,
 };
 use sci_base::{Rule, Ty};
 
@@ -32,14 +33,77 @@ fn any_in(kind: Kind, k: usize) -> bool
     match kind {
         Kind::Switch2 | Kind::GatedDelay => k == 1,
         Kind::Logic => true,
-        _ => false,
+        Kind::Const
+        | Kind::Summation
+        | Kind::GainBlk
+        | Kind::Product
+        | Kind::AbsValue
+        | Kind::Signum
+        | Kind::MaxMin
+        | Kind::Saturation
+        | Kind::DeadBand
+        | Kind::Convert
+        | Kind::Mux
+        | Kind::Demux
+        | Kind::Extractor
+        | Kind::LogicalOp
+        | Kind::RelationalOp
+        | Kind::Shift
+        | Kind::BitSet
+        | Kind::BitClear
+        | Kind::ExtractBits
+        | Kind::Select
+        | Kind::AndLog
+        | Kind::Dollar
+        | Kind::SampHold
+        | Kind::Register
+        | Kind::ModuloCount
+        | Kind::Sensor
+        | Kind::EvtDly
+        | Kind::EvtVarDly
+        | Kind::IfThEl
+        | Kind::ESelect
+        | Kind::Halt => false,
     }
 }
 
 fn any_out(kind: Kind) -> bool
     ensures { result ≡ any_out kind }
 {
-    matches!(kind, Kind::Convert | Kind::RelationalOp | Kind::Logic)
+    match kind {
+        Kind::Convert | Kind::RelationalOp | Kind::Logic => true,
+        Kind::Const
+        | Kind::Summation
+        | Kind::GainBlk
+        | Kind::Product
+        | Kind::AbsValue
+        | Kind::Signum
+        | Kind::MaxMin
+        | Kind::Saturation
+        | Kind::DeadBand
+        | Kind::Mux
+        | Kind::Demux
+        | Kind::Extractor
+        | Kind::LogicalOp
+        | Kind::Shift
+        | Kind::BitSet
+        | Kind::BitClear
+        | Kind::ExtractBits
+        | Kind::Switch2
+        | Kind::Select
+        | Kind::AndLog
+        | Kind::Dollar
+        | Kind::SampHold
+        | Kind::Register
+        | Kind::ModuloCount
+        | Kind::GatedDelay
+        | Kind::Sensor
+        | Kind::EvtDly
+        | Kind::EvtVarDly
+        | Kind::IfThEl
+        | Kind::ESelect
+        | Kind::Halt => false,
+    }
 }
 
 fn type_wanted(s: &Spec) -> i64
@@ -47,7 +111,39 @@ fn type_wanted(s: &Spec) -> i64
 {
     match s.kind {
         Kind::AndLog => 3,
-        _ => first_port(s).ty,
+        Kind::Const
+        | Kind::Summation
+        | Kind::GainBlk
+        | Kind::Product
+        | Kind::AbsValue
+        | Kind::Signum
+        | Kind::MaxMin
+        | Kind::Saturation
+        | Kind::DeadBand
+        | Kind::Convert
+        | Kind::Mux
+        | Kind::Demux
+        | Kind::Extractor
+        | Kind::LogicalOp
+        | Kind::RelationalOp
+        | Kind::Shift
+        | Kind::BitSet
+        | Kind::BitClear
+        | Kind::ExtractBits
+        | Kind::Switch2
+        | Kind::Select
+        | Kind::Logic
+        | Kind::Dollar
+        | Kind::SampHold
+        | Kind::Register
+        | Kind::ModuloCount
+        | Kind::GatedDelay
+        | Kind::Sensor
+        | Kind::EvtDly
+        | Kind::EvtVarDly
+        | Kind::IfThEl
+        | Kind::ESelect
+        | Kind::Halt => first_port(s).ty,
     }
 }
 
@@ -80,7 +176,31 @@ fn param_fits(kind: Kind, t: Ty, k: usize, v: i64) -> bool
         Kind::BitSet | Kind::BitClear => v < i64::from(t.width()),
         Kind::ExtractBits => k == 0 || v < i64::from(t.width()),
         Kind::ModuloCount => holds_before(t, v),
-        _ => true,
+        Kind::Summation
+        | Kind::Product
+        | Kind::AbsValue
+        | Kind::Signum
+        | Kind::MaxMin
+        | Kind::Convert
+        | Kind::Mux
+        | Kind::Demux
+        | Kind::Extractor
+        | Kind::LogicalOp
+        | Kind::RelationalOp
+        | Kind::Switch2
+        | Kind::Select
+        | Kind::Logic
+        | Kind::AndLog
+        | Kind::Dollar
+        | Kind::SampHold
+        | Kind::Register
+        | Kind::GatedDelay
+        | Kind::Sensor
+        | Kind::EvtDly
+        | Kind::EvtVarDly
+        | Kind::IfThEl
+        | Kind::ESelect
+        | Kind::Halt => true,
     }
 }
 
@@ -89,7 +209,37 @@ fn state_fits(kind: Kind, t: Ty, v: i64) -> bool
 {
     match kind {
         Kind::Dollar | Kind::Register | Kind::GatedDelay => t.holds(v),
-        _ => true,
+        Kind::Const
+        | Kind::Summation
+        | Kind::GainBlk
+        | Kind::Product
+        | Kind::AbsValue
+        | Kind::Signum
+        | Kind::MaxMin
+        | Kind::Saturation
+        | Kind::DeadBand
+        | Kind::Convert
+        | Kind::Mux
+        | Kind::Demux
+        | Kind::Extractor
+        | Kind::LogicalOp
+        | Kind::RelationalOp
+        | Kind::Shift
+        | Kind::BitSet
+        | Kind::BitClear
+        | Kind::ExtractBits
+        | Kind::Switch2
+        | Kind::Select
+        | Kind::Logic
+        | Kind::AndLog
+        | Kind::SampHold
+        | Kind::ModuloCount
+        | Kind::Sensor
+        | Kind::EvtDly
+        | Kind::EvtVarDly
+        | Kind::IfThEl
+        | Kind::ESelect
+        | Kind::Halt => true,
     }
 }
 
@@ -141,7 +291,32 @@ fn all_scalar(kind: Kind) -> bool
         | Kind::EvtVarDly
         | Kind::IfThEl
         | Kind::ESelect => true,
-        _ => false,
+        Kind::Const
+        | Kind::Summation
+        | Kind::GainBlk
+        | Kind::Product
+        | Kind::AbsValue
+        | Kind::Signum
+        | Kind::MaxMin
+        | Kind::Saturation
+        | Kind::DeadBand
+        | Kind::Convert
+        | Kind::Mux
+        | Kind::Demux
+        | Kind::Extractor
+        | Kind::LogicalOp
+        | Kind::RelationalOp
+        | Kind::Shift
+        | Kind::BitSet
+        | Kind::BitClear
+        | Kind::ExtractBits
+        | Kind::Switch2
+        | Kind::Select
+        | Kind::Dollar
+        | Kind::SampHold
+        | Kind::GatedDelay
+        | Kind::EvtDly
+        | Kind::Halt => false,
     }
 }
 
@@ -170,7 +345,35 @@ fn in_size_ok(s: &Spec, k: usize) -> bool
                 same_size(p, first_port(s))
             }
         }
-        _ => as_first(s, p),
+        Kind::Const
+        | Kind::Summation
+        | Kind::GainBlk
+        | Kind::Product
+        | Kind::AbsValue
+        | Kind::Signum
+        | Kind::MaxMin
+        | Kind::Saturation
+        | Kind::DeadBand
+        | Kind::Convert
+        | Kind::LogicalOp
+        | Kind::RelationalOp
+        | Kind::Shift
+        | Kind::BitSet
+        | Kind::BitClear
+        | Kind::ExtractBits
+        | Kind::Select
+        | Kind::Logic
+        | Kind::AndLog
+        | Kind::Dollar
+        | Kind::SampHold
+        | Kind::Register
+        | Kind::ModuloCount
+        | Kind::Sensor
+        | Kind::EvtDly
+        | Kind::EvtVarDly
+        | Kind::IfThEl
+        | Kind::ESelect
+        | Kind::Halt => as_first(s, p),
     }
 }
 
@@ -182,7 +385,37 @@ fn out_size_ok(s: &Spec, k: usize) -> bool
         Kind::Mux => is_column(s.ins.sum_rows(), p),
         Kind::Demux => is_equal(p.cols, 1),
         Kind::Extractor => is_column(s.params.len() as i128, p),
-        _ => as_first(s, p),
+        Kind::Const
+        | Kind::Summation
+        | Kind::GainBlk
+        | Kind::Product
+        | Kind::AbsValue
+        | Kind::Signum
+        | Kind::MaxMin
+        | Kind::Saturation
+        | Kind::DeadBand
+        | Kind::Convert
+        | Kind::LogicalOp
+        | Kind::RelationalOp
+        | Kind::Shift
+        | Kind::BitSet
+        | Kind::BitClear
+        | Kind::ExtractBits
+        | Kind::Switch2
+        | Kind::Select
+        | Kind::Logic
+        | Kind::AndLog
+        | Kind::Dollar
+        | Kind::SampHold
+        | Kind::Register
+        | Kind::ModuloCount
+        | Kind::GatedDelay
+        | Kind::Sensor
+        | Kind::EvtDly
+        | Kind::EvtVarDly
+        | Kind::IfThEl
+        | Kind::ESelect
+        | Kind::Halt => as_first(s, p),
     }
 }
 
@@ -197,7 +430,39 @@ fn params_spread(s: &Spec) -> bool
 {
     match s.kind {
         Kind::Const => is_spread(s.params.len(), s.outs.port(0).elements()),
-        _ => true,
+        Kind::Summation
+        | Kind::GainBlk
+        | Kind::Product
+        | Kind::AbsValue
+        | Kind::Signum
+        | Kind::MaxMin
+        | Kind::Saturation
+        | Kind::DeadBand
+        | Kind::Convert
+        | Kind::Mux
+        | Kind::Demux
+        | Kind::Extractor
+        | Kind::LogicalOp
+        | Kind::RelationalOp
+        | Kind::Shift
+        | Kind::BitSet
+        | Kind::BitClear
+        | Kind::ExtractBits
+        | Kind::Switch2
+        | Kind::Select
+        | Kind::Logic
+        | Kind::AndLog
+        | Kind::Dollar
+        | Kind::SampHold
+        | Kind::Register
+        | Kind::ModuloCount
+        | Kind::GatedDelay
+        | Kind::Sensor
+        | Kind::EvtDly
+        | Kind::EvtVarDly
+        | Kind::IfThEl
+        | Kind::ESelect
+        | Kind::Halt => true,
     }
 }
 
@@ -206,7 +471,38 @@ fn state_spread(s: &Spec) -> bool
 {
     match s.kind {
         Kind::Dollar | Kind::GatedDelay => is_spread(s.state.len(), s.outs.port(0).elements()),
-        _ => true,
+        Kind::Const
+        | Kind::Summation
+        | Kind::GainBlk
+        | Kind::Product
+        | Kind::AbsValue
+        | Kind::Signum
+        | Kind::MaxMin
+        | Kind::Saturation
+        | Kind::DeadBand
+        | Kind::Convert
+        | Kind::Mux
+        | Kind::Demux
+        | Kind::Extractor
+        | Kind::LogicalOp
+        | Kind::RelationalOp
+        | Kind::Shift
+        | Kind::BitSet
+        | Kind::BitClear
+        | Kind::ExtractBits
+        | Kind::Switch2
+        | Kind::Select
+        | Kind::Logic
+        | Kind::AndLog
+        | Kind::SampHold
+        | Kind::Register
+        | Kind::ModuloCount
+        | Kind::Sensor
+        | Kind::EvtDly
+        | Kind::EvtVarDly
+        | Kind::IfThEl
+        | Kind::ESelect
+        | Kind::Halt => true,
     }
 }
 
@@ -221,7 +517,39 @@ fn index_ok(s: &Spec, k: usize) -> bool
 {
     match s.kind {
         Kind::Extractor => at_most(s.params.at(k), s.ins.port(0).elements()),
-        _ => true,
+        Kind::Const
+        | Kind::Summation
+        | Kind::GainBlk
+        | Kind::Product
+        | Kind::AbsValue
+        | Kind::Signum
+        | Kind::MaxMin
+        | Kind::Saturation
+        | Kind::DeadBand
+        | Kind::Convert
+        | Kind::Mux
+        | Kind::Demux
+        | Kind::LogicalOp
+        | Kind::RelationalOp
+        | Kind::Shift
+        | Kind::BitSet
+        | Kind::BitClear
+        | Kind::ExtractBits
+        | Kind::Switch2
+        | Kind::Select
+        | Kind::Logic
+        | Kind::AndLog
+        | Kind::Dollar
+        | Kind::SampHold
+        | Kind::Register
+        | Kind::ModuloCount
+        | Kind::GatedDelay
+        | Kind::Sensor
+        | Kind::EvtDly
+        | Kind::EvtVarDly
+        | Kind::IfThEl
+        | Kind::ESelect
+        | Kind::Halt => true,
     }
 }
 
@@ -241,123 +569,6 @@ fn known_out(s: &Spec, k: usize) -> bool
     ensures { result ≡ known_out s.now k }
 {
     is_known(s.outs.port(k)) && s.outs.port(k).elements() <= 256
-}
-
-#[tactic(auto, using(crate::proofs::FirstNot::found, crate::proofs::FirstNot::passed))]
-fn first_in_type_ok(s: &Spec) -> Option<usize>
-    ensures first { result ≡ first_not (in_type_ok s.now.kind s.now) (length s.now.ins) }
-    ensures few { IfSome result (λ k. k + 1 < 2 ^ 63) }
-{
-    for k in 0..s.ins.len() {
-        if !in_type_ok(s, k) {
-            return Some(k);
-        }
-    }
-    None
-}
-
-#[tactic(auto, using(crate::proofs::FirstNot::found, crate::proofs::FirstNot::passed))]
-fn first_out_type_ok(s: &Spec) -> Option<usize>
-    ensures first { result ≡ first_not (out_type_ok s.now.kind s.now) (length s.now.outs) }
-    ensures few { IfSome result (λ k. k + 1 < 2 ^ 63) }
-{
-    for k in 0..s.outs.len() {
-        if !out_type_ok(s, k) {
-            return Some(k);
-        }
-    }
-    None
-}
-
-#[tactic(auto, using(crate::proofs::FirstNot::found, crate::proofs::FirstNot::passed))]
-fn first_param_fits_at(s: &Spec) -> Option<usize>
-    ensures first { result ≡ first_not (param_fits_at s.now.kind s.now) (length s.now.params) }
-    ensures few { IfSome result (λ k. k + 1 < 2 ^ 63) }
-{
-    for k in 0..s.params.len() {
-        if !param_fits_at(s, k) {
-            return Some(k);
-        }
-    }
-    None
-}
-
-#[tactic(auto, using(crate::proofs::FirstNot::found, crate::proofs::FirstNot::passed))]
-fn first_state_fits_at(s: &Spec) -> Option<usize>
-    ensures first { result ≡ first_not (state_fits_at s.now.kind s.now) (length s.now.state) }
-    ensures few { IfSome result (λ k. k + 1 < 2 ^ 63) }
-{
-    for k in 0..s.state.len() {
-        if !state_fits_at(s, k) {
-            return Some(k);
-        }
-    }
-    None
-}
-
-#[tactic(auto, using(crate::proofs::FirstNot::found, crate::proofs::FirstNot::passed))]
-fn first_in_size_ok(s: &Spec) -> Option<usize>
-    ensures first { result ≡ first_not (in_size_ok s.now.kind s.now) (length s.now.ins) }
-    ensures few { IfSome result (λ k. k + 1 < 2 ^ 63) }
-{
-    for k in 0..s.ins.len() {
-        if !in_size_ok(s, k) {
-            return Some(k);
-        }
-    }
-    None
-}
-
-#[tactic(auto, using(crate::proofs::FirstNot::found, crate::proofs::FirstNot::passed))]
-fn first_out_size_ok(s: &Spec) -> Option<usize>
-    ensures first { result ≡ first_not (out_size_ok s.now.kind s.now) (length s.now.outs) }
-    ensures few { IfSome result (λ k. k + 1 < 2 ^ 63) }
-{
-    for k in 0..s.outs.len() {
-        if !out_size_ok(s, k) {
-            return Some(k);
-        }
-    }
-    None
-}
-
-#[tactic(auto, using(crate::proofs::FirstNot::found, crate::proofs::FirstNot::passed))]
-fn first_index_ok(s: &Spec) -> Option<usize>
-    ensures first { result ≡ first_not (index_ok s.now.kind s.now) (length s.now.params) }
-    ensures few { IfSome result (λ k. k + 1 < 2 ^ 63) }
-{
-    for k in 0..s.params.len() {
-        if !index_ok(s, k) {
-            return Some(k);
-        }
-    }
-    None
-}
-
-#[tactic(auto, using(crate::proofs::FirstNot::found, crate::proofs::FirstNot::passed))]
-fn first_known_in(s: &Spec) -> Option<usize>
-    ensures first { result ≡ first_not (known_in s.now) (length s.now.ins) }
-    ensures few { IfSome result (λ k. k + 1 < 2 ^ 63) }
-{
-    for k in 0..s.ins.len() {
-        if !known_in(s, k) {
-            return Some(k);
-        }
-    }
-    None
-}
-
-#[tactic(auto, using(crate::proofs::FirstNot::found, crate::proofs::FirstNot::passed))]
-fn first_known_out(s: &Spec) -> Option<usize>
-    ensures first { result ≡ first_not (known_out s.now) (length s.now.outs) }
-    ensures few { IfSome result (λ k. k + 1 < 2 ^ 63) }
-{
-    for k in 0..s.outs.len() {
-        if !known_out(s, k) {
-            return Some(k);
-        }
-    }
-    None
 }
 
 fn type_not_here(side: i64, k: usize) -> Broken
@@ -406,16 +617,16 @@ impl Spec {
     pub fn types_broken(&self) -> Option<Broken>
         ensures { result ≡ types_broken_of self.now.kind self.now }
     {
-        if let Some(k) = first_in_type_ok(self) {
+        if let Some(k) = first_failing(self.ins.len(), |k| in_type_ok(self, k)) {
             return Some(type_not_here(1, k));
         }
-        if let Some(k) = first_out_type_ok(self) {
+        if let Some(k) = first_failing(self.outs.len(), |k| out_type_ok(self, k)) {
             return Some(type_not_here(2, k));
         }
-        if let Some(k) = first_param_fits_at(self) {
+        if let Some(k) = first_failing(self.params.len(), |k| param_fits_at(self, k)) {
             return Some(value_not_here(1, k));
         }
-        match first_state_fits_at(self) {
+        match first_failing(self.state.len(), |k| state_fits_at(self, k)) {
             None => None,
             Some(k) => Some(value_not_here(2, k)),
         }
@@ -426,10 +637,10 @@ impl Spec {
     pub fn sizes_broken(&self) -> Option<Broken>
         ensures { result ≡ sizes_broken_of self.now.kind self.now }
     {
-        if let Some(k) = first_in_size_ok(self) {
+        if let Some(k) = first_failing(self.ins.len(), |k| in_size_ok(self, k)) {
             return Some(wrong_size(1, k));
         }
-        if let Some(k) = first_out_size_ok(self) {
+        if let Some(k) = first_failing(self.outs.len(), |k| out_size_ok(self, k)) {
             return Some(wrong_size(2, k));
         }
         if !params_spread(self) {
@@ -438,7 +649,7 @@ impl Spec {
         if !state_spread(self) {
             return Some(wrong_shape(2, self.state.len()));
         }
-        match first_index_ok(self) {
+        match first_failing(self.params.len(), |k| index_ok(self, k)) {
             None => None,
             Some(k) => Some(wrong_shape(1, k + 1)),
         }
@@ -454,7 +665,36 @@ impl Spec {
             Kind::Dollar | Kind::GatedDelay => self.outs.port(0).elements() as usize,
             Kind::Register => self.state.len(),
             Kind::ModuloCount => 1,
-            _ => 0,
+            Kind::Const
+            | Kind::Summation
+            | Kind::GainBlk
+            | Kind::Product
+            | Kind::AbsValue
+            | Kind::Signum
+            | Kind::MaxMin
+            | Kind::Saturation
+            | Kind::DeadBand
+            | Kind::Convert
+            | Kind::Mux
+            | Kind::Demux
+            | Kind::Extractor
+            | Kind::LogicalOp
+            | Kind::RelationalOp
+            | Kind::Shift
+            | Kind::BitSet
+            | Kind::BitClear
+            | Kind::ExtractBits
+            | Kind::Switch2
+            | Kind::Select
+            | Kind::Logic
+            | Kind::AndLog
+            | Kind::SampHold
+            | Kind::Sensor
+            | Kind::EvtDly
+            | Kind::EvtVarDly
+            | Kind::IfThEl
+            | Kind::ESelect
+            | Kind::Halt => 0,
         }
     }
 
@@ -488,6 +728,13 @@ impl Spec {
         }
     }
 
+    fn has_feed(&self) -> bool
+        ensures { result ≡ feed_ok self.now.kind self.now.feed (length self.now.ins) }
+    {
+        let n = self.ins.len();
+        self.feed.len() == n && first_unfed(self.kind, self.feed.as_slice(), n).is_none()
+    }
+
     fn is_formed(&self) -> bool
         ensures { result ≡ formed_of self.now.kind self.now }
     {
@@ -502,7 +749,14 @@ impl Spec {
             && self.has_state_len()
             && first_state(self.kind, self.params.as_slice(), self.state.as_slice()).is_none()
             && self.has_firing()
-            && (self.feed || !self.kind.feeds())
+            && self.has_feed()
+    }
+
+    fn has_known_ports(&self) -> bool
+        ensures { result ≡ known_of self.now }
+    {
+        first_failing(self.ins.len(), |k| known_in(self, k)).is_none()
+            && first_failing(self.outs.len(), |k| known_out(self, k)).is_none()
     }
 
     /// Whether the counts, parameters, state, first dates and feedthrough are such as the check of a block can give for the kind,
@@ -512,8 +766,7 @@ impl Spec {
         ensures { result ≡ typed self.now }
     {
         self.is_formed()
-            && first_known_in(self).is_none()
-            && first_known_out(self).is_none()
+            && self.has_known_ports()
             && self.types_broken().is_none()
             && self.sizes_broken().is_none()
     }

@@ -1,11 +1,14 @@
 //! The tests of a block's parameters and state, each by one column of the table of forms.
-ghost use Rattle.std.specs.Prelude.{◌≡◌, ◌<◌, ◌≤◌, ◌^◌, ◌*◌, length, ℕ, IfSome, true, not, ◌||◌};
-ghost use Rattle.sci_base.specs.Lists.{at};
+ghost use Rattle.std.specs.Prelude.{◌≡◌, ◌<◌, ◌≤◌, ◌^◌, ◌*◌, length, ℕ, IfSome, IfOk, true, not, ◌||◌};
+ghost use Rattle.sci_base.specs.Lists.{at, truth_at};
 ghost use Rattle.sci_base.specs.Fit.{int_eq};
 ghost use Rattle.sci_forms.specs.declared.Kind.TheVariants.{Logic as LogicKind, ModuloCount as CountKind};
-ghost use Rattle.sci_forms.specs.Forms.{has_delay, between, is_mode, is_flag, is_sign, is_operation, params_len_ok, param_ok, state_len_ok, state_ok, firing_ok, within, first_not};
+ghost use Rattle.sci_forms.specs.Forms.{between, is_sign, is_operation, params_len_ok, param_ok, state_len_ok, state_ok, within, first_not, fed, unfed, own_feed};
 
 use crate::Kind;
+use crate::search::first_failing;
+use sci_base::{NoMemory, Truths};
+use std::alloc::Global;
 
 pub fn between(low: i64, high: i64, v: i64) -> bool
     ensures { result ≡ between low high v }
@@ -95,7 +98,19 @@ pub fn params_len_ok(kind: Kind, n: usize, m: usize, len: usize) -> bool
         Kind::DeadBand => len == 3,
         Kind::Extractor => 1 <= len && len <= 256,
         Kind::Logic => len == table_len(n, m),
-        _ => len == 0,
+        Kind::Signum
+        | Kind::Mux
+        | Kind::Demux
+        | Kind::Select
+        | Kind::AndLog
+        | Kind::Dollar
+        | Kind::SampHold
+        | Kind::Register
+        | Kind::GatedDelay
+        | Kind::EvtVarDly
+        | Kind::IfThEl
+        | Kind::ESelect
+        | Kind::Halt => len == 0,
     }
 }
 
@@ -149,7 +164,20 @@ pub fn param_ok(kind: Kind, n: usize, ps: &[i64], k: usize) -> bool
         Kind::ModuloCount => between(1, 2147483647, v),
         Kind::Sensor => between(1, 255, v),
         Kind::EvtDly => between(-1, 2147483647, v),
-        _ => true,
+        Kind::Const
+        | Kind::Signum
+        | Kind::Mux
+        | Kind::Demux
+        | Kind::Select
+        | Kind::AndLog
+        | Kind::Dollar
+        | Kind::SampHold
+        | Kind::Register
+        | Kind::GatedDelay
+        | Kind::EvtVarDly
+        | Kind::IfThEl
+        | Kind::ESelect
+        | Kind::Halt => true,
     }
 }
 
@@ -161,7 +189,36 @@ pub fn state_len_ok(kind: Kind, len: usize) -> bool
         Kind::Dollar | Kind::GatedDelay => 1 <= len,
         Kind::Register => 1 <= len && len <= 256,
         Kind::ModuloCount => len == 1,
-        _ => true,
+        Kind::Const
+        | Kind::Summation
+        | Kind::GainBlk
+        | Kind::Product
+        | Kind::AbsValue
+        | Kind::Signum
+        | Kind::MaxMin
+        | Kind::Saturation
+        | Kind::DeadBand
+        | Kind::Convert
+        | Kind::Mux
+        | Kind::Demux
+        | Kind::Extractor
+        | Kind::LogicalOp
+        | Kind::RelationalOp
+        | Kind::Shift
+        | Kind::BitSet
+        | Kind::BitClear
+        | Kind::ExtractBits
+        | Kind::Switch2
+        | Kind::Select
+        | Kind::Logic
+        | Kind::AndLog
+        | Kind::SampHold
+        | Kind::Sensor
+        | Kind::EvtDly
+        | Kind::EvtVarDly
+        | Kind::IfThEl
+        | Kind::ESelect
+        | Kind::Halt => true,
     }
 }
 
@@ -173,35 +230,92 @@ pub fn state_ok(kind: Kind, ps: &[i64], xs: &[i64], k: usize) -> bool
 {
     match kind {
         Kind::ModuloCount => 0 <= xs[k] && xs[k] < ps[0],
-        _ => true,
+        Kind::Const
+        | Kind::Summation
+        | Kind::GainBlk
+        | Kind::Product
+        | Kind::AbsValue
+        | Kind::Signum
+        | Kind::MaxMin
+        | Kind::Saturation
+        | Kind::DeadBand
+        | Kind::Convert
+        | Kind::Mux
+        | Kind::Demux
+        | Kind::Extractor
+        | Kind::LogicalOp
+        | Kind::RelationalOp
+        | Kind::Shift
+        | Kind::BitSet
+        | Kind::BitClear
+        | Kind::ExtractBits
+        | Kind::Switch2
+        | Kind::Select
+        | Kind::Logic
+        | Kind::AndLog
+        | Kind::Dollar
+        | Kind::SampHold
+        | Kind::Register
+        | Kind::GatedDelay
+        | Kind::Sensor
+        | Kind::EvtDly
+        | Kind::EvtVarDly
+        | Kind::IfThEl
+        | Kind::ESelect
+        | Kind::Halt => true,
     }
 }
 
 /// The first parameter that isn't as it should be.
-#[tactic(auto, using(crate::proofs::FirstNot::found, crate::proofs::FirstNot::passed))]
 pub fn first_param(kind: Kind, n: usize, ps: &[i64]) -> Option<usize>
     ensures first { result ≡ first_not (param_ok kind n ps.now) (length ps.now) }
     ensures within { IfSome result (λ k. k < length ps.now) }
 {
-    for k in 0..ps.len() {
-        if !param_ok(kind, n, ps, k) {
-            return Some(k);
-        }
-    }
-    None
+    first_failing(ps.len(), |k| param_ok(kind, n, ps, k))
 }
 
 /// The first value of the state that isn't as it should be.
-#[tactic(auto, using(crate::proofs::FirstNot::found, crate::proofs::FirstNot::passed))]
 pub fn first_state(kind: Kind, ps: &[i64], xs: &[i64]) -> Option<usize>
     requires { kind ≡ CountKind → 0 < length ps.now }
     ensures first { result ≡ first_not (state_ok kind ps.now xs.now) (length xs.now) }
     ensures within { IfSome result (λ k. k < length xs.now) }
 {
-    for k in 0..xs.len() {
-        if !state_ok(kind, ps, xs, k) {
-            return Some(k);
-        }
+    first_failing(xs.len(), |k| state_ok(kind, ps, xs, k))
+}
+
+/// Of each of `n` inputs whether it has feedthrough by the kind.
+#[tactic(auto, using(crate::proofs::Feeds::one_more_feed))]
+pub fn own_feed(alloc: Global, kind: Kind, n: usize) -> Result<Truths, NoMemory>
+    requires { n < 2 ^ 63 }
+    ensures { IfOk result (λ r. r ≡ own_feed kind n) }
+{
+    let mut truths = Truths::of(Vec::new(alloc));
+    for k in 0..n {
+        truths.push(kind.feeds_at(k + 1))?;
     }
-    None
+    Ok(truths)
+}
+
+/// The first of `n` inputs, counted from 0, that has feedthrough by the kind.
+pub fn first_fed(kind: Kind, n: usize) -> Option<usize>
+    requires { n < 2 ^ 63 }
+    ensures first { result ≡ first_not (unfed kind) n }
+    ensures within { IfSome result (λ k. k < n) }
+{
+    first_failing(n, |k| !kind.feeds_at(k + 1))
+}
+
+fn truth_at(truths: &[bool], k: usize) -> bool
+    ensures { result ≡ truth_at truths.now k }
+{
+    if k < truths.len() { truths[k] } else { false }
+}
+
+/// The first of `n` inputs, counted from 0, that has feedthrough by the kind and none by these truths.
+pub fn first_unfed(kind: Kind, truths: &[bool], n: usize) -> Option<usize>
+    requires { n < 2 ^ 63 }
+    ensures first { result ≡ first_not (fed kind truths.now) n }
+    ensures within { IfSome result (λ k. k < n) }
+{
+    first_failing(n, |k| truth_at(truths, k) || !kind.feeds_at(k + 1))
 }

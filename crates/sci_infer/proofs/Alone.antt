@@ -3,10 +3,10 @@ use Rattle.std.proofs.Common.{ℕ, ℤ, pos, ◌≡◌, ◌≤ℤ◌, ⊎_elim, 
 use Rattle.std.proofs.lemmas.Int.{ints}
 use Rattle.std.proofs.lemmas.Bool.{cases_order}
 use Rattle.std.proofs.lemmas.List.{same_lists, get_or_default}
-use Rattle.sci_values.specs.declared.Verdict.{Verdict}
-use Rattle.sci_values.specs.declared.Verdict.TheVariants.{Conflict, Open, Values}
-use Rattle.sci_values.specs.Values.{declared_at, IsSplit, IsAgreed}
-use Rattle.sci_values.specs.declared.Span.{Span}
+use Rattle.sci_infer.specs.declared.values.Verdict.{Verdict}
+use Rattle.sci_infer.specs.declared.values.Verdict.TheVariants.{Conflict, Open, Values}
+use Rattle.sci_infer.specs.Values.{declared_at, IsSplit, IsAgreed}
+use Rattle.sci_infer.specs.declared.values.Span.{Span}
 use Rattle.sci_infer.specs.declared.parts.Part.{Part}
 use Rattle.sci_infer.specs.Typing.{Decides, declared_of}
 use Rattle.sci_net.specs.Parts.{Parts}

@@ -1,13 +1,14 @@
 -- Blocks have few ports.
-use Rattle.std.proofs.Common.{◌≡◌, ℕ, ◌≤◌, Bool, true, false, ◌&&◌, length, refl, subst, sym, arith, lit≤}
-use Rattle.std.specs.Prelude.{nat_le}
+use Rattle.std.proofs.Common.{◌≡◌, ℕ, suc, ◌≤◌, Bool, true, false, ◌&&◌, length, refl, subst, sym, arith, lit≤}
+use Rattle.std.specs.Prelude.{nat_le, All}
+use Rattle.std.proofs.lemmas.List.{get_or_default}
 use Rattle.std.proofs.lemmas.Bool.Decides.{nat_tests}
 use Rattle.sci_forms.specs.declared.Kind.{Kind}
 use Rattle.sci_forms.specs.declared.Kind.TheVariants.{Const}
 use Rattle.sci_forms.specs.declared.spec.Spec.{Spec}
 use Rattle.sci_forms.specs.Forms.{counts_of}
 use Rattle.sci_forms.specs.Typed.{formed_of, counted}
-use Rattle.sci_net.specs.Parts.{Parts, spec_of}
+use Rattle.sci_net.specs.Parts.{Parts, spec_of, no_spec}
 use Rattle.sci_net.specs.Flat.{IsFlat}
 
 pub left : (a b : Bool) → (a && b) ≡ true → a ≡ true
@@ -43,3 +44,14 @@ few_outs s h =
 pub formed_read : (n : Parts) (b : ℕ) (x : Spec) → IsFlat n → 1 ≤ b → b ≤ length n.specs → x ≡ spec_of n b → formed_of x.kind x ≡ true
 formed_read n b x flat least most e =
     subst (λ (s : Spec). formed_of s.kind s ≡ true) (sym e) (flat.formed b (record { least = least; most = most }))
+
+-- of all blocks
+pub all_few_ins : (n : Parts) → IsFlat n → All (λ (s : Spec). length s.ins ≤ 64) n.specs
+all_few_ins n flat k d l =
+    let h = flat.formed (suc k) (record { least = omega arith; most = omega (arith, l) }) in
+    subst (λ (s : Spec). length s.ins ≤ 64) (get_or_default n.specs k no_spec d l) (few_ins (spec_of n (suc k)) h)
+
+pub all_few_outs : (n : Parts) → IsFlat n → All (λ (s : Spec). length s.outs ≤ 64) n.specs
+all_few_outs n flat k d l =
+    let h = flat.formed (suc k) (record { least = omega arith; most = omega (arith, l) }) in
+    subst (λ (s : Spec). length s.outs ≤ 64) (get_or_default n.specs k no_spec d l) (few_outs (spec_of n (suc k)) h)

@@ -1,6 +1,8 @@
 -- Specs filled with the numbers of a typing.
-use Rattle.std.proofs.Common.{◌≡◌, ℕ, ℤ, zero, suc, ◌+◌, ◌*◌, ◌<◌, ◌≤◌, List, [], ◌∷◌, ◌++◌, length, get_or, drop, sym, ap, ◌∙◌, arith, length-append, append_assoc}
-use Rattle.std.proofs.lemmas.List.{drop_more, drop_all, append-nil}
+use Rattle.std.proofs.Common.{◌≡◌, ℕ, ℤ, zero, suc, ◌+◌, ◌*◌, ◌<◌, ◌≤◌, List, [], ◌∷◌, ◌++◌, length, get_or, drop, take, sym, ap, ◌∙◌, arith, length-append, append_assoc}
+use Rattle.std.proofs.Math.ListN.{set}
+use Rattle.std.proofs.lemmas.List.{drop_more, drop_all, append-nil, take_more_set, drop-set-lt, take_all, get_or_default}
+use Rattle.std.proofs.lemmas.Grind.{drop_more_same}
 use Rattle.sci_forms.specs.declared.spec.Spec.{Spec}
 use Rattle.sci_infer.specs.PortParts.{block_parts, parts_from}
 use Rattle.sci_infer.specs.Layout.{start_of}
@@ -45,3 +47,26 @@ ports_more vs done whole new ps i start h before is =
     ap (typed_ports vs (start + 3 * i)) (drop_more ps i no_port h) ∙ ap (λ (j : ℕ). typed_port vs (start + 3 * i) ∷ typed_ports vs j (drop (i + 1) ps)) next in
     ap (λ (qs : List Port). qs ++ rest) is
     ∙ (append_assoc done (typed_port vs (start + 3 * i) ∷ []) rest ∙ (sym (ap (λ (qs : List Port). done ++ qs) more) ∙ before))
+
+-- the spec at a place is changed: those before it are filled, and those behind it are as they were
+pub mutated : (vs : List ℤ) (now new orig whole : List Spec) (i j : ℕ) (x y : Spec) → i < length orig → length now ≡ length orig → x ≡ get_or orig i x → y ≡ typed_spec vs j x → new ≡ set now i y
+    → take i now ++ typed_specs vs j (drop i orig) ≡ whole → take (i + 1) new ++ typed_specs vs (j + (3 * length x.ins + 3 * length x.outs)) (drop (i + 1) orig) ≡ whole
+mutated vs now new orig whole i j x y h long e filled is before =
+    filled_more vs (take i now) whole (take (i + 1) new) orig i j x y h e before filled
+    (ap (λ (ss : List Spec). take (i + 1) ss) is ∙ take_more_set now i y (omega (arith, h, long)))
+
+pub behind : (now new orig : List Spec) (i : ℕ) (y : Spec) → drop i now ≡ drop i orig → new ≡ set now i y → drop (i + 1) new ≡ drop (i + 1) orig
+behind now new orig i y same is =
+    ap (λ (ss : List Spec). drop (i + 1) ss) is ∙ (drop-set-lt (i + 1) now i y (omega arith) ∙ drop_more_same now orig i same)
+
+pub at_front : (now orig : List Spec) (i : ℕ) (x d : Spec) → i < length orig → length now ≡ length orig → drop i now ≡ drop i orig → x ≡ get_or now i d → x ≡ get_or orig i d
+at_front now orig i x d h long same e =
+    let a = drop_more now i d (omega (arith, h, long)) in
+    let b = drop_more orig i d h in
+    cc
+
+pub all_filled : (vs : List ℤ) (now orig : List Spec) (i j : ℕ) → length orig ≤ i → length now ≡ length orig → take i now ++ typed_specs vs j (drop i orig) ≡ typed_specs vs 0 orig → now ≡ typed_specs vs 0 orig
+all_filled vs now orig i j h long e = sym (take_all i now (omega (arith, h, long))) ∙ (sym (filled_all vs (take i now) orig i j h) ∙ e)
+
+pub same_spec : (orig : List Spec) (i : ℕ) (x y : Spec) → i < length orig → x ≡ get_or orig i x → y ≡ get_or orig i y → x ≡ y
+same_spec orig i x y h e f = e ∙ (get_or_default orig i x y h ∙ sym f)

@@ -8,3 +8,5 @@ pub mod Declared
 pub mod Sums
 pub mod Filled
 pub mod TypedNet
+pub mod Trees
+pub mod Labels

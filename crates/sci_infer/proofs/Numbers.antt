@@ -4,12 +4,12 @@ use Rattle.std.proofs.lemmas.Option.{slice_get_within, same_Some}
 use Rattle.std.proofs.lemmas.Bool.{cases_eq, cases_order}
 use Rattle.std.proofs.lemmas.List.{get_or_read}
 use Rattle.std.proofs.lemmas.List.Elements.{Contains-push, Contains-push_cases, Contains-append_left}
-use Rattle.sci_classes.specs.Classes.{Joins, Tied, back}
-use Rattle.sci_classes.specs.declared.Tie.{Tie}
-use Rattle.sci_classes.proofs.Trees.{Tied-by, Tied-one, Tied-equal}
-use Rattle.sci_values.specs.Values.{Has}
-use Rattle.sci_values.specs.declared.Verdict.{Verdict}
-use Rattle.sci_values.specs.declared.Verdict.TheVariants.{Conflict, Open, Values}
+use Rattle.sci_infer.specs.Classes.{Joins, Tied, back}
+use Rattle.sci_infer.specs.declared.classes.Tie.{Tie}
+use Rattle.sci_infer.proofs.Trees.{Tied-by, Tied-one, Tied-equal}
+use Rattle.sci_infer.specs.Values.{Has}
+use Rattle.sci_infer.specs.declared.values.Verdict.{Verdict}
+use Rattle.sci_infer.specs.declared.values.Verdict.TheVariants.{Conflict, Open, Values}
 use Rattle.sci_net.specs.Parts.{Parts}
 use Rattle.sci_infer.specs.declared.parts.Part.{Part}
 use Rattle.sci_infer.specs.declared.parts.Layout.{Layout}

@@ -3,12 +3,12 @@ use Rattle.std.proofs.Common.{ℕ, ℤ, pos, ◌≡◌, ◌<◌, ◌<ℤ◌, Lis
 use Rattle.std.proofs.lemmas.Int.{ints}
 use Rattle.std.proofs.lemmas.Option.{slice_get_within, get_or_from_slice_get, slice_get-get_or, same_Some}
 use Rattle.std.proofs.lemmas.List.{get_or-map, length-map, get_or_default}
-use Rattle.sci_classes.specs.Classes.{Tied, same, Joins, IsWithin}
-use Rattle.sci_classes.specs.declared.Tie.{Tie}
-use Rattle.sci_classes.proofs.Trees.{Tied-trans, Tied-sym, Tied-equal, Tied-one}
-use Rattle.sci_values.specs.Values.{declared_at, Has, AreAgreed, IsVerdict, IsKnown, AreKnown}
-use Rattle.sci_values.specs.declared.Verdict.{Verdict}
-use Rattle.sci_values.specs.declared.Verdict.TheVariants.{Conflict, Open, Values}
+use Rattle.sci_infer.specs.Classes.{Tied, same, Joins, IsWithin}
+use Rattle.sci_infer.specs.declared.classes.Tie.{Tie}
+use Rattle.sci_infer.proofs.Trees.{Tied-trans, Tied-sym, Tied-equal, Tied-one}
+use Rattle.sci_infer.specs.Values.{declared_at, Has, AreAgreed, IsVerdict, IsKnown, AreKnown}
+use Rattle.sci_infer.specs.declared.values.Verdict.{Verdict}
+use Rattle.sci_infer.specs.declared.values.Verdict.TheVariants.{Conflict, Open, Values}
 use Rattle.sci_infer.specs.declared.parts.Part.{Part}
 use Rattle.sci_infer.specs.declared.parts.What.{What}
 use Rattle.sci_infer.specs.Answer.{no_part}

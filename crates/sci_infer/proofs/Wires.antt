@@ -3,8 +3,8 @@ use Rattle.std.proofs.Common.{ℕ, ◌≡◌, ◌+◌, ◌<◌, inl, inr, ⊎_el
 use Rattle.std.proofs.lemmas.Option.{same_Some, slice_get_read}
 use Rattle.std.proofs.lemmas.Bool.{cases_eq}
 use Rattle.std.proofs.lemmas.List.Elements.{Contains-push, Contains-push_cases, Contains-append_left}
-use Rattle.sci_classes.specs.Classes.{Joins}
-use Rattle.sci_classes.specs.declared.Tie.{Tie}
+use Rattle.sci_infer.specs.Classes.{Joins}
+use Rattle.sci_infer.specs.declared.classes.Tie.{Tie}
 use Rattle.sci_net.specs.declared.Wire.{Wire}
 use Rattle.sci_net.specs.Parts.{Parts, wire_of}
 use Rattle.sci_infer.specs.declared.parts.Part.{Part}

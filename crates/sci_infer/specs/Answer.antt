@@ -1,19 +1,19 @@
 -- The answer to a flat net: the typed net, or the first rule that it breaks.
 use Rattle.std.specs.Prelude.{◌≡◌, ℕ, ℤ, pos, List, [], ◌∷◌, ◌++◌, Option, Some, None, Result, Ok, Err, slice_index_or}
-use Rattle.sci_base.specs.Plain.{Violation, violation_of}
+use Rattle.sci_base.specs.Plain.{Violation}
 use Rattle.sci_base.specs.declared.refusal.Rule.{Rule}
 use Rattle.sci_base.specs.declared.refusal.Rule.TheVariants.{TypeConflict, SizeConflict, TypeOpen, SizeOpen}
-use Rattle.sci_values.specs.declared.Span.{Span}
-use Rattle.sci_values.specs.declared.Verdict.{Verdict}
-use Rattle.sci_values.specs.declared.Verdict.TheVariants.{Conflict, Open, Values}
+use Rattle.sci_infer.specs.declared.values.Span.{Span}
+use Rattle.sci_infer.specs.declared.values.Verdict.{Verdict}
+use Rattle.sci_infer.specs.declared.values.Verdict.TheVariants.{Conflict, Open, Values}
 use Rattle.sci_net.specs.Parts.{Parts, path_of}
 use Rattle.sci_infer.specs.declared.parts.Part.{Part}
 use Rattle.sci_infer.specs.declared.parts.Side.{Side}
 use Rattle.sci_infer.specs.declared.parts.Side.TheVariants.{Input, Output}
 use Rattle.sci_infer.specs.declared.parts.What.{What}
 use Rattle.sci_infer.specs.declared.parts.What.TheVariants.{DataType, Rows, Columns}
-use Rattle.sci_infer.specs.declared.InferStop.{InferStop}
-use Rattle.sci_infer.specs.declared.InferStop.TheVariants.{Refused, Memory}
+use Rattle.sci_base.specs.declared.stop.Stop.{Stop}
+use Rattle.sci_base.specs.Stops.{StopsBy}
 use Rattle.sci_infer.specs.Typing.{Decides}
 use Rattle.sci_infer.specs.PortParts.{parts_in, AreTied}
 use Rattle.sci_infer.specs.Typed.{typed_parts}
@@ -76,12 +76,6 @@ pub record IsAnswer (n : Parts) (o : Result Parts Violation) : Type 0 where
   pub decided : Decides (parts_in n) (AreTied n) verdict
   pub given : answered n verdict ≡ o
 
--- a refusal is what the outcome is; want of memory says nothing
-abbrev pub Stops : Result Parts Violation → InferStop → Type 0
-Stops o (Refused r) = o ≡ Err (violation_of r)
-Stops o Memory = Unit {0}
-
 -- a refusal is the right answer; want of memory says nothing
-abbrev pub IsStop : Parts → InferStop → Type 0
-IsStop n (Refused r) = IsAnswer n (Err (violation_of r))
-IsStop n Memory = Unit {0}
+abbrev pub IsStop : Parts → Stop → Type 0
+IsStop n = StopsBy (λ v. IsAnswer n (Err v))

@@ -1,13 +1,13 @@
 -- The rules on the types and sizes of a net whose typing is known.
-use Rattle.std.specs.Prelude.{ℕ, ◌+◌, ℤ, pos, List, [], ◌∷◌, Option, Some, None, nat_le, if◌then◌else◌}
+use Rattle.std.specs.Prelude.{ℕ, ◌+◌, pos, List, [], ◌∷◌, Option, Some, None, nat_le, if◌then◌else◌}
 use Rattle.sci_base.specs.Plain.{Violation}
 use Rattle.sci_base.specs.declared.refusal.Rule.TheVariants.{SignalTooLarge}
 use Rattle.sci_forms.specs.declared.broken.Broken.{Broken}
-use Rattle.sci_forms.specs.declared.broken.Detail.{Detail}
-use Rattle.sci_forms.specs.declared.broken.Detail.TheVariants.{Empty, Pair, Triple}
+use Rattle.sci_forms.specs.declared.broken.Detail.TheVariants.{Pair}
 use Rattle.sci_forms.specs.declared.ports.Port.{Port}
 use Rattle.sci_forms.specs.declared.spec.Spec.{Spec}
 use Rattle.sci_forms.specs.Forms.{or_else}
+use Rattle.sci_forms.specs.Broken.{violation_at}
 use Rattle.sci_forms.specs.Ports.{elements}
 use Rattle.sci_forms.specs.Typed.{types_broken_of, sizes_broken_of}
 use Rattle.sci_net.specs.Parts.{Parts, path_of}
@@ -47,11 +47,6 @@ sum_large ss = if nat_le (all_elements ss) 65536 then None else Some (0, record 
 abbrev pub net_broken : List Spec → Option Blamed
 net_broken ss = or_else (specs_broken 1 ss) (or_else (specs_large 1 ss) (sum_large ss))
 
-abbrev pub numbers : Detail → List ℤ
-numbers Empty = []
-numbers (Pair a b) = a ∷ b ∷ []
-numbers (Triple a b c) = a ∷ b ∷ c ∷ []
-
 -- block 0 is the diagram as a whole
 abbrev pub violation : Parts → ℕ → Broken → Violation
-violation n b x = record { rule = x.rule; place = path_of n b; detail = numbers x.detail }
+violation n b x = violation_at (path_of n b) x

@@ -1,8 +1,8 @@
 -- One answer is right.
 use Rattle.std.specs.Prelude.{◌≡◌, Result}
 use Rattle.sci_base.specs.Plain.{Violation}
-use Rattle.sci_values.specs.declared.Verdict.{Verdict}
-use Rattle.sci_values.specs.declared.Verdict.TheVariants.{Conflict, Open, Values}
+use Rattle.sci_infer.specs.declared.values.Verdict.{Verdict}
+use Rattle.sci_infer.specs.declared.values.Verdict.TheVariants.{Conflict, Open, Values}
 use Rattle.sci_net.specs.Parts.{Parts}
 use Rattle.sci_infer.specs.Answer.{IsAnswer}
 

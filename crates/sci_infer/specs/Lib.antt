@@ -6,3 +6,5 @@ pub mod Typed
 pub mod Broken
 pub mod Answer
 pub mod Laws
+pub mod Classes
+pub mod Values

@@ -1,7 +1,7 @@
 -- Ties of parts, as they are found one place after the other.
 use Rattle.std.specs.Prelude.{◌≡◌, ℕ, ◌<◌, ◌<ℤ◌, pos, List, ◌⊎◌}
-use Rattle.sci_classes.specs.Classes.{Joins}
-use Rattle.sci_classes.specs.declared.Tie.{Tie}
+use Rattle.sci_infer.specs.Classes.{Joins}
+use Rattle.sci_infer.specs.declared.classes.Tie.{Tie}
 use Rattle.sci_net.specs.Parts.{Parts}
 use Rattle.sci_infer.specs.declared.parts.Part.{Part}
 use Rattle.sci_infer.specs.Typing.{IsAt, is_type}

@@ -1,8 +1,8 @@
 -- Typings of the parts of a net's ports. The parts stand in one list, and a typing gives each place of it a number.
 use Rattle.std.specs.Prelude.{◌≡◌, ◌≢◌, ℕ, ℤ, pos, ◌<◌, ◌<ℤ◌, ◌≤ℤ◌, Bool, true, false, List, length, map, Some, slice_get}
-use Rattle.sci_values.specs.Values.{declared_at, IsSplit, AreAgreed}
-use Rattle.sci_values.specs.declared.Verdict.{Verdict}
-use Rattle.sci_values.specs.declared.Verdict.TheVariants.{Conflict, Open, Values}
+use Rattle.sci_infer.specs.Values.{declared_at, IsSplit, AreAgreed}
+use Rattle.sci_infer.specs.declared.values.Verdict.{Verdict}
+use Rattle.sci_infer.specs.declared.values.Verdict.TheVariants.{Conflict, Open, Values}
 use Rattle.sci_infer.specs.declared.parts.Part.{Part}
 use Rattle.sci_infer.specs.declared.parts.What.{What}
 use Rattle.sci_infer.specs.declared.parts.What.TheVariants.{DataType, Rows, Columns}

@@ -4,9 +4,10 @@ ghost use Rattle.sci_infer.specs.Typing.{is_type};
 ghost use Rattle.sci_infer.specs.PortParts.{port_parts, side_parts, block_parts, parts_in};
 ghost use Rattle.sci_infer.specs.Layout.{offset, IsLayout};
 
+use sci_base::NoMemory;
 use sci_forms::{Port, Ports, Spec};
 use sci_net::Flat;
-use std::alloc::{AllocError, Global};
+use std::alloc::Global;
 
 /// The two sides of a block.
 #[derive(Clone, Copy, Debug, Drop, PartialEq, Eq)]
@@ -71,7 +72,7 @@ fn push_port(
     side: Side,
     port: u32,
     declared: Port,
-) -> Result<(), AllocError>
+) -> Result<(), NoMemory>
     ensures { OnOk result (parts.new.items ≡ parts.old.items ++ port_parts block side port declared) }
 {
     parts.push(Part {
@@ -99,7 +100,7 @@ fn push_port(
 }
 
 /// The parts of one side of a block.
-fn push_side(parts: &mut Vec<Part>, block: u32, side: Side, ports: &Ports) -> Result<(), AllocError>
+fn push_side(parts: &mut Vec<Part>, block: u32, side: Side, ports: &Ports) -> Result<(), NoMemory>
     requires { length ports.now ≤ 64 }
     ensures { OnOk result (parts.new.items ≡ parts.old.items ++ side_parts block side 1 ports.now) }
 {
@@ -110,7 +111,7 @@ fn push_side(parts: &mut Vec<Part>, block: u32, side: Side, ports: &Ports) -> Re
 }
 
 /// The parts of a block.
-fn push_block(parts: &mut Vec<Part>, number: u32, spec: &Spec) -> Result<(), AllocError>
+fn push_block(parts: &mut Vec<Part>, number: u32, spec: &Spec) -> Result<(), NoMemory>
     requires ins { length spec.now.ins ≤ 64 }
     requires outs { length spec.now.outs ≤ 64 }
     ensures { OnOk result (parts.new.items ≡ parts.old.items ++ block_parts number spec.now) }
@@ -121,7 +122,7 @@ fn push_block(parts: &mut Vec<Part>, number: u32, spec: &Spec) -> Result<(), All
 }
 
 /// The parts of a flat net's ports, and where each block's start.
-pub fn lay_out(alloc: Global, flat: &Flat) -> Result<Layout, AllocError>
+pub fn lay_out(alloc: Global, flat: &Flat) -> Result<Layout, NoMemory>
     ensures { IfOk result (λ l. IsLayout flat.now l) }
 {
     flat.well_formed();

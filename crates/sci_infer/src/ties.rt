@@ -5,10 +5,10 @@ ghost use Rattle.sci_infer.specs.PortParts.{parts_in};
 ghost use Rattle.sci_infer.specs.Layout.{IsLayout, IsOutputAt};
 ghost use Rattle.sci_infer.specs.Ties.{IsLike, IsWireTie, HasNoWireTie, WiresTied, IsFirstLike, BeginsAt, IsSharedTie, HasNoSharedTie, SharedTied};
 
+use crate::classes::Tie;
 use crate::parts::{Layout, Part, Side, What};
-use sci_classes::Tie;
+use sci_base::NoMemory;
 use sci_net::{Flat, Wire};
-use std::alloc::AllocError;
 
 /// Where a part of an output stands.
 fn output_place(flat: &Flat, layout: &Layout, wire: Wire, what: What) -> usize
@@ -42,7 +42,7 @@ fn wire_tie(flat: &Flat, layout: &Layout, at: usize) -> Option<Tie>
 }
 
 /// The ties along wires.
-pub fn tie_wires(flat: &Flat, layout: &Layout, ties: &mut Vec<Tie>) -> Result<(), AllocError>
+pub fn tie_wires(flat: &Flat, layout: &Layout, ties: &mut Vec<Tie>) -> Result<(), NoMemory>
     requires layout { IsLayout flat.now layout.now }
     ensures { OnOk result (WiresTied flat.now (length (parts_in flat.now)) ties.old.items ties.new.items) }
 {
@@ -103,7 +103,7 @@ fn shared_tie(_flat: &Flat, layout: &Layout, at: usize) -> Option<Tie>
 }
 
 /// The ties by negative numbers.
-pub fn tie_shared(flat: &Flat, layout: &Layout, ties: &mut Vec<Tie>) -> Result<(), AllocError>
+pub fn tie_shared(flat: &Flat, layout: &Layout, ties: &mut Vec<Tie>) -> Result<(), NoMemory>
     requires { IsLayout flat.now layout.now }
     ensures { OnOk result (SharedTied flat.now (length (parts_in flat.now)) ties.old.items ties.new.items) }
 {

@@ -1,11 +1,11 @@
 // Specs with the numbers of a typing.
-ghost use Rattle.std.specs.Prelude.{◌≡◌, ◌≤◌, ◌+◌, ◌*◌, length, IfOk};
-ghost use Rattle.sci_infer.specs.PortParts.{parts_in};
+ghost use Rattle.std.specs.Prelude.{◌≡◌, ◌≤◌, ◌+◌, ◌*◌, length, All, IfOk, OnOk};
+ghost use Rattle.sci_infer.specs.PortParts.{parts_from};
 ghost use Rattle.sci_infer.specs.Typed.{typed_port, typed_ports, typed_spec, typed_specs};
 
+use sci_base::NoMemory;
 use sci_forms::{Port, Ports, Spec};
-use sci_net::Flat;
-use std::alloc::{AllocError, Global};
+use std::alloc::Global;
 
 /// A port with the numbers at a place.
 fn fill_port(values: &[i64], at: usize) -> Port
@@ -20,12 +20,7 @@ fn fill_port(values: &[i64], at: usize) -> Port
 }
 
 /// Ports with the numbers that start at a place.
-fn fill_ports(
-    alloc: Global,
-    values: &[i64],
-    start: usize,
-    ports: &Ports,
-) -> Result<Ports, AllocError>
+fn fill_ports(alloc: Global, values: &[i64], start: usize, ports: &Ports) -> Result<Ports, NoMemory>
     requires { start + 3 * length ports.now ≤ length values.now }
     ensures { IfOk result (λ r. r ≡ typed_ports values.now start ports.now) }
 {
@@ -36,38 +31,40 @@ fn fill_ports(
     Ok(Ports::of(items))
 }
 
-/// A spec with the numbers that start at a place.
-fn fill_spec(alloc: Global, values: &[i64], start: usize, spec: &Spec) -> Result<Spec, AllocError>
-    requires { start + (3 * length spec.now.ins + 3 * length spec.now.outs) ≤ length values.now }
-    ensures { IfOk result (λ r. r ≡ typed_spec values.now start spec.now) }
+/// Gives the ports of a spec the numbers that start at a place.
+fn fill_spec(alloc: Global, values: &[i64], start: usize, spec: &mut Spec) -> Result<(), NoMemory>
+    requires { start + (3 * length spec.old.ins + 3 * length spec.old.outs) ≤ length values.now }
+    ensures { OnOk result (spec.new ≡ typed_spec values.now start spec.old) }
 {
     let ins = fill_ports(alloc, values, start, &spec.ins)?;
     let outs = fill_ports(alloc, values, start + 3 * spec.ins.len(), &spec.outs)?;
-    Ok(Spec {
-        kind: spec.kind,
-        params: spec.params.copy(alloc)?,
-        state: spec.state.copy(alloc)?,
-        firing: spec.firing.copy(alloc)?,
-        ins,
-        outs,
-        evtin: spec.evtin,
-        evtout: spec.evtout,
-        feed: spec.feed,
-    })
+    spec.ins = ins;
+    spec.outs = outs;
+    Ok(())
 }
 
-/// The specs of a flat net with the numbers of a typing.
-pub fn fill_specs(alloc: Global, values: &[i64], flat: &Flat) -> Result<Vec<Spec>, AllocError>
-    requires { length values.now ≡ length (parts_in flat.now) }
-    ensures { IfOk result (λ v. v.items ≡ typed_specs values.now 0 flat.now.specs) }
+/// How many parts the ports of a spec have.
+fn part_count(spec: &Spec) -> usize
+    requires ins { length spec.now.ins ≤ 64 }
+    requires outs { length spec.now.outs ≤ 64 }
+    ensures { result ≡ 3 * length spec.now.ins + 3 * length spec.now.outs }
 {
-    flat.well_formed();
-    let mut specs = Vec::new(alloc);
+    3 * spec.ins.len() + 3 * spec.outs.len()
+}
+
+/// Gives the ports of all specs the numbers of a typing.
+pub fn fill_specs(alloc: Global, values: &[i64], specs: &mut Vec<Spec>) -> Result<(), NoMemory>
+    requires few { length specs.old.items ≤ 2048 }
+    requires few_ins { All (λ s. length s.ins ≤ 64) specs.old.items }
+    requires few_outs { All (λ s. length s.outs ≤ 64) specs.old.items }
+    requires long { length values.now ≡ length (parts_from 1 specs.old.items) }
+    ensures { OnOk result (specs.new.items ≡ typed_specs values.now 0 specs.old.items) }
+{
     let mut start = 0;
-    for at in 0..flat.len() {
-        let spec = flat.spec(at + 1);
-        specs.push(fill_spec(alloc, values, start, spec)?)?;
-        start += 3 * spec.ins.len() + 3 * spec.outs.len();
+    for at in 0..specs.len() {
+        let count = part_count(&specs[at]);
+        fill_spec(alloc, values, start, &mut specs[at])?;
+        start += count;
     }
-    Ok(specs)
+    Ok(())
 }

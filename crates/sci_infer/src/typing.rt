@@ -1,26 +1,27 @@
 // The one typing of a flat net, or where and why there is none.
 ghost use Rattle.std.specs.Prelude.{◌≡◌, ℕ, map, IfOk};
-ghost use Rattle.sci_classes.specs.Classes.{Joins};
+ghost use Rattle.sci_infer.specs.Classes.{Joins};
 ghost use Rattle.sci_infer.specs.Typing.{AreDeclaredWell, IsAlike, Decides};
 ghost use Rattle.sci_infer.specs.PortParts.{parts_in, AreTied};
 ghost use Rattle.sci_infer.specs.Layout.{IsLayout};
 
+use crate::classes::Tie;
 use crate::parts::{Layout, Part};
 use crate::ties::{tie_shared, tie_wires};
-use sci_classes::Tie;
+use crate::values::{Verdict, judge};
+use sci_base::NoMemory;
 use sci_net::Flat;
-use sci_values::{Verdict, judge};
-use std::alloc::{AllocError, Global};
+use std::alloc::Global;
 
 /// The declared numbers.
-fn declared_numbers(alloc: Global, parts: &[Part]) -> Result<Vec<i64>, AllocError>
+fn declared_numbers(alloc: Global, parts: &[Part]) -> Result<Vec<i64>, NoMemory>
     ensures { IfOk result (λ v. v.items ≡ map (λ (p : Part). p.declared) parts.now) }
 {
-    parts.iter().map(|part| part.declared).collect(alloc)
+    Ok(parts.iter().map(|part| part.declared).collect(alloc)?)
 }
 
 /// The one typing of parts that are tied, or where and why there is none.
-fn decide(alloc: Global, parts: &[Part], ties: &[Tie]) -> Result<Verdict, AllocError>
+fn decide(alloc: Global, parts: &[Part], ties: &[Tie]) -> Result<Verdict, NoMemory>
     requires declared { AreDeclaredWell parts.now }
     requires alike { (i j : ℕ) → Joins ties.now i j → IsAlike parts.now i j }
     ensures { IfOk result (λ v. Decides parts.now (Joins ties.now) v) }
@@ -30,7 +31,7 @@ fn decide(alloc: Global, parts: &[Part], ties: &[Tie]) -> Result<Verdict, AllocE
 }
 
 /// The one typing of a flat net, or where and why there is none.
-pub fn verdict(alloc: Global, flat: &Flat, layout: &Layout) -> Result<Verdict, AllocError>
+pub fn verdict(alloc: Global, flat: &Flat, layout: &Layout) -> Result<Verdict, NoMemory>
     requires { IsLayout flat.now layout.now }
     ensures { IfOk result (λ v. Decides (parts_in flat.now) (AreTied flat.now) v) }
 {

@@ -7,8 +7,8 @@ use Rattle.std.proofs.lemmas.Bool.{cases_lt, cases_eq}
 use Rattle.std.proofs.lemmas.Bool.Decides.{eqb_tells}
 use Rattle.std.proofs.lemmas.List.{map-set, map-append, get_or-map, length-map, length-append, get_or_append_left, get_or_past, length-replicate}
 use Rattle.std.proofs.Math.Seq.{get_or-append_seam}
-use Rattle.sci_walk.specs.Lists.{plain, list_at, Adds}
-use Rattle.sci_walk.proofs.Adding.{none-there, adds-one}
+use Rattle.sci_loop.specs.Lists.{plain, list_at, Adds}
+use Rattle.sci_loop.proofs.Adding.{none-there, adds-one}
 use Rattle.sci_net.specs.declared.Feed.{Feed}
 use Rattle.sci_net.specs.Parts.{Parts, IsBlock, spec_of}
 use Rattle.sci_inherit.specs.Links.{Upto, plain_rows, row_at, HasRow, HaveRows, AreEmptyRows, Fills}
@@ -87,6 +87,22 @@ module _ {X : Type 0} where
       λ h. subst (λ (l : List (List X)). Contains (list_at l q.port) x) (sym (other q.block d)) (elim h [ inl a ↦ a | inr b ↦ absurd (d b.0) ]),
     )
 
+    pub row_here : row_at new (record { block = i; port = p }) ≡ row_at rows (record { block = i; port = p }) ++ y ∷ []
+    row_here = ap (λ (l : List (List X)). list_at l p) here ∙ get_or-set_same (list_at rows i) p _ [] within
+
+    pub row_other : (q : Feed) → (record { block = i; port = p } ≡ q → ⊥) → row_at new q ≡ row_at rows q
+    row_other q d = elim (eqb_tells q.block i) [
+      | inl t ↦
+          ap (λ (j : ℕ). list_at (list_at new j) q.port) t.1
+          ∙ (ap (λ (l : List (List X)). list_at l q.port) here
+          ∙ (get_or-set_other (list_at rows i) p q.port _ [] (λ s. d (ap (λ (c : ℕ). mk c p) (sym t.1) ∙ ap (λ (c : ℕ). mk q.block c) (sym s)))
+          ∙ ap (λ (j : ℕ). list_at (list_at rows j) q.port) (sym t.1)))
+      | inr t ↦ ap (λ (l : List (List X)). list_at l q.port) (other q.block t.1)
+    ]
+      where
+        mk : ℕ → ℕ → Feed
+        mk c o = record { block = c; port = o }
+
     -- one element
     pub fills_one : Fills (λ q x. (q.block ≡ i) × (q.port ≡ p) × (y ≡ x)) rows new
     fills_one = record {
@@ -110,15 +126,19 @@ module _ {X : Type 0} where
   rows_pushed old new v e = ap plain_rows e ∙ map-append (λ (w : Vec (Vec X Global) Global). plain w.items) old (v ∷ [])
 
   -- an element at the end of a row, as it is put there
+  pub put_is : (vs : List (Vec (Vec X Global) Global)) (i p : ℕ) (old new : Vec (Vec X Global) Global) (y : X) → i < length (plain_rows vs)
+      → old ≡ get_or vs i old → plain new.items ≡ set (plain old.items) p (list_at (plain old.items) p ++ y ∷ [])
+      → plain_rows (set vs i new) ≡ set (plain_rows vs) i (set (list_at (plain_rows vs) i) p (list_at (list_at (plain_rows vs) i) p ++ y ∷ []))
+  put_is vs i p old new y h is e =
+      let long = length-map vs (λ (w : Vec (Vec X Global) Global). plain w.items) in
+      let at : plain old.items ≡ list_at (plain_rows vs) i = sym (rows_at vs i old (omega (arith, h, long)) is) in
+      map-set (λ (w : Vec (Vec X Global) Global). plain w.items) vs i new
+      ∙ ap (λ (l : List (List X)). set (plain_rows vs) i l) (e ∙ ap (λ (l : List (List X)). set l p (list_at l p ++ y ∷ [])) at)
+
   pub fills_put : (vs : List (Vec (Vec X Global) Global)) (i p : ℕ) (old new : Vec (Vec X Global) Global) (y : X) → i < length (plain_rows vs) → p < length (list_at (plain_rows vs) i)
       → old ≡ get_or vs i old → plain new.items ≡ set (plain old.items) p (list_at (plain old.items) p ++ y ∷ [])
       → Fills (λ q x. (q.block ≡ i) × (q.port ≡ p) × (y ≡ x)) (plain_rows vs) (plain_rows (set vs i new))
-  fills_put vs i p old new y h within is e =
-      let long = length-map vs (λ (w : Vec (Vec X Global) Global). plain w.items) in
-      let at : plain old.items ≡ list_at (plain_rows vs) i = sym (rows_at vs i old (omega (arith, h, long)) is) in
-      fills_one (plain_rows vs) (plain_rows (set vs i new)) i p y h within
-      (map-set (λ (w : Vec (Vec X Global) Global). plain w.items) vs i new
-      ∙ ap (λ (l : List (List X)). set (plain_rows vs) i l) (e ∙ ap (λ (l : List (List X)). set l p (list_at l p ++ y ∷ [])) at))
+  fills_put vs i p old new y h within is e = fills_one (plain_rows vs) (plain_rows (set vs i new)) i p y h within (put_is vs i p old new y h is e)
 
   -- ---- the shape of the rows
 

@@ -9,9 +9,9 @@ use Rattle.std.proofs.lemmas.List.{get_or-take, get_or_default, length-take-le}
 use Rattle.std.proofs.lemmas.List.Elements.{Contains-get_or, Contains-append_left, Contains-push, Contains-push_cases}
 use Rattle.std.proofs.lemmas.List.Quantifiers.{all_pairs_push}
 use Rattle.std.proofs.lemmas.Map.Keys.{apart_from_distinct}
-use Rattle.sci_walk.specs.Lists.{list_at}
-use Rattle.sci_walk.specs.Reached.{IsReached, start, onward}
-use Rattle.sci_walk.proofs.Adding.{none-there, adds-none, adds-same, adds-both, adds-one}
+use Rattle.sci_loop.specs.Lists.{list_at}
+use Rattle.sci_loop.specs.Reached.{IsReached, start, onward}
+use Rattle.sci_loop.proofs.Adding.{none-there, adds-none, adds-same, adds-both, adds-one}
 use Rattle.sci_net.specs.declared.Feed.{Feed}
 use Rattle.sci_net.specs.Parts.{Parts, IsBlock, IsActivationOutput, spec_of, AreRising, precedes}
 use Rattle.sci_net.specs.Net.{IsNet}

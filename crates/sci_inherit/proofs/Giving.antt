@@ -4,8 +4,8 @@ use Rattle.std.proofs.Math.ListN.{set}
 use Rattle.std.specs.declared.alloc.Global.{Global}
 use Rattle.std.proofs.lemmas.Bool.{cases_eq}
 use Rattle.std.proofs.lemmas.List.{length-map}
-use Rattle.sci_walk.specs.Lists.{plain, list_at, Adds}
-use Rattle.sci_walk.proofs.Adding.{adds-none, adds-same, adds-both, adds-one}
+use Rattle.sci_loop.specs.Lists.{plain, list_at, Adds}
+use Rattle.sci_loop.proofs.Adding.{adds-none, adds-same, adds-both, adds-one}
 use Rattle.sci_inherit.specs.Links.{Upto}
 
 -- one step more

@@ -5,3 +5,4 @@ pub mod Ordered
 pub mod Gathering
 pub mod Sourced
 pub mod Viewed
+pub mod InOrder

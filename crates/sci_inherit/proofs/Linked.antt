@@ -4,8 +4,8 @@ use Rattle.std.specs.Prelude.{Contains, All}
 use Rattle.std.proofs.lemmas.Bool.{cases_lt}
 use Rattle.std.proofs.lemmas.List.{take_more, get_or_past}
 use Rattle.std.proofs.lemmas.List.Elements.{Contains-append_left, Contains-push, Contains-push_cases, Contains-get_or}
-use Rattle.sci_walk.specs.Lists.{Adds}
-use Rattle.sci_walk.proofs.Adding.{none-there, adds-none, adds-same}
+use Rattle.sci_loop.specs.Lists.{Adds}
+use Rattle.sci_loop.proofs.Adding.{none-there, adds-none, adds-same}
 use Rattle.sci_net.specs.declared.Feed.{Feed}
 use Rattle.sci_net.specs.Parts.{Parts, IsBlock, IsActivationInput, numbered, spec_of, wire_of, feeds_of}
 use Rattle.sci_net.specs.Net.{IsNet}

@@ -8,22 +8,22 @@ use Rattle.sci_forms.proofs.TestLemmas.{both_true, either_true, nat_same, nat_lt
 use Rattle.sci_net.specs.declared.Feed.{Feed}
 use Rattle.sci_net.specs.Parts.{AreRising, precedes}
 
-told : (p q r s : ℕ) → (nat_lt p r || (nat_eq p r && nat_lt q s)) ≡ true → (p < r) ⊎ ((p ≡ r) × (q < s))
+pub told : (p q r s : ℕ) → (nat_lt p r || (nat_eq p r && nat_lt q s)) ≡ true → (p < r) ⊎ ((p ≡ r) × (q < s))
 told p q r s h = ⊎_elim
     (λ l. inl (nat_lt_told p r l))
     (λ m. let both = both_true (nat_eq p r) (nat_lt q s) m in inr (nat_same p r both.0, nat_lt_told q s both.1))
     (either_true (nat_lt p r) (nat_eq p r && nat_lt q s) h)
 
-lt_yes : (a b : ℕ) → a < b → nat_lt a b ≡ true
+pub lt_yes : (a b : ℕ) → a < b → nat_lt a b ≡ true
 lt_yes a b h = grind (arith, nat_tests)
 
-eq_yes : (a b : ℕ) → a ≡ b → nat_eq a b ≡ true
+pub eq_yes : (a b : ℕ) → a ≡ b → nat_eq a b ≡ true
 eq_yes a b h = grind (arith, nat_tests)
 
-or_left : (a b : Bool) → a ≡ true → (a || b) ≡ true
+pub or_left : (a b : Bool) → a ≡ true → (a || b) ≡ true
 or_left a b h = rw h refl
 
-or_right : (a b : Bool) → b ≡ true → (a || b) ≡ true
+pub or_right : (a b : Bool) → b ≡ true → (a || b) ≡ true
 or_right true b h = refl
 or_right false b h = h
 
@@ -34,7 +34,7 @@ precedes_yes a b h = ⊎_elim
     (λ e. or_right (nat_lt a.block b.block) _ (rw (eq_yes a.block b.block e.0, lt_yes a.port b.port e.1) refl))
     h
 
-precedes_told : (a b : Feed) → precedes a b ≡ true → (a.block < b.block) ⊎ ((a.block ≡ b.block) × (a.port < b.port))
+pub precedes_told : (a b : Feed) → precedes a b ≡ true → (a.block < b.block) ⊎ ((a.block ≡ b.block) × (a.port < b.port))
 precedes_told a b h = told a.block a.port b.block b.port h
 
 precedes_trans : (a b c : Feed) → precedes a b ≡ true → precedes b c ≡ true → precedes a c ≡ true
@@ -43,7 +43,7 @@ precedes_trans a b c h k = precedes_yes a c (⊎_elim
     (λ l. let d = l.0 in let p = l.1 in ⊎_elim (λ m. inl (omega (arith, d, m))) (λ m. let e = m.0 in let r = m.1 in inr (d ∙ e, omega (arith, p, r))) (precedes_told b c k))
     (precedes_told a b h))
 
-precedes_not_itself : (a : Feed) → precedes a a ≡ true → ⊥
+pub precedes_not_itself : (a : Feed) → precedes a a ≡ true → ⊥
 precedes_not_itself a h = ⊎_elim (λ l. absurd (omega (arith, l))) (λ l. let m = l.1 in absurd (omega (arith, m))) (precedes_told a a h)
 
 pub parted : (fs : List Feed) (q : Feed) → AreRising fs → IsPartitionedBy (λ f. precedes f q) fs

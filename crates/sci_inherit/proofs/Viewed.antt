@@ -5,7 +5,7 @@ use Rattle.std.specs.List.{IsDistinct}
 use Rattle.std.proofs.Math.Seq.{get_or-append_seam}
 use Rattle.std.proofs.lemmas.Bool.{cases_eq, cases_lt}
 use Rattle.std.proofs.lemmas.List.{get_or_past, get_or_append_left, length-append}
-use Rattle.sci_walk.specs.Lists.{list_at}
+use Rattle.sci_loop.specs.Lists.{list_at}
 use Rattle.sci_net.specs.declared.Feed.{Feed}
 use Rattle.sci_net.specs.declared.Source.TheVariants.{Start}
 use Rattle.sci_net.specs.Parts.{Parts, IsBlock, numbered, AreRising}
@@ -17,6 +17,7 @@ use Rattle.sci_reaction.specs.Depends.{Conditions}
 use Rattle.sci_inherit.specs.declared.Fed.{Fed}
 use Rattle.sci_inherit.specs.declared.gather.Senders.{Senders}
 use Rattle.sci_inherit.specs.declared.gather.Senders.TheVariants.{Each, Synchronous}
+use Rattle.sci_inherit.specs.Links.{AreInOrder}
 use Rattle.sci_inherit.specs.Gather.{AreEach, AreFeeding, AreAlways, AreOnward, IsSender, Gathered, OfBlocks}
 use Rattle.sci_inherit.specs.Origins.{AreOrigins}
 use Rattle.sci_inherit.specs.ByBlock.{AreByBlock, AreMarksOf, AreAtStart}
@@ -40,7 +41,7 @@ module _ (n : Parts) (w : Senders) (bs : List (List Feed)) (net : IsNet n) (g : 
 -- ---- what a reach keeps
 
 module _ (n : Parts) (always : List (List ℕ)) (feeding : List (List Fed)) (bs : List (List Feed)) (os : List (List ℕ)) (net : IsNet n)
-    (are_always : AreEach (λ k l. AreAlways n (source_of n k) l) always) (are_feeding : AreEach (λ k l. AreFeeding n (source_of n k) l) feeding)
+    (are_always : AreEach (λ k l. AreAlways n (source_of n k) l) always) (are_feeding : AreEach (λ k l. AreFeeding n (source_of n k) l) feeding) (in_order : AreEach (λ k l. AreInOrder l) feeding)
     (g : Gathered n (OfBlocks n Synchronous (length n.specs)) bs) (are_onward : AreEach (AreOnward n) os) where
   past : (c b : ℕ) → length n.specs < c → Conditions n c b → ⊥
   past c b far h = let m = (reaches_output n (record { block = c; port = h.branch }) net h.reaches).block.most in omega (arith, m, far)
@@ -61,6 +62,7 @@ module _ (n : Parts) (always : List (List ℕ)) (feeding : List (List Fed)) (bs 
     always_once = λ k h. (are_always k (omega (arith, h, always_long))).once;
     always_are = λ k b h. (are_always k (omega (arith, h, always_long))).exactly b;
     feeding_are = λ k f h. are_feeding k (omega (arith, h, feeding_long)) f;
+    feeding_in_order = λ k h. in_order k (omega (arith, h, feeding_long));
     branches_rise = rise n Synchronous bs net g;
     branches_are = are n Synchronous bs net g;
     onward_once = λ c. ⊎_elim

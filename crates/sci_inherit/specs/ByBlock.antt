@@ -1,6 +1,6 @@
 -- What activates each block of a net, by block.
 use Rattle.std.specs.Prelude.{◌≡◌, ℕ, suc, ◌<◌, ◌↔◌, Bool, true, false, List, [], length, Contains}
-use Rattle.sci_walk.specs.Walk.{IsMarked}
+use Rattle.sci_loop.specs.Walk.{IsMarked}
 use Rattle.sci_net.specs.declared.Feed.{Feed}
 use Rattle.sci_net.specs.declared.Source.TheVariants.{Start}
 use Rattle.sci_net.specs.Parts.{Parts, numbered, AreRising}

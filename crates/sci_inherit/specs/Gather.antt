@@ -1,7 +1,7 @@
 -- The lists by source and by block, as they are made.
 use Rattle.std.specs.Prelude.{◌≡◌, ℕ, suc, ◌+◌, ◌<◌, ◌⊎◌, ◌↔◌, true, List, length, Contains, nat_eq}
 use Rattle.std.specs.List.{IsDistinct}
-use Rattle.sci_walk.specs.Lists.{list_at, Adds}
+use Rattle.sci_loop.specs.Lists.{list_at, Adds}
 use Rattle.sci_net.specs.declared.Feed.{Feed}
 use Rattle.sci_net.specs.declared.Source.{Source}
 use Rattle.sci_net.specs.Parts.{Parts, AreRising, precedes}

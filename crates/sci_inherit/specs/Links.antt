@@ -1,7 +1,7 @@
 -- The links of a net, from where they begin.
-use Rattle.std.specs.Prelude.{◌≡◌, ℕ, ◌+◌, ◌<◌, ◌≤◌, ◌⊎◌, ◌↔◌, List, length, map, Contains, Vec}
+use Rattle.std.specs.Prelude.{◌≡◌, ℕ, ◌+◌, ◌<◌, ◌≤◌, ◌⊎◌, ◌↔◌, Bool, true, ◌&&◌, ◌||◌, nat_lt, nat_eq, List, length, map, AllPairs, Contains, Vec}
 use Rattle.std.specs.declared.alloc.Global.{Global}
-use Rattle.sci_walk.specs.Lists.{plain, list_at}
+use Rattle.sci_loop.specs.Lists.{plain, list_at}
 use Rattle.sci_net.specs.declared.Feed.{Feed}
 use Rattle.sci_net.specs.Parts.{Parts, IsBlock, spec_of, wire_of, feeds_of}
 use Rattle.sci_reaction.specs.Links.{Supplies, Inherits}
@@ -59,6 +59,24 @@ pub record AreEmptyRows {X : Type 0} (n : Parts) (k : ℕ) (rows : List (List (L
   pub wide : (b : ℕ) → 1 ≤ b → b < k + 1 → length (list_at rows b) ≡ (spec_of n b).evtout + 1
   pub empty : (q : Feed) (x : X) → Contains (row_at rows q) x → ⊥
 
+-- by block and input
+abbrev pub comes : Fed → Fed → Bool
+comes f g = nat_lt f.block g.block || (nat_eq f.block g.block && nat_lt f.input g.input)
+
+-- by block and input, without repeats
+abbrev pub AreInOrder : List Fed → Type 0
+AreInOrder fs = AllPairs (λ f g. comes f g ≡ true) fs
+
+-- all rows are in order, and what they have comes before f
+pub record ComeBefore (f : Fed) (rows : List (List (List Fed))) : Type 0 where
+  pub in_order : (q : Feed) → AreInOrder (row_at rows q)
+  pub before : (q : Feed) (x : Fed) → Contains (row_at rows q) x → comes x f ≡ true
+
+-- f has been put at the end of the rows of the outputs that get it, and no other row has changed
+pub record Appends (gets : Feed → Type 0) (f : Fed) (old new : List (List (List Fed))) : Type 0 where
+  pub rest : (q : Feed) → (gets q → ⊥) → row_at new q ≡ row_at old q
+  pub in_order : (q : Feed) → AreInOrder (row_at old q) → ((x : Fed) → Contains (row_at old q) x → comes x f ≡ true) → AreInOrder (row_at new q)
+
 -- the rows have got these elements, and no other
 pub record Fills {X : Type 0} (more : Feed → X → Type 0) (old new : List (List (List X))) : Type 0 where
   pub long : length new ≡ length old
@@ -97,3 +115,4 @@ pub record AreLinks (n : Parts) (l : Links) : Type 0 where
   pub heirs : AreHeirs n (plain l.heirs.items)
   pub have_rows : HaveRows n (plain_rows l.fed.items)
   pub rows : AreRows n (plain_rows l.fed.items)
+  pub in_order : (q : Feed) → AreInOrder (row_at (plain_rows l.fed.items) q)

@@ -1,7 +1,7 @@
 -- What activates each block of a net.
 use Rattle.std.specs.Prelude.{◌≡◌, ℕ, ◌+◌, ◌<◌, ◌↔◌, List, [], length, Contains, slice_index_or, nat_eq}
 use Rattle.std.specs.List.{IsDistinct}
-use Rattle.sci_walk.specs.Lists.{list_at}
+use Rattle.sci_loop.specs.Lists.{list_at}
 use Rattle.sci_net.specs.declared.Feed.{Feed}
 use Rattle.sci_net.specs.Parts.{Parts, numbered, AreRising}
 use Rattle.sci_net.specs.Sources.{sources_of, source_of}
@@ -9,6 +9,7 @@ use Rattle.sci_reaction.specs.Links.{SourceFeeds}
 use Rattle.sci_reaction.specs.Active.{Reaches, IsAlways, IsSync}
 use Rattle.sci_reaction.specs.Depends.{Conditions}
 use Rattle.sci_inherit.specs.declared.Fed.{Fed}
+use Rattle.sci_inherit.specs.Links.{AreInOrder}
 
 -- By source, in the net's order: the blocks that it activates whatever the values are, and the activation inputs that it feeds. By block,
 -- counted from 1: the activation outputs of synchronous blocks that reach it. By number, counted from 0, which is no block: the blocks that
@@ -31,6 +32,7 @@ pub record AreOrigins (n : Parts) (o : Origins) : Type 0 where
   pub always_once : (k : ℕ) → k < length (sources_of n) → IsDistinct nat_eq (list_at o.always k)
   pub always_are : (k b : ℕ) → k < length (sources_of n) → Contains (list_at o.always k) b ↔ IsAlways n (source_of n k) b
   pub feeding_are : (k : ℕ) (f : Fed) → k < length (sources_of n) → Contains (list_at o.feeding k) f ↔ SourceFeeds n (source_of n k) f.block f.input
+  pub feeding_in_order : (k : ℕ) → k < length (sources_of n) → AreInOrder (list_at o.feeding k)
   pub branches_rise : (b : ℕ) → AreRising (numbered [] o.branches b)
   pub branches_are : (b : ℕ) (q : Feed) → Contains (numbered [] o.branches b) q ↔ (IsSync n q.block × Reaches n q b)
   pub onward_once : (c : ℕ) → IsDistinct nat_eq (slice_index_or o.onward c [])

@@ -1,17 +1,18 @@
 // The lists by source: the activation inputs that it feeds, and the blocks that it activates whatever the values are.
 ghost use Rattle.std.specs.Prelude.{◌≡◌, ℕ, ◌≤◌, ◌+◌, ◌-◌, ◌↔◌, ◌++◌, length, map, Contains, IfOk, OnOk, IsTrue, vec_len};
-ghost use Rattle.sci_walk.specs.Lists.{plain};
+ghost use Rattle.sci_loop.specs.Lists.{plain};
 ghost use Rattle.sci_net.specs.Sources.{sources_of, source_of};
 ghost use Rattle.sci_reaction.specs.Links.{IsConstant, IsSource};
 ghost use Rattle.sci_reaction.specs.Active.{IsAlways};
-ghost use Rattle.sci_inherit.specs.Links.{AreLinks};
+ghost use Rattle.sci_inherit.specs.Links.{AreLinks, AreInOrder};
 ghost use Rattle.sci_inherit.specs.Gather.{AreEach, AreFeeding, AreSetOff, AreAlways, AreConstants};
 
 use crate::Fed;
 use crate::links::Links;
+use sci_base::NoMemory;
+use sci_loop::walk::Walk;
 use sci_net::{Net, Source};
-use sci_walk::Walk;
-use std::alloc::{AllocError, Global};
+use std::alloc::Global;
 
 // Whether a block has neither inputs nor activation inputs.
 fn is_constant(net: &Net, block: u32) -> bool
@@ -24,7 +25,7 @@ fn is_constant(net: &Net, block: u32) -> bool
 }
 
 // Puts a block, if it has neither inputs nor activation inputs.
-fn push_constant(constants: &mut Vec<u32>, net: &Net, block: u32) -> Result<(), AllocError>
+fn push_constant(constants: &mut Vec<u32>, net: &Net, block: u32) -> Result<(), NoMemory>
     requires least { 1 ≤ block }
     requires most { block ≤ length net.now.specs }
     requires constants { AreConstants net.now (block - 1) constants.old.items }
@@ -39,7 +40,7 @@ fn push_constant(constants: &mut Vec<u32>, net: &Net, block: u32) -> Result<(), 
 }
 
 // The blocks that have neither inputs nor activation inputs.
-fn constants(alloc: Global, net: &Net) -> Result<Vec<u32>, AllocError>
+fn constants(alloc: Global, net: &Net) -> Result<Vec<u32>, NoMemory>
     ensures { IfOk result (λ v. AreConstants net.now (length net.now.specs) v.items) }
 {
     let mut constants = Vec::new(alloc);
@@ -50,7 +51,7 @@ fn constants(alloc: Global, net: &Net) -> Result<Vec<u32>, AllocError>
 }
 
 /// Puts the blocks of some activation inputs.
-pub fn push_blocks(blocks: &mut Vec<u32>, fed: &[Fed]) -> Result<(), AllocError>
+pub fn push_blocks(blocks: &mut Vec<u32>, fed: &[Fed]) -> Result<(), NoMemory>
     ensures { OnOk result (blocks.new.items ≡ blocks.old.items ++ map (λ f. f.block) fed.now) }
 {
     for each in fed {
@@ -60,7 +61,7 @@ pub fn push_blocks(blocks: &mut Vec<u32>, fed: &[Fed]) -> Result<(), AllocError>
 }
 
 /// The blocks of some activation inputs.
-pub fn blocks_of(alloc: Global, fed: &[Fed]) -> Result<Vec<u32>, AllocError>
+pub fn blocks_of(alloc: Global, fed: &[Fed]) -> Result<Vec<u32>, NoMemory>
     ensures { IfOk result (λ v. v.items ≡ map (λ f. f.block) fed.now) }
 {
     let mut blocks = vec![in alloc; 0; fed.len()]?;
@@ -74,7 +75,8 @@ pub fn blocks_of(alloc: Global, fed: &[Fed]) -> Result<Vec<u32>, AllocError>
 fn fed_by<'a>(_net: &Net, links: &'a Links, source: Source) -> &'a [Fed]
     requires links { AreLinks _net.now links.now }
     requires source { IsSource _net.now source }
-    ensures { AreFeeding _net.now source result.now }
+    ensures feeding { AreFeeding _net.now source result.now }
+    ensures in_order { AreInOrder result.now }
 {
     match source {
         Source::Start => &[],
@@ -82,10 +84,11 @@ fn fed_by<'a>(_net: &Net, links: &'a Links, source: Source) -> &'a [Fed]
     }
 }
 
-/// By source, the activation inputs that it feeds.
-pub fn feeding(alloc: Global, net: &Net, links: &Links) -> Result<Vec<Vec<Fed>>, AllocError>
+/// By source, the activation inputs that it feeds, by block and input, each once.
+pub fn feeding(alloc: Global, net: &Net, links: &Links) -> Result<Vec<Vec<Fed>>, NoMemory>
     requires { AreLinks net.now links.now }
     ensures feeding { IfOk result (λ v. AreEach (λ k fs. AreFeeding net.now (source_of net.now k) fs) (plain v.items)) }
+    ensures in_order { IfOk result (λ v. AreEach (λ k fs. AreInOrder fs) (plain v.items)) }
     ensures len { IfOk result (λ v. vec_len v ≡ length (sources_of net.now)) }
 {
     let mut feeding = Vec::new(alloc);
@@ -97,7 +100,7 @@ pub fn feeding(alloc: Global, net: &Net, links: &Links) -> Result<Vec<Vec<Fed>>,
 }
 
 // The blocks that a source activates by itself.
-fn set_off(alloc: Global, net: &Net, source: Source, fed: &[Fed]) -> Result<Vec<u32>, AllocError>
+fn set_off(alloc: Global, net: &Net, source: Source, fed: &[Fed]) -> Result<Vec<u32>, NoMemory>
     requires { AreFeeding net.now source fed.now }
     ensures { IfOk result (λ v. AreSetOff net.now source v.items) }
 {
@@ -116,7 +119,7 @@ pub fn find_always(
     walk: &mut Walk,
     source: Source,
     fed: &[Fed],
-) -> Result<(), AllocError>
+) -> Result<(), NoMemory>
     requires links { AreLinks net.now links.now }
     requires walk { walk.old.count ≡ length net.now.specs + 1 }
     requires fed { AreFeeding net.now source fed.now }
@@ -136,7 +139,7 @@ fn always_of(
     walk: &mut Walk,
     source: Source,
     fed: &[Fed],
-) -> Result<Vec<u32>, AllocError>
+) -> Result<Vec<u32>, NoMemory>
     requires links { AreLinks net.now links.now }
     requires walk { walk.old.count ≡ length net.now.specs + 1 }
     requires fed { AreFeeding net.now source fed.now }
@@ -144,7 +147,7 @@ fn always_of(
     ensures count { walk.new.count ≡ walk.old.count }
 {
     find_always(alloc, net, links, walk, source, fed)?;
-    Vec::from_slice(alloc, walk.found())
+    Ok(Vec::from_slice(alloc, walk.found())?)
 }
 
 /// By source, the blocks that it activates whatever the values are, each once.
@@ -154,7 +157,7 @@ pub fn always(
     links: &Links,
     walk: &mut Walk,
     feeding: &[Vec<Fed>],
-) -> Result<Vec<Vec<u32>>, AllocError>
+) -> Result<Vec<Vec<u32>>, NoMemory>
     requires links { AreLinks net.now links.now }
     requires walk { walk.old.count ≡ length net.now.specs + 1 }
     requires feeding { AreEach (λ k fs. AreFeeding net.now (source_of net.now k) fs) (plain feeding.now) }

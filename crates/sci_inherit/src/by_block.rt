@@ -7,9 +7,10 @@ ghost use Rattle.sci_inherit.specs.ByBlock.{AreByBlock, AreMarksOf, AreAtStart};
 use crate::always::find_always;
 use crate::gather::{Senders, reaching};
 use crate::links::Links;
+use sci_base::NoMemory;
+use sci_loop::walk::Walk;
 use sci_net::{Feed, Net, Source};
-use sci_walk::Walk;
-use std::alloc::{AllocError, Global};
+use std::alloc::Global;
 use std::marker::Model;
 
 /// For each block of a net, the activation outputs that reach it, and whether start activates it.
@@ -20,7 +21,7 @@ pub struct ReachByBlock {
 }
 
 impl Model for ReachByBlock {
-    ghost use Rattle.sci_walk.specs.Lists.{plain};
+    ghost use Rattle.sci_loop.specs.Lists.{plain};
     ghost use Rattle.sci_inherit.specs.ByBlock.{ByBlock};
 
     ghost Value = { ByBlock };
@@ -51,7 +52,7 @@ impl ReachByBlock {
 }
 
 // By block, whether the walk has found it.
-fn marks(alloc: Global, net: &Net, walk: &Walk) -> Result<Vec<bool>, AllocError>
+fn marks(alloc: Global, net: &Net, walk: &Walk) -> Result<Vec<bool>, NoMemory>
     requires { walk.now.count ≡ length net.now.specs + 1 }
     ensures { IfOk result (λ v. AreMarksOf walk.now.found (length net.now.specs) v.items) }
 {
@@ -64,12 +65,7 @@ fn marks(alloc: Global, net: &Net, walk: &Walk) -> Result<Vec<bool>, AllocError>
 }
 
 // By block, whether start activates it.
-fn at_start(
-    alloc: Global,
-    net: &Net,
-    links: &Links,
-    walk: &mut Walk,
-) -> Result<Vec<bool>, AllocError>
+fn at_start(alloc: Global, net: &Net, links: &Links, walk: &mut Walk) -> Result<Vec<bool>, NoMemory>
     requires links { AreLinks net.now links.now }
     requires walk { walk.old.count ≡ length net.now.specs + 1 }
     ensures { IfOk result (λ v. AreAtStart net.now v.items) }
@@ -79,7 +75,7 @@ fn at_start(
 }
 
 /// What activates each block of a net, by block.
-pub fn made(alloc: Global, net: &Net) -> Result<ReachByBlock, AllocError>
+pub fn made(alloc: Global, net: &Net) -> Result<ReachByBlock, NoMemory>
     ensures { IfOk result (λ r. AreByBlock net.now r) }
 {
     net.well_formed();

@@ -1,7 +1,7 @@
 // The lists by block: the activation outputs, each or those of synchronous blocks, that reach it, and the blocks that its own reach.
 ghost use Rattle.std.specs.Prelude.{◌≡◌, ℕ, ◌≤◌, ◌+◌, ◌-◌, ◌↔◌, length, All, Contains, IfOk, OnOk, IsTrue, vec_len, nat_eq};
 ghost use Rattle.std.specs.List.{IsDistinct};
-ghost use Rattle.sci_walk.specs.Lists.{plain};
+ghost use Rattle.sci_loop.specs.Lists.{plain};
 ghost use Rattle.sci_reaction.specs.Active.{Reaches, IsSync};
 ghost use Rattle.sci_inherit.specs.Links.{AreFedBy, AreLinks};
 ghost use Rattle.sci_inherit.specs.Gather.{AreEach, Pushes, IsSender, Gathered, OfBlocks, OfPorts, IsFedUpto, AreOnward};
@@ -9,9 +9,10 @@ ghost use Rattle.sci_inherit.specs.Gather.{AreEach, Pushes, IsSender, Gathered, 
 use crate::Fed;
 use crate::always::{blocks_of, push_blocks};
 use crate::links::Links;
+use sci_base::NoMemory;
+use sci_loop::walk::{Walk, empty_lists, push_at};
 use sci_net::{Feed, Net};
-use sci_walk::{Walk, empty_lists, push_at};
-use std::alloc::{AllocError, Global};
+use std::alloc::Global;
 
 /// The blocks whose activation outputs are gathered.
 #[derive(Clone, Copy, Drop)]
@@ -23,7 +24,7 @@ pub enum Senders {
 }
 
 // Puts an activation output at the end of the lists of these blocks.
-fn push_to_all(lists: &mut Vec<Vec<Feed>>, blocks: &[u32], feed: Feed) -> Result<(), AllocError>
+fn push_to_all(lists: &mut Vec<Vec<Feed>>, blocks: &[u32], feed: Feed) -> Result<(), NoMemory>
     requires within { All (λ b. (1 ≤ b) × (b ≤ vec_len lists.old)) blocks.now }
     requires once { IsDistinct nat_eq blocks.now }
     ensures lists { OnOk result (Pushes (Contains blocks.now) feed (plain lists.old.items) (plain lists.new.items)) }
@@ -44,7 +45,7 @@ fn gather_output(
     walk: &mut Walk,
     feed: Feed,
     fed: &[Fed],
-) -> Result<(), AllocError>
+) -> Result<(), NoMemory>
     requires links { AreLinks net.now links.now }
     requires walk { walk.old.count ≡ length net.now.specs + 1 }
     requires fed { AreFedBy net.now feed fed.now }
@@ -68,7 +69,7 @@ fn gather_ports(
     walk: &mut Walk,
     _senders: Senders,
     block: u32,
-) -> Result<(), AllocError>
+) -> Result<(), NoMemory>
     requires least { 1 ≤ block }
     requires most { block ≤ length net.now.specs }
     requires sender { IsSender net.now _senders block }
@@ -119,7 +120,7 @@ fn gather_block(
     walk: &mut Walk,
     senders: Senders,
     block: u32,
-) -> Result<(), AllocError>
+) -> Result<(), NoMemory>
     requires least { 1 ≤ block }
     requires most { block ≤ length net.now.specs }
     requires links { AreLinks net.now links.now }
@@ -142,7 +143,7 @@ pub fn reaching(
     links: &Links,
     walk: &mut Walk,
     senders: Senders,
-) -> Result<Vec<Vec<Feed>>, AllocError>
+) -> Result<Vec<Vec<Feed>>, NoMemory>
     requires links { AreLinks net.now links.now }
     requires walk { walk.old.count ≡ length net.now.specs + 1 }
     ensures gathered { IfOk result (λ v. Gathered net.now (OfBlocks net.now senders (length net.now.specs)) (plain v.items)) }
@@ -157,7 +158,7 @@ pub fn reaching(
 }
 
 // The blocks that the activation inputs in some rows are of.
-fn blocks_in(alloc: Global, rows: &[Vec<Fed>]) -> Result<Vec<u32>, AllocError>
+fn blocks_in(alloc: Global, rows: &[Vec<Fed>]) -> Result<Vec<u32>, NoMemory>
     ensures { IfOk result (λ v. (b : ℕ) → Contains v.items b ↔ IsFedUpto (plain rows.now) (length rows.now) b) }
 {
     let mut blocks = Vec::new(alloc);
@@ -174,7 +175,7 @@ fn onward_of_sync(
     links: &Links,
     walk: &mut Walk,
     block: u32,
-) -> Result<Vec<u32>, AllocError>
+) -> Result<Vec<u32>, NoMemory>
     requires least { 1 ≤ block }
     requires most { block ≤ length net.now.specs }
     requires sync { IsSync net.now block }
@@ -186,7 +187,7 @@ fn onward_of_sync(
     net.well_formed();
     let starts = blocks_in(alloc, &links.fed[block as usize])?;
     walk.walk(&links.heirs, &starts)?;
-    Vec::from_slice(alloc, walk.found())
+    Ok(Vec::from_slice(alloc, walk.found())?)
 }
 
 // The blocks that a branch of a block reaches.
@@ -196,7 +197,7 @@ fn onward_of(
     links: &Links,
     walk: &mut Walk,
     block: u32,
-) -> Result<Vec<u32>, AllocError>
+) -> Result<Vec<u32>, NoMemory>
     requires least { 1 ≤ block }
     requires most { block ≤ length net.now.specs }
     requires links { AreLinks net.now links.now }
@@ -217,7 +218,7 @@ pub fn onward(
     net: &Net,
     links: &Links,
     walk: &mut Walk,
-) -> Result<Vec<Vec<u32>>, AllocError>
+) -> Result<Vec<Vec<u32>>, NoMemory>
     requires links { AreLinks net.now links.now }
     requires walk { walk.old.count ≡ length net.now.specs + 1 }
     ensures onward { IfOk result (λ v. AreEach (AreOnward net.now) (plain v.items)) }

@@ -10,8 +10,6 @@ mod by_block;
 mod gather;
 mod links;
 mod reach;
-#[cfg(test)]
-mod tests;
 
 use always::{always, feeding};
 pub use by_block::ReachByBlock;
@@ -19,9 +17,9 @@ use gather::{Senders, onward, reaching};
 use links::Links;
 pub use reach::{Reach, contains};
 use sci_base::NoMemory;
+use sci_loop::walk::Walk;
 use sci_net::Net;
-use sci_walk::Walk;
-use std::alloc::{AllocError, Global};
+use std::alloc::Global;
 
 /// An activation input of a block, both counted from 1.
 #[derive(Clone, Copy, Debug, Drop, PartialEq, Eq)]
@@ -31,7 +29,7 @@ pub struct Fed {
 }
 
 // What activates each block.
-fn made(alloc: Global, net: &Net) -> Result<Reach, AllocError>
+fn made(alloc: Global, net: &Net) -> Result<Reach, NoMemory>
     ensures { IfOk result (λ o. AreOrigins net.now o) }
 {
     net.well_formed();
@@ -53,10 +51,7 @@ fn made(alloc: Global, net: &Net) -> Result<Reach, AllocError>
 pub fn origins(alloc: Global, net: &Net) -> Result<Reach, NoMemory>
     ensures { IfOk result (λ o. AreOrigins net.now o) }
 {
-    match made(alloc, net) {
-        Ok(reach) => Ok(reach),
-        Err(_) => Err(NoMemory),
-    }
+    made(alloc, net)
 }
 
 /// What activates each block of a net, by block. It takes memory for each block that each activation output reaches. Want of memory is the
@@ -64,8 +59,5 @@ pub fn origins(alloc: Global, net: &Net) -> Result<Reach, NoMemory>
 pub fn reach_by_block(alloc: Global, net: &Net) -> Result<ReachByBlock, NoMemory>
     ensures { IfOk result (λ r. AreByBlock net.now r) }
 {
-    match by_block::made(alloc, net) {
-        Ok(reach) => Ok(reach),
-        Err(_) => Err(NoMemory),
-    }
+    by_block::made(alloc, net)
 }

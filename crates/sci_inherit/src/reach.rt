@@ -1,6 +1,6 @@
 // What activates each block, as it is kept.
 ghost use Rattle.std.specs.Prelude.{◌≡◌, ◌<◌, ◌≤◌, ◌↔◌, [], length, Contains, IsTrue, slice_index_or};
-ghost use Rattle.sci_walk.specs.Lists.{plain, list_at};
+ghost use Rattle.sci_loop.specs.Lists.{plain, list_at};
 ghost use Rattle.sci_net.specs.Parts.{numbered, AreRising, precedes};
 
 use crate::Fed;
@@ -17,7 +17,7 @@ pub struct Reach {
 }
 
 impl Model for Reach {
-    ghost use Rattle.sci_walk.specs.Lists.{plain};
+    ghost use Rattle.sci_loop.specs.Lists.{plain};
     ghost use Rattle.sci_inherit.specs.Origins.{Origins};
 
     ghost Value = { Origins };
@@ -35,7 +35,7 @@ impl Reach {
         self.always[source as usize].as_slice()
     }
 
-    /// The activation inputs that a source feeds.
+    /// The activation inputs that a source feeds, by block and input, each once.
     pub fn feeding(&self, source: u32) -> &[Fed]
         requires { source < length self.now.feeding }
         ensures { result.now ≡ list_at self.now.feeding source }

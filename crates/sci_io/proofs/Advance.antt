@@ -1,40 +1,60 @@
 -- How a sink that gave on fronts of what was due goes on.
-use Rattle.std.proofs.Common.{◌≡◌, ◌≤◌, ◌+◌, ◌-◌, ◌^◌, ℕ, List, [], ◌∷◌, ◌++◌, Option, Some, None, refl, sym, ◌∙◌, ap, subst, append_assoc, arith, ◌<◌, length, drop, get_or, add-one}
+use Rattle.std.proofs.Common.{◌≡◌, ◌≤◌, ◌+◌, ℕ, List, [], ◌∷◌, ◌++◌, Option, Some, None, refl, sym, ◌∙◌, ap, subst, append_assoc, arith, ◌<◌, length, drop, get_or, add-one}
 use Rattle.std.proofs.Math.Seq.{drop-cons}
 use Rattle.std.specs.Borrow.{Bor}
 use Rattle.std.proofs.lemmas.List.{append-nil}
-use Rattle.std.specs.Prelude.{Result, Ok, Err, OnOk, OnErr}
+use Rattle.std.proofs.Math.Bool.{or-true}
+use Rattle.std.specs.Prelude.{Result, Ok, Err, OnOk, OnErr, Bool, true, false, ◌||◌}
 use Rattle.sci_io.specs.Causes.{Rose}
-use Rattle.sci_io.specs.Taken.{SinkState, direct, behind, followed, Advances, TakesFront, Writes, UnderWay, joined}
+use Rattle.std.specs.Io.KnownBytes.{Appends}
+use Rattle.sci_io.specs.Taken.{SinkState, direct, is_some_text, Advances, TakesFront, Writes, UnderWay, joined}
 
-pub followed-nil : (old : Option (List ℕ)) → old ≡ followed old []
-followed-nil None = refl
-followed-nil (Some bytes) = ap Some (sym (append-nil bytes))
+pub appends-nil : (old : Option (List ℕ)) → Appends old old []
+appends-nil None = tt
+appends-nil (Some bytes) = sym (append-nil bytes)
 
-pub followed-append : (old : Option (List ℕ)) (a b : List ℕ) → followed (followed old a) b ≡ followed old (a ++ b)
-followed-append None a b = refl
-followed-append (Some bytes) a b = ap Some (append_assoc bytes a b)
+pub appends-append : (old mid new : Option (List ℕ)) (a b : List ℕ) → Appends old mid a → Appends mid new b → Appends old new (a ++ b)
+appends-append None mid new a b first second = tt
+appends-append (Some xs) None new a b first second = absurd first
+appends-append (Some xs) (Some ys) None a b first second = absurd second
+appends-append (Some xs) (Some ys) (Some zs) a b first second = second ∙ (ap (λ (l : List ℕ). l ++ b) first ∙ append_assoc xs a b)
+
+-- whether there is a text, where it has two parts
+pub some_text-append : (a b : List ℕ) → is_some_text (a ++ b) ≡ (is_some_text a || is_some_text b)
+some_text-append [] b = refl
+some_text-append (x ∷ xs) b = refl
+
+pub or-nil : (a : Bool) → (a || false) ≡ a
+or-nil true = refl
+or-nil false = refl
+
+or_assoc : (a b c : Bool) → ((a || b) || c) ≡ (a || (b || c))
+or_assoc true b c = refl
+or_assoc false b c = refl
+
+pub begun-append : (s : Bool) (a b : List ℕ) → ((s || is_some_text a) || is_some_text b) ≡ (s || is_some_text (a ++ b))
+begun-append s a b = or_assoc s (is_some_text a) (is_some_text b) ∙ ap (λ (t : Bool). s || t) (sym (some_text-append a b))
 
 -- nothing was given on
 pub stays : (old : Option (List ℕ)) (due : List ℕ) → Advances old old due due
-stays old due = record { front = []; split = refl; taken = followed-nil old }
+stays old due = record { front = []; split = refl; taken = appends-nil old }
 
 pub took_nothing : (old : Option (List ℕ)) (due : List ℕ) → TakesFront old old due
 took_nothing old due = (due, stays old due)
 
 -- all was given on
-pub gave_all : {old new : Option (List ℕ)} (due : List ℕ) → new ≡ followed old due → Advances old new due []
+pub gave_all : {old new : Option (List ℕ)} (due : List ℕ) → Appends old new due → Advances old new due []
 gave_all due taken = record { front = due; split = sym (append-nil due); taken = taken }
 
-pub all_taken : {old new : Option (List ℕ)} {due : List ℕ} → Advances old new due [] → new ≡ followed old due
-all_taken {old} {new} {due} a = a.taken ∙ ap (followed old) (sym (a.split ∙ append-nil a.front))
+pub all_taken : {old new : Option (List ℕ)} {due : List ℕ} → Advances old new due [] → Appends old new due
+all_taken {old} {new} {due} a = subst (λ (l : List ℕ). Appends old new l) (sym (a.split ∙ append-nil a.front)) a.taken
 
 -- a front, and then a front of the rest
 pub goes_on : {old mid new : Option (List ℕ)} {due rest last : List ℕ} → Advances old mid due rest → Advances mid new rest last → Advances old new due last
 goes_on {old} {mid} {new} {due} {rest} {last} a b = record {
   front = a.front ++ b.front;
   split = a.split ∙ (ap (λ (l : List ℕ). a.front ++ l) b.split ∙ sym (append_assoc a.front b.front last));
-  taken = b.taken ∙ (ap (λ (o : Option (List ℕ)). followed o b.front) a.taken ∙ followed-append old a.front b.front);
+  taken = appends-append old mid new a.front b.front a.taken b.taken;
 }
 
 -- something more is due behind
@@ -57,14 +77,15 @@ front_is {old} {new} a b is h = subst (λ (l : List ℕ). TakesFront old new l) 
 
 -- A text is under way from its beginning.
 pub begins : (s : SinkState) (text : List ℕ) → UnderWay s s text text
-begins s text = record { advances = stays s.taken (s.held ++ text); quiet = refl }
+begins s text = record { advances = stays s.taken (s.held ++ text); quiet = refl; begun = refl }
 
 -- the next piece of a text under way, taken
 pub piece_taken : {old mid new : SinkState} {text : List ℕ} (piece rest : List ℕ) → UnderWay old mid text (piece ++ rest)
-    → Advances mid.taken new.taken (mid.held ++ piece) new.held → new.faults ≡ mid.faults → UnderWay old new text rest
-piece_taken {old} {mid} {new} {text} piece rest w a quiet = record {
+    → Advances mid.taken new.taken (mid.held ++ piece) new.held → new.faults ≡ mid.faults → new.begun ≡ (mid.begun || is_some_text piece) → UnderWay old new text rest
+piece_taken {old} {mid} {new} {text} piece rest w a quiet begun = record {
   advances = goes_on w.advances (due_is _ _ (append_assoc mid.held piece rest) (carry rest a));
   quiet = quiet ∙ w.quiet;
+  begun = ap (λ (b : Bool). b || is_some_text rest) begun ∙ (begun-append mid.begun piece rest ∙ w.begun);
 }
 
 -- the next piece of a text under way, cut
@@ -78,7 +99,7 @@ piece_cut {old} {mid} {text} new piece rest w cut =
 pub next_front : {T E : Type 0} {old mid new : SinkState} {text : List ℕ} (piece rest : List ℕ) (r : Result T E) (x : T) → r ≡ Ok x
     → UnderWay old mid text (piece ++ rest) → Writes mid new piece r → UnderWay old new text rest
 next_front {mid = mid} {new = new} piece rest r x is w h =
-    piece_taken piece rest w (subst (λ q. OnOk q (Advances mid.taken new.taken (mid.held ++ piece) new.held)) is h.ok) (subst (λ q. OnOk q (new.faults ≡ mid.faults)) is h.quiet)
+    piece_taken piece rest w (subst (λ q. OnOk q (Advances mid.taken new.taken (mid.held ++ piece) new.held)) is h.ok) (subst (λ q. OnOk q (new.faults ≡ mid.faults)) is h.quiet) (subst (λ q. OnOk q (new.begun ≡ (mid.begun || is_some_text piece))) is h.begun)
 
 -- such a step that failed
 pub cut_off : {T E U F : Type 0} {old mid new : SinkState} {text : List ℕ} (piece rest : List ℕ) (r : Result T E) (s : Result U F) (e : E) (f : F) → r ≡ Err e → s ≡ Err f
@@ -89,6 +110,7 @@ cut_off {old = old} {mid = mid} {new = new} {text = text} piece rest r s e f is 
     subst (λ q. Writes old new text q) (sym was) (record {
       ok = tt;
       quiet = tt;
+      begun = tt;
       cut = cut;
       dropped = subst (λ q. OnErr q (new.held ≡ [])) is h.dropped;
       cause = subst (λ (n : ℕ). Rose n new.faults) w.quiet rose;
@@ -100,6 +122,7 @@ pub finished : {T E : Type 0} {old new : SinkState} {text : List ℕ} (x : T) �
 finished {old = old} {new = new} {text = text} x w = record {
   ok = subst (λ (l : List ℕ). Advances old.taken new.taken (old.held ++ text) l) (append-nil new.held) w.advances;
   quiet = w.quiet;
+  begun = sym (or-nil new.begun) ∙ w.begun;
   cut = tt;
   dropped = tt;
   cause = tt;
@@ -129,32 +152,16 @@ stopped {old = old} a b r s e f is was first = cut_off a b r s e f is was (begin
 pub joined-drop : (ps : List (Bor (List ℕ))) (i : ℕ) (d : Bor (List ℕ)) → i < length ps → joined (drop i ps) ≡ (get_or ps i d).now ++ joined (drop (i + 1) ps)
 joined-drop ps i d h = ap joined (drop-cons ps i d h) ∙ ap (λ (n : ℕ). (get_or ps i d).now ++ joined (drop n ps)) (sym (add-one i))
 
--- a sink that holds nothing back took a piece, or refused it
-pub direct_took : {T E : Type 0} (old new : Option (List ℕ)) (faults : ℕ) (piece : List ℕ) (x : T) → new ≡ followed old piece → Writes {T = T} {E = E} (direct old faults) (direct new faults) piece (Ok x)
-direct_took old new faults piece x taken = record { ok = gave_all piece taken; quiet = refl; cut = tt; dropped = tt; cause = tt; later = omega arith }
+-- a sink that holds nothing back took a piece, or a front of it
+pub direct_took : {T E : Type 0} (old new : Option (List ℕ)) (faults : ℕ) (begun : Bool) (piece : List ℕ) (x : T) → 0 < length piece → Appends old new piece
+    → Writes {T = T} {E = E} (direct old faults begun) (direct new faults true) piece (Ok x)
+direct_took old new faults begun [] x some taken = absurd (omega (arith, some))
+direct_took old new faults begun (b ∷ bs) x some taken = record { ok = gave_all (b ∷ bs) taken; quiet = refl; begun = sym (or-true begun); cut = tt; dropped = tt; cause = tt; later = omega arith }
 
-pub direct_refused : {T E : Type 0} (old : Option (List ℕ)) (before now : ℕ) (piece : List ℕ) (e : E) → Rose before now → before ≤ now → Writes {T = T} {E = E} (direct old before) (direct old now) piece (Err e)
-direct_refused old before now piece e rose later = record { ok = tt; quiet = tt; cut = took_nothing old piece; dropped = refl; cause = rose; later = later }
+pub direct_cut : {T E : Type 0} (old new : Option (List ℕ)) (before now : ℕ) (begun later : Bool) (piece : List ℕ) (e : E) → TakesFront old new piece → Rose before now → before ≤ now
+    → Writes {T = T} {E = E} (direct old before begun) (direct new now later) piece (Err e)
+direct_cut old new before now begun later piece e front rose more = record { ok = tt; quiet = tt; begun = tt; cut = front; dropped = refl; cause = rose; later = more }
 
-abbrev holding : SinkState → List ℕ → SinkState
-holding s held = record { taken = s.taken; held = held; faults = s.faults }
-
--- an empty buffer before a sink is the sink itself
-pub behind-nil : (s : SinkState) → behind s [] ≡ s
-behind-nil s = ap (holding s) (append-nil s.held)
-
-pub past_buffer : {T E : Type 0} (old new : SinkState) (bytes piece : List ℕ) (r : Result T E) → bytes ≡ [] → Writes old new piece r → Writes (behind old bytes) (behind new bytes) piece r
-past_buffer old new bytes piece r empty w =
-    subst (λ (l : List ℕ). Writes (behind old l) (behind new l) piece r) (sym empty)
-    (subst (λ (s : SinkState). Writes s (behind new []) piece r) (sym (behind-nil old)) (subst (λ (s : SinkState). Writes old s piece r) (sym (behind-nil new)) w))
-
--- a piece was put into the buffer
-pub held_back : {T E : Type 0} (s : SinkState) (bytes more piece : List ℕ) (x : T) → more ≡ bytes ++ piece → Writes {T = T} {E = E} (behind s bytes) (behind s more) piece (Ok x)
-held_back s bytes more piece x is = record {
-  ok = due_is _ _ (ap (λ (l : List ℕ). s.held ++ l) is ∙ sym (append_assoc s.held bytes piece)) (stays s.taken (s.held ++ more));
-  quiet = refl;
-  cut = tt;
-  dropped = tt;
-  cause = tt;
-  later = omega arith;
-}
+-- a flush of a sink that holds nothing
+pub nothing_due : {T E : Type 0} (s : SinkState) (x : T) → Writes {T = T} {E = E} s s [] (Ok x)
+nothing_due s x = finished x (begins s [])

@@ -3,3 +3,4 @@ pub mod Taken
 pub mod Files
 pub mod Memory
 pub mod Buffered
+pub mod Transfer

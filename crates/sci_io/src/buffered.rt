@@ -2,7 +2,7 @@ ghost use Rattle.std.specs.Prelude.{◌≡◌, ◌≤◌, vec_len, vec_capacity}
 
 use crate::{Failed, Sink};
 use sci_base::NoMemory;
-use std::alloc::{AllocError, Global};
+use std::alloc::Global;
 
 /// A sink behind a buffer: pieces are collected until the buffer is full or flushed, so that many small pieces become few
 /// calls of the sink behind. All its memory is taken by `new`.
@@ -11,25 +11,29 @@ pub struct BufferedSink<S: Sink + Drop> {
     sink: S,
     buffer: Vec<u8>,
     room: usize,
+    begun: bool,
     ghost fits: { vec_len buffer ≤ room },
     ghost roomy: { room ≤ vec_capacity buffer },
 }
 
 impl<S: Sink + Drop> BufferedSink<S> {
-    ghost use Rattle.std.specs.Prelude.{◌≡◌, ◌<◌, [], length, OnOk, IfOk};
-    ghost use Rattle.sci_io.specs.Taken.{Writes, behind};
-    ghost use Rattle.sci_io.specs.Buffered.{HasRoom};
+    ghost use Rattle.std.specs.Prelude.{◌≡◌, ◌≤◌, ◌+◌, ◌++◌, [], length, false, IfOk};
+    ghost use Rattle.sci_io.specs.Taken.{Writes};
 
     /// An empty buffer of `room` bytes before the sink.
     pub fn new(alloc: Global, sink: S, room: usize) -> Result<Self, NoMemory>
         ensures sink { IfOk result (λ b. b.sink ≡ sink) }
         ensures empty { IfOk result (λ b. b.buffer.items ≡ []) }
         ensures room { IfOk result (λ b. b.room ≡ room) }
+        ensures begun { IfOk result (λ b. b.begun ≡ false) }
     {
-        match Vec::with_capacity(alloc, room) {
-            Ok(buffer) => Ok(BufferedSink { sink, buffer, room }),
-            Err(AllocError) => Err(NoMemory),
-        }
+        let buffer = Vec::with_capacity(alloc, room)?;
+        Ok(BufferedSink {
+            sink,
+            buffer,
+            room,
+            begun: false,
+        })
     }
 
     /// The sink behind the buffer.
@@ -39,11 +43,20 @@ impl<S: Sink + Drop> BufferedSink<S> {
         &self.sink
     }
 
+    /// The bytes that wait in the buffer.
+    pub fn held(&self) -> &[u8]
+        ensures { result.now ≡ self.now.buffer.items }
+    {
+        &self.buffer
+    }
+
     // Gives the buffer to the sink.
+    #[tactic(auto, using(crate::proofs::Advance::nothing_due))]
     fn give(&mut self) -> Result<(), Failed>
-        ensures written { Writes (behind (S.state self.old.sink) self.old.buffer.items) (behind (S.state self.new.sink) self.new.buffer.items) [] result }
+        ensures written { Writes (S.state self.old.sink) (S.state self.new.sink) self.old.buffer.items result }
         ensures emptied { self.new.buffer.items ≡ [] }
         ensures room { self.new.room ≡ self.old.room }
+        ensures begun { self.new.begun ≡ self.old.begun }
     {
         if self.buffer.is_empty() {
             return Ok(());
@@ -53,44 +66,64 @@ impl<S: Sink + Drop> BufferedSink<S> {
         given
     }
 
-    // Gives the buffer to the sink where a piece of this size doesn't fit behind it.
-    fn make_room(&mut self, size: usize) -> Result<(), Failed>
-        ensures written { Writes (behind (S.state self.old.sink) self.old.buffer.items) (behind (S.state self.new.sink) self.new.buffer.items) [] result }
-        ensures room { HasRoom self.new.buffer.items self.new.room size }
+    // Puts a piece into the buffer.
+    fn hold(&mut self, piece: &[u8])
+        requires { length self.old.buffer.items + length piece.now ≤ self.old.room }
+        ensures held { self.new.buffer.items ≡ self.old.buffer.items ++ piece.now }
+        ensures sink { self.new.sink ≡ self.old.sink }
+        ensures room { self.new.room ≡ self.old.room }
+        ensures begun { self.new.begun ≡ self.old.begun }
     {
-        if self.room - self.buffer.len() < size {
-            return self.give();
-        }
-        Ok(())
-    }
-
-    // Puts a piece into the buffer, or past it where it is larger than the buffer.
-    #[tactic(auto, using(crate::proofs::Advance::past_buffer, crate::proofs::Advance::held_back))]
-    fn collect(&mut self, piece: &[u8]) -> Result<(), Failed>
-        requires some { 0 < length piece.now }
-        requires room { HasRoom self.old.buffer.items self.old.room (length piece.now) }
-        ensures { Writes (behind (S.state self.old.sink) self.old.buffer.items) (behind (S.state self.new.sink) self.new.buffer.items) piece.now result }
-    {
-        if self.room < piece.len() {
-            return self.sink.put(piece);
-        }
         self.buffer.extend_from_slice(piece).unwrap();
-        Ok(())
     }
 }
 
 impl<S: Sink + Drop> Sink for BufferedSink<S> {
-    ghost use Rattle.sci_io.specs.Taken.{behind};
+    ghost use Rattle.std.specs.Prelude.{◌≡◌, ◌<◌, [], length, true, OnOk, OnErr};
+    ghost use Rattle.sci_io.specs.Taken.{behind, Writes};
+    ghost use Rattle.sci_io.specs.Buffered.{given_on, held_then};
 
-    ghost state = { λ b. behind (S.state b.sink) b.buffer.items };
+    ghost state = { λ b. behind (S.state b.sink) b.buffer.items b.begun };
 
-    fn put(&mut self, piece: &[u8]) -> Result<(), Failed> {
-        self.make_room(piece.len())?;
-        self.collect(piece)
+    fn put(&mut self, piece: &[u8]) -> Result<(), Failed>
+        requires { 0 < length piece.now }
+        ensures written { Writes (behind (S.state self.old.sink) self.old.buffer.items self.old.begun) (behind (S.state self.new.sink) self.new.buffer.items self.new.begun) piece.now result }
+        ensures given { Writes (S.state self.old.sink) (S.state self.new.sink) (given_on self.old.room self.old.buffer.items piece.now) result }
+        ensures held { OnOk result (self.new.buffer.items ≡ held_then self.old.room self.old.buffer.items piece.now) }
+        ensures dropped { OnErr result (self.new.buffer.items ≡ []) }
+        ensures room { self.new.room ≡ self.old.room }
+        ensures begun { self.new.begun ≡ true }
+    {
+        self.begun = true;
+        if piece.len() <= self.room - self.buffer.len() {
+            self.hold(piece);
+            return Ok(());
+        }
+        self.give()?;
+        if self.room < piece.len() {
+            return self.sink.put(piece);
+        }
+        self.hold(piece);
+        Ok(())
     }
 
-    fn flush(&mut self) -> Result<(), Failed> {
+    fn flush(&mut self) -> Result<(), Failed>
+        ensures written { Writes (behind (S.state self.old.sink) self.old.buffer.items self.old.begun) (behind (S.state self.new.sink) self.new.buffer.items self.new.begun) [] result }
+        ensures all { OnOk result ((behind (S.state self.new.sink) self.new.buffer.items self.new.begun).held ≡ []) }
+        ensures given { Writes (S.state self.old.sink) (S.state self.new.sink) self.old.buffer.items result }
+        ensures emptied { self.new.buffer.items ≡ [] }
+        ensures room { self.new.room ≡ self.old.room }
+        ensures begun { self.new.begun ≡ self.old.begun }
+    {
         self.give()?;
         self.sink.flush()
+    }
+
+    fn begin(&mut self) {
+        self.begun = false;
+    }
+
+    fn has_begun(&self) -> bool {
+        self.begun
     }
 }

@@ -1,4 +1,4 @@
-ghost use Rattle.std.specs.Prelude.{◌≡◌, ◌≤◌, [], Some, None, map, true, false, string_bytes, IfSome, IfNone, OnOk, IsErrOf};
+ghost use Rattle.std.specs.Prelude.{◌≡◌, ◌≤◌, ◌⊎◌, [], Some, None, map, true, false, string_bytes, IfSome, IfNone, OnOk, IsErrOf};
 ghost use Rattle.sci_io.specs.Causes.{counted};
 ghost use Rattle.sci_io.specs.Files.{file_named, HasFront, Reads};
 ghost use Rattle.sci_io.specs.Memory.{files_of, folder_of, folder_fails};
@@ -86,6 +86,7 @@ impl Folder for MemFolder {
         ensures kept { files_of self.new ≡ files_of self.old }
         ensures no_cause { OnOk result (folder_fails self.old name.now ≡ false) }
         ensures cause { IsErrOf result ReadEnd.Failed → folder_fails self.old name.now ≡ true }
+        ensures want { IsErrOf result ReadEnd.Memory → ((folder_of self.new).asked ≡ (folder_of self.old).asked) ⊎ (folder_fails self.old name.now ≡ false) }
         ensures counted { IsErrOf result ReadEnd.Failed → self.new.faults ≡ counted self.old.faults }
         ensures called { self.new.calls ≡ counted self.old.calls }
         ensures told { self.new.fails ≡ self.old.fails }

@@ -2,7 +2,7 @@ ghost use Rattle.std.specs.Prelude.{◌≡◌, ◌≤◌, vec_len, vec_capacity}
 
 use crate::{Failed, Sink};
 use sci_base::NoMemory;
-use std::alloc::{AllocError, Global};
+use std::alloc::Global;
 
 /// Takes bytes into memory. It fails at the calls of `put` that it is told, counted from 1, and where a piece passes its
 /// room; a call that fails takes nothing.
@@ -13,12 +13,13 @@ pub struct MemSink {
     room: usize,
     calls: u64,
     faults: u64,
+    begun: bool,
     ghost fits: { vec_len bytes ≤ room },
     ghost roomy: { room ≤ vec_capacity bytes },
 }
 
 impl MemSink {
-    ghost use Rattle.std.specs.Prelude.{◌≡◌, [], IfOk};
+    ghost use Rattle.std.specs.Prelude.{◌≡◌, [], false, IfOk};
 
     /// Nothing taken, no faults. It takes `room` bytes of memory at once.
     pub fn new(alloc: Global, fails: Vec<u64>, room: usize) -> Result<Self, NoMemory>
@@ -27,17 +28,17 @@ impl MemSink {
         ensures room { IfOk result (λ s. s.room ≡ room) }
         ensures no_calls { IfOk result (λ s. s.calls ≡ 0) }
         ensures no_faults { IfOk result (λ s. s.faults ≡ 0) }
+        ensures begun { IfOk result (λ s. s.begun ≡ false) }
     {
-        match Vec::with_capacity(alloc, room) {
-            Ok(bytes) => Ok(MemSink {
-                bytes,
-                fails,
-                room,
-                calls: 0,
-                faults: 0,
-            }),
-            Err(AllocError) => Err(NoMemory),
-        }
+        let bytes = Vec::with_capacity(alloc, room)?;
+        Ok(MemSink {
+            bytes,
+            fails,
+            room,
+            calls: 0,
+            faults: 0,
+            begun: false,
+        })
     }
 
     /// The bytes taken.
@@ -56,7 +57,7 @@ impl MemSink {
 }
 
 impl Sink for MemSink {
-    ghost use Rattle.std.specs.Prelude.{◌≡◌, [], length, true, false, IsOk, OnErr, OnOk};
+    ghost use Rattle.std.specs.Prelude.{◌≡◌, ◌<◌, [], length, true, false, IsOk, OnErr, OnOk};
     ghost use Rattle.sci_io.specs.Taken.{Writes};
     ghost use Rattle.sci_io.specs.Causes.{counted};
     ghost use Rattle.sci_io.specs.Memory.{state_of, sink_fails};
@@ -64,6 +65,7 @@ impl Sink for MemSink {
     ghost state = { λ s. state_of s };
 
     fn put(&mut self, piece: &[u8]) -> Result<(), Failed>
+        requires { 0 < length piece.now }
         ensures written { Writes (state_of self.old) (state_of self.new) piece.now result }
         ensures ok { OnOk result (sink_fails self.old (length piece.now) ≡ false) }
         ensures failed { OnErr result (sink_fails self.old (length piece.now) ≡ true) }
@@ -72,7 +74,9 @@ impl Sink for MemSink {
         ensures called { self.new.calls ≡ counted self.old.calls }
         ensures told { self.new.fails ≡ self.old.fails }
         ensures room { self.new.room ≡ self.old.room }
+        ensures begun { self.new.begun ≡ true }
     {
+        self.begun = true;
         self.calls = self.calls.saturating_add(1);
         let told = self.fails.contains(&self.calls);
         if told || self.room - self.bytes.len() < piece.len() {
@@ -90,5 +94,13 @@ impl Sink for MemSink {
         ensures kept { self.new ≡ self.old }
     {
         Ok(())
+    }
+
+    fn begin(&mut self) {
+        self.begun = false;
+    }
+
+    fn has_begun(&self) -> bool {
+        self.begun
     }
 }

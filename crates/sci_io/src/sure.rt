@@ -5,22 +5,49 @@ use crate::{Failed, Sink};
 
 /// Takes everything, tells nothing of it and never fails.
 #[derive(Clone, Copy, Debug)]
-pub struct SureSink;
+pub struct SureSink {
+    begun: bool,
+}
 
 impl SureSink {
-    pub fn new() -> Self {
-        SureSink
+    ghost use Rattle.std.specs.Prelude.{◌≡◌, false};
+
+    /// Nothing was put yet.
+    pub fn new() -> Self
+        ensures { result.begun ≡ false }
+    {
+        SureSink { begun: false }
     }
 }
 
 impl Sink for SureSink {
-    ghost state = { λ _. direct None 0 };
+    ghost use Rattle.std.specs.Prelude.{◌≡◌, ◌<◌, [], length, IsOk, OnOk};
+    ghost use Rattle.sci_io.specs.Taken.{Writes};
 
-    fn put(&mut self, _piece: &[u8]) -> Result<(), Failed> {
+    ghost state = { λ s. direct None 0 s.begun };
+
+    fn put(&mut self, piece: &[u8]) -> Result<(), Failed>
+        requires { 0 < length piece.now }
+        ensures written { Writes (direct None 0 self.old.begun) (direct None 0 self.new.begun) piece.now result }
+        ensures sure { IsOk result }
+    {
+        self.begun = true;
         Ok(())
     }
 
-    fn flush(&mut self) -> Result<(), Failed> {
+    fn flush(&mut self) -> Result<(), Failed>
+        ensures written { Writes (direct None 0 self.old.begun) (direct None 0 self.new.begun) [] result }
+        ensures all { OnOk result ((direct None 0 self.new.begun).held ≡ []) }
+        ensures sure { IsOk result }
+    {
         Ok(())
+    }
+
+    fn begin(&mut self) {
+        self.begun = false;
+    }
+
+    fn has_begun(&self) -> bool {
+        self.begun
     }
 }

@@ -1,7 +1,11 @@
-use crate::{BufferedSink, Folder, MemFolder, MemSink, ReadEnd, RealFolder, RealSink, Sink};
+use crate::transfer::{read_front, write_whole};
+use crate::{
+    BufferedSink, Folder, Machine, MemFolder, MemSink, ReadEnd, RealFolder, RealSink, Sink,
+};
 use std::alloc::Global;
-use std::fs;
+use std::io::{ErrorKind, Read, Write};
 use std::test::Fail;
+use std::{fs, io};
 
 fn text(alloc: Global, s: &str) -> Result<String, Fail> {
     Ok(String::from_str(alloc, s)?)
@@ -60,7 +64,7 @@ fn a_buffer_collects_what_it_can(rt: HostRuntime) -> Result<(), Fail> {
 fn the_real_folder_reads_what_was_written(rt: HostRuntime) -> Result<(), Fail> {
     let alloc = rt.alloc();
     fs::write(&rt, "sci_io_test_file", "abcd")?;
-    let mut folder = RealFolder::new(&rt, alloc);
+    let mut folder = RealFolder::new(Machine::new(&rt), alloc);
     let Ok(whole) = folder.read(alloc, "sci_io_test_file", 4) else {
         return Err(Fail::from("not read"));
     };
@@ -86,11 +90,90 @@ fn the_real_sink_writes_its_pieces(rt: HostRuntime) -> Result<(), Fail> {
     assert!(rt; out.put(b"a line\n").is_ok());
     assert!(rt; out.put(b"and one more\n").is_ok());
     assert!(rt; out.flush().is_ok());
-    let mut folder = RealFolder::new(&rt, alloc);
+    let mut folder = RealFolder::new(Machine::new(&rt), alloc);
     let Ok(written) = folder.read(alloc, "sci_io_test_sink", 100) else {
         return Err(Fail::from("not read"));
     };
     assert_eq!(rt; written.as_slice(), b"a line\nand one more\n".as_slice());
     fs::remove_file(&rt, "sci_io_test_sink")?;
+    Ok(())
+}
+
+// Gives two bytes, is interrupted, gives two more, and then fails or ends.
+#[derive(Drop)]
+struct Halting {
+    turn: u8,
+    fails: bool,
+}
+
+impl Read for Halting {
+    fn read(&mut self, buffer: &mut [u8]) -> io::Result<usize> {
+        self.turn = self.turn.saturating_add(1);
+        match self.turn {
+            1 => b"ab".as_slice().read(buffer),
+            2 => Err(io::Error::from(ErrorKind::Interrupted)),
+            3 => b"cd".as_slice().read(buffer),
+            _ if self.fails => Err(io::Error::from(ErrorKind::TimedOut)),
+            _ => Ok(0),
+        }
+    }
+}
+
+#[test]
+fn a_reader_is_read_to_its_end(rt: HostRuntime) -> Result<(), Fail> {
+    let alloc = rt.alloc();
+    let mut whole = Halting {
+        turn: 0,
+        fails: false,
+    };
+    let Ok(bytes) = read_front(&mut whole, alloc, 9) else {
+        return Err(Fail::from("not read"));
+    };
+    assert_eq!(rt; bytes.as_slice(), b"abcd".as_slice());
+    let mut halting = Halting {
+        turn: 0,
+        fails: true,
+    };
+    assert!(rt;
+        matches!(read_front(&mut halting, alloc, 9), Err(ReadEnd::Failed)),
+        "a failed read is no end"
+    );
+    Ok(())
+}
+
+// Takes one byte, is interrupted, takes one more, and then fails or takes nothing.
+#[derive(Drop)]
+struct Reluctant {
+    turn: u8,
+    fails: bool,
+}
+
+impl Write for Reluctant {
+    fn write(&mut self, piece: &[u8]) -> io::Result<usize> {
+        self.turn = self.turn.saturating_add(1);
+        match self.turn {
+            2 => Err(io::Error::from(ErrorKind::Interrupted)),
+            1 | 3 if !piece.is_empty() => Ok(1),
+            _ if self.fails => Err(io::Error::from(ErrorKind::TimedOut)),
+            _ => Ok(0),
+        }
+    }
+
+    fn flush(&mut self) -> io::Result<()> {
+        Ok(())
+    }
+}
+
+#[test]
+fn a_writer_takes_all_or_fails(rt: HostRuntime) -> Result<(), Fail> {
+    for fails in [true, false] {
+        let mut short = Reluctant { turn: 0, fails };
+        assert!(rt;
+            write_whole(&mut short, b"ab"),
+            "short writes, one interrupted"
+        );
+        let mut cut = Reluctant { turn: 0, fails };
+        assert!(rt; !write_whole(&mut cut, b"abc"), "a byte that was not taken");
+    }
     Ok(())
 }

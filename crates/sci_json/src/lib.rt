@@ -2,15 +2,18 @@
 //! counts.
 #![tactic(auto)]
 
-ghost use Rattle.std.specs.Prelude.{◌≡◌, ◌↔◌, ◌≢◌, IfOk, IfErr, IsErrOf, MatchOption, string_bytes, ◌∷◌, []};
+ghost use Rattle.std.specs.Prelude.{◌≡◌, ◌≢◌, Some, None, IfOk, IfErr, MatchOption, is_some, option_and_then, if◌then◌else◌, string_bytes, ◌∷◌, []};
 ghost use Rattle.serde_json.specs.Find.{as_str, as_array};
-ghost use Rattle.sci_document.specs.View.{view, items_view};
-ghost use Rattle.sci_json.specs.Field.{holds, absent, ill_formed, field, formed, wholes, as_ints, as_flags, StopsAt};
+ghost use Rattle.sci_json.specs.View.{view, items_view};
+ghost use Rattle.sci_base.specs.Plain.{dependence_of, feedthrough_of};
+ghost use Rattle.sci_json.specs.Field.{holds, absent, field, formed, wholes, as_ints, StopsAt, entries, truths, as_feedthrough, as_dep, DepStops, PartStops, TruthsStop};
 
-use sci_document::{Items, Value};
+use crate::document::{Items, Value};
+use sci_base::{Dep, Part};
 use std::alloc::Global;
 use thiserror::Error;
 
+pub mod document;
 #[cfg(test)]
 mod tests;
 
@@ -108,32 +111,64 @@ fn whole_numbers(alloc: Global, mut items: Items<'_, '_>) -> Result<Vec<i64>, Fi
             return Err(FieldStop::Wrong);
         };
         if xs.push(n).is_err() {
-            return Err(FieldStop::Memory);
+            return Err(without_memory(are_whole(items)));
         }
     }
     Ok(xs)
 }
 
-/// A list of two truth values, or None where the field is absent. Wrong where it is anything else.
-pub fn flags(v: &Value<'_, '_>, name: &str) -> Result<Option<(bool, bool)>, FieldStop>
-    ensures ok { IfOk result
-        (λ o. MatchOption o (field as_flags name.now (view v.now) ≡ absent)
-        (λ p. field as_flags name.now (view v.now) ≡ holds p)) }
-    ensures stop { IfErr result (λ e. e ≡ FieldStop.Wrong) }
-    ensures wrong { IsErrOf result FieldStop.Wrong
-        ↔ (field as_flags name.now (view v.now) ≡ ill_formed) }
+// Why a list was not read for which there was no memory: one that hasn't its form counts as wrong first.
+fn without_memory(formed: bool) -> FieldStop
+    ensures { result ≡ if formed then FieldStop.Memory else FieldStop.Wrong }
 {
-    let Some(found) = v.get(name) else {
-        return Ok(None);
-    };
-    match flags_of(&found) {
-        None => Err(FieldStop::Wrong),
-        Some(pair) => Ok(Some(pair)),
+    if formed {
+        FieldStop::Memory
+    } else {
+        FieldStop::Wrong
     }
 }
 
-fn flags_of(found: &Value<'_, '_>) -> Option<(bool, bool)>
-    ensures { result ≡ as_flags (view found.now) }
+fn are_whole(mut items: Items<'_, '_>) -> bool
+    ensures { result ≡ is_some (wholes (items_view items.entry)) }
+{
+    while let Some(item) = items.next() {
+        if item.as_i64().is_none() {
+            return false;
+        }
+    }
+    true
+}
+
+/// What a list of two entries says of a block: the first, a truth value or a list of truth values, which regular inputs have direct
+/// feedthrough; the second, a truth value, whether the block is always active. None where the field is absent, Wrong where it is
+/// anything else. Only the list of truth values takes memory.
+pub fn dep(alloc: Global, v: &Value<'_, '_>, name: &str) -> Result<Option<Dep>, FieldStop>
+    ensures ok { IfOk result
+        (λ o. MatchOption o (field as_dep name.now (view v.now) ≡ absent)
+        (λ d. field as_dep name.now (view v.now) ≡ holds (dependence_of d))) }
+    ensures stop { IfErr result (λ e. DepStops (field as_dep name.now (view v.now)) e) }
+{
+    match v.get(name) {
+        None => Ok(None),
+        Some(found) => Ok(Some(dep_of(alloc, &found)?)),
+    }
+}
+
+fn dep_of(alloc: Global, found: &Value<'_, '_>) -> Result<Dep, FieldStop>
+    ensures ok { IfOk result (λ d. formed (as_dep (view found.now)) ≡ holds (dependence_of d)) }
+    ensures stop { IfErr result (λ e. DepStops (formed (as_dep (view found.now))) e) }
+{
+    let Some((first, always)) = entries(found) else {
+        return Err(FieldStop::Wrong);
+    };
+    let part = part_of(alloc, &first)?;
+    Ok(Dep { part, always })
+}
+
+// The first of two entries, and the truth value that the second is.
+fn entries<'t, 'a>(found: &Value<'t, 'a>) -> Option<(Value<'t, 'a>, bool)>
+    ensures { MatchOption result (option_and_then entries (as_array (view found.now)) ≡ None)
+        (λ p. option_and_then entries (as_array (view found.now)) ≡ Some (view p.0, p.1)) }
 {
     let mut items = found.items()?;
     let first = items.next()?;
@@ -141,5 +176,45 @@ fn flags_of(found: &Value<'_, '_>) -> Option<(bool, bool)>
     if items.next().is_some() {
         return None;
     }
-    Some((first.as_bool()?, second.as_bool()?))
+    Some((first, second.as_bool()?))
+}
+
+fn part_of(alloc: Global, first: &Value<'_, '_>) -> Result<Part, FieldStop>
+    ensures ok { IfOk result (λ p. as_feedthrough (view first.now) ≡ Some (feedthrough_of p)) }
+    ensures stop { IfErr result (λ e. PartStops (as_feedthrough (view first.now)) e) }
+{
+    match first.items() {
+        Some(items) => Ok(Part::Each(truths(alloc, items)?)),
+        None => match first.as_bool() {
+            Some(truth) => Ok(Part::All(truth)),
+            None => Err(FieldStop::Wrong),
+        },
+    }
+}
+
+fn truths(alloc: Global, mut items: Items<'_, '_>) -> Result<Vec<bool>, FieldStop>
+    ensures ok { IfOk result (λ bs. truths (items_view items.entry) ≡ Some bs.items) }
+    ensures stop { IfErr result (λ e. TruthsStop (truths (items_view items.entry)) e) }
+{
+    let mut truths = Vec::new(alloc);
+    while let Some(item) = items.next() {
+        let Some(truth) = item.as_bool() else {
+            return Err(FieldStop::Wrong);
+        };
+        if truths.push(truth).is_err() {
+            return Err(without_memory(are_truths(items)));
+        }
+    }
+    Ok(truths)
+}
+
+fn are_truths(mut items: Items<'_, '_>) -> bool
+    ensures { result ≡ is_some (truths (items_view items.entry)) }
+{
+    while let Some(item) = items.next() {
+        if item.as_bool().is_none() {
+            return false;
+        }
+    }
+    true
 }

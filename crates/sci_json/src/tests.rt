@@ -1,6 +1,7 @@
-use crate::{FieldStop, flags, ints, list, text};
+use crate::document::Document;
+use crate::{FieldStop, dep, ints, list, text};
 use json::Scratch;
-use sci_document::Document;
+use sci_base::Part;
 use std::test::Fail;
 
 #[test]
@@ -9,7 +10,7 @@ fn reads_each_form(rt: HostRuntime) -> Result<(), Fail> {
     let mut scratch = Scratch::new(alloc);
     let Ok(document) = Document::parse(
         alloc,
-        b"{\"gui\":\"SUM\",\"ipar\":[1,-2],\"one\":7,\"objs\":[{},3],\"dep\":[true,false],\"late\":1,\"late\":2.0}",
+        b"{\"gui\":\"SUM\",\"ipar\":[1,-2],\"one\":7,\"objs\":[{},3],\"late\":1,\"late\":2.0}",
         &mut scratch,
     ) else {
         panic!(&rt; "refused");
@@ -23,9 +24,73 @@ fn reads_each_form(rt: HostRuntime) -> Result<(), Fail> {
     assert_eq!(rt; one.as_slice(), [7].as_slice());
     let mut objs = list(&value, "objs")?;
     assert!(rt; objs.next().is_some() && objs.next().is_some() && objs.next().is_none());
-    assert_eq!(rt; flags(&value, "dep")?, Some((true, false)));
-    assert_eq!(rt; flags(&value, "none")?, None);
+    assert!(rt; dep(alloc, &value, "none")?.is_none());
     assert!(rt; matches!(list(&value, "none"), Err(FieldStop::Missing)));
     assert!(rt; matches!(ints(alloc, &value, "late"), Err(FieldStop::Wrong)));
     Ok(())
+}
+
+#[test]
+fn reads_what_a_block_depends_on(rt: HostRuntime) -> Result<(), Fail> {
+    let alloc = rt.alloc();
+    let mut scratch = Scratch::new(alloc);
+    let Ok(document) = Document::parse(
+        alloc,
+        b"{\"all\":[true,false],\"each\":[[false,true],true],\"none\":[[],false]}",
+        &mut scratch,
+    ) else {
+        panic!(&rt; "refused");
+    };
+    let value = document.root();
+    match dep(alloc, &value, "all")? {
+        Some(found) => {
+            assert!(rt; matches!(found.part, Part::All(true)));
+            assert!(rt; !found.always);
+        }
+        None => panic!(&rt; "absent"),
+    }
+    match dep(alloc, &value, "each")? {
+        Some(found) => {
+            assert!(rt; found.always);
+            match found.part {
+                Part::Each(truths) => assert_eq!(rt; truths.as_slice(), [false, true].as_slice()),
+                Part::All(_) => panic!(&rt; "one truth for all"),
+            }
+        }
+        None => panic!(&rt; "absent"),
+    }
+    match dep(alloc, &value, "none")? {
+        Some(found) => match found.part {
+            Part::Each(truths) => assert!(rt; truths.is_empty()),
+            Part::All(_) => panic!(&rt; "one truth for all"),
+        },
+        None => panic!(&rt; "absent"),
+    }
+    Ok(())
+}
+
+#[test]
+fn finds_wrong_dependences(rt: HostRuntime) {
+    let alloc = rt.alloc();
+    let texts: [&[u8]; 12] = [
+        b"{\"dep\":null}",
+        b"{\"dep\":[]}",
+        b"{\"dep\":[true]}",
+        b"{\"dep\":[[true]]}",
+        b"{\"dep\":[true,false,true]}",
+        b"{\"dep\":[[],true,0]}",
+        b"{\"dep\":[1,true]}",
+        b"{\"dep\":[[true,1],true]}",
+        b"{\"dep\":[[true,null],true]}",
+        b"{\"dep\":[[true],[true]]}",
+        b"{\"dep\":[[[true]],true]}",
+        b"{\"dep\":true}",
+    ];
+    for text in texts {
+        let mut scratch = Scratch::new(alloc);
+        let Ok(document) = Document::parse(alloc, text, &mut scratch) else {
+            panic!(&rt; "refused");
+        };
+        assert!(rt; matches!(dep(alloc, &document.root(), "dep"), Err(FieldStop::Wrong)));
+    }
 }

@@ -1,4 +1,4 @@
-use Rattle.std.proofs.Common.{◌≡◌, ◌≢◌, ℕ, ◌+◌, ◌<◌, ◌≤◌, ℤ, pos, negsuc, ◌+ℤ◌, ◌-ℤ◌, ◌≤ℤ◌, ◌<ℤ◌, List, length, Bool, true, false, refl, ap, arith, subst, cond, inr}
+use Rattle.std.proofs.Common.{◌≡◌, ◌≢◌, ℕ, ◌+◌, ◌<◌, ◌≤◌, ℤ, pos, negsuc, ◌+ℤ◌, ◌-ℤ◌, ◌≤ℤ◌, ◌<ℤ◌, List, length, Bool, true, false, refl, ap, ◌∙◌, arith, subst, cond, inr}
 use Rattle.std.proofs.lemmas.Int.{ints}
 use Rattle.std.proofs.lemmas.Bool.Decides.{nat_tests}
 use Rattle.std.specs.Prelude.{nat_eq, nat_lt, int_lt, unsigned_abs}
@@ -10,12 +10,13 @@ use Rattle.sci_forms.specs.declared.Kind.{Kind}
 use Rattle.sci_forms.specs.declared.Kind.TheVariants.{Const, AndLog, Dollar, Register, ModuloCount, GatedDelay, Sensor, EvtDly, EvtVarDly, IfThEl, ESelect, Halt}
 use Rattle.sci_kinds.specs.declared.Cell.TheVariants.{Value}
 use Rattle.sci_forms.specs.declared.spec.Spec.{Spec}
-use Rattle.sci_forms.specs.Ports.{total, type_at, Fills}
+use Rattle.sci_forms.specs.Ports.{total, type_at, before, Fills}
 use Rattle.sci_kinds.specs.Table.{brought, cell_of, next_of, delay_of, branch_of, held_of, cell, state_len, next, first_state, first_held, delay, branch, Values, out}
 use Rattle.sci_forms.specs.Words.{param, out_type, size, state_len_of}
-use Rattle.sci_forms.specs.Forms.{needs, feeds, is_sync}
+use Rattle.sci_forms.specs.Forms.{feeds, is_sync}
 use Rattle.sci_kinds.specs.Asks.{Asks, IsState, IsMask, entering_of, entering, SameBut}
 use Rattle.sci_base.proofs.FitLemmas.{rem_bounds}
+use Rattle.sci_kinds.proofs.Inputs.{before_all}
 use Rattle.sci_kinds.proofs.Elements.{gathered_same, gathered_values, listed_at}
 use Rattle.sci_kinds.proofs.Ranges.{zero_one, zero_in_range, cond_in_range, spread_in_range, elem, one_out, cell_in_range}
 
@@ -110,31 +111,36 @@ branch_bounds _ s u a h = cc
 
 -- ---- feedthrough
 
-unfed : (k : Kind) (s : Spec) (x : List ℤ) (m : ℕ) (u v : List ℤ) (e : ℕ) → k ≢ Sensor → feeds k ≡ false → cell_of k s x m u e ≡ cell_of k s x m v e
-unfed Const s x m u v e n h = refl
-unfed AndLog s x m u v e n h = refl
-unfed Dollar s x m u v e n h = refl
-unfed Register s x m u v e n h = refl
-unfed ModuloCount s x m u v e n h = refl
-unfed Sensor s x m u v e n h = absurd (n refl)
-unfed EvtDly s x m u v e n h = refl
-unfed EvtVarDly s x m u v e n h = refl
-unfed Halt s x m u v e n h = refl
-unfed _ s x m u v e n h = cc
-
-free_cell : (k : Kind) (s : Spec) (x : List ℤ) (m i : ℕ) (u v : List ℤ) (e : ℕ) → Asks k s → i < length s.ins → needs k i ≡ false → SameBut s i u v
-    → cell_of k s x m u e ≡ cell_of k s x m v e
+-- what the kind has no feedthrough from changes no element; of GATED_DELAY the second input's one element decides
+free_cell : (k : Kind) (s : Spec) (x : List ℤ) (m i : ℕ) (u v : List ℤ) (e : ℕ) → Asks k s → i < length s.ins → feeds k (i + 1) ≡ false
+    → (k ≡ GatedDelay → at u (size s) ≡ at v (size s)) → cell_of k s x m u e ≡ cell_of k s x m v e
+free_cell Const s x m i u v e a l n h = refl
+free_cell AndLog s x m i u v e a l n h = refl
 free_cell Dollar s x m i u v e a l n h = refl
 free_cell Register s x m i u v e a l n h = refl
+free_cell ModuloCount s x m i u v e a l n h = refl
+free_cell GatedDelay s x m i u v e a l n h = ap (λ z. Value (cond (int_lt (pos 0) z) (at x e) (pos 0))) (h refl)
+free_cell Sensor s x m i u v e a l n h = absurd (omega (arith, l, a.2))
+free_cell EvtDly s x m i u v e a l n h = refl
 free_cell EvtVarDly s x m i u v e a l n h = refl
-free_cell GatedDelay s x m i u v e a l n h =
-    let not_one : i ≢ 1 = grind (arith, nat_tests) in
-    let zero : i ≡ 0 = omega (arith, l, a.1, not_one) in
-    let same : at u (size s) ≡ at v (size s) = h (size s) (inr (rw zero (omega (arith, a.0.first_size)))) in
-    ap (λ z. Value (cond (int_lt (pos 0) z) (at x e) (pos 0))) same
+free_cell Halt s x m i u v e a l n h = refl
 free_cell _ s x m i u v e a l n h = cc
 
-free_branch : (k : Kind) (s : Spec) (i : ℕ) (u v : List ℤ) → needs k i ≡ false → branch_of k s u ≡ branch_of k s v
+-- the second input of a GATED_DELAY
+pub gate : (s : Spec) → Asks GatedDelay s → (length s.ins ≡ 2) × (before s.ins 1 ≡ size s) × (before s.ins 2 ≡ size s + 1)
+gate s a = (a.1, a.0.first_size, before_all s.ins 2 a.1 ∙ a.0.total_ins ∙ omega arith)
+
+-- an input of which a GATED_DELAY has no feedthrough isn't the second
+gated_same : (s : Spec) (i : ℕ) (u v : List ℤ) → Asks s.kind s → i < length s.ins → feeds s.kind (i + 1) ≡ false → SameBut s i u v → s.kind ≡ GatedDelay
+    → at u (size s) ≡ at v (size s)
+gated_same s i u v a l n h kd =
+    let g = gate s (subst (λ k. Asks k s) kd a) in
+    let not_two : nat_eq (i + 1) 2 ≡ false = subst (λ k. feeds k (i + 1) ≡ false) kd n in
+    let not_one : i ≢ 1 = grind (arith, nat_tests) in
+    let zero : i ≡ 0 = omega (arith, l, g.0, not_one) in
+    h (size s) (inr (rw zero (omega (arith, g.1))))
+
+free_branch : (k : Kind) (s : Spec) (i : ℕ) (u v : List ℤ) → feeds k (i + 1) ≡ false → branch_of k s u ≡ branch_of k s v
 free_branch IfThEl s i u v n = cc
 free_branch ESelect s i u v n = cc
 free_branch _ s i u v n = refl
@@ -142,13 +148,15 @@ free_branch _ s i u v n = refl
 -- ---- whole specs
 
 module _ (s : Spec) (a : Asks s.kind s) where
-  pub no_feedthrough_of : (x : List ℤ) (m : ℕ) (u v : List ℤ) → s.kind ≢ Sensor → feeds s.kind ≡ false → out s x m u ≡ out s x m v
-  no_feedthrough_of x m u v n f = gathered_same (cell s x m u) (cell s x m v) (total s.outs) (λ e _. unfed s.kind s x m u v e n f)
-
-  pub free_input_of : (x : List ℤ) (m k : ℕ) (u v : List ℤ) → k < length s.ins → needs s.kind k ≡ false → SameBut s k u v
+  -- with an input of which the kind has no feedthrough
+  pub same_of : (x : List ℤ) (m k : ℕ) (u v : List ℤ) → k < length s.ins → feeds s.kind (k + 1) ≡ false → (s.kind ≡ GatedDelay → at u (size s) ≡ at v (size s))
       → (out s x m u ≡ out s x m v) × (branch s u ≡ branch s v)
-  free_input_of x m k u v l n h =
+  same_of x m k u v l n h =
       (gathered_same (cell s x m u) (cell s x m v) (total s.outs) (λ e _. free_cell s.kind s x m k u v e a l n h), free_branch s.kind s k u v n)
+
+  pub free_input_of : (x : List ℤ) (m k : ℕ) (u v : List ℤ) → k < length s.ins → feeds s.kind (k + 1) ≡ false → SameBut s k u v
+      → (out s x m u ≡ out s x m v) × (branch s u ≡ branch s v)
+  free_input_of x m k u v l n h = same_of x m k u v l n (gated_same s k u v a l n h)
 
   pub out_in_range : (x : List ℤ) (m : ℕ) (u : List ℤ) → IsState s x → IsMask s m → Fills (entering s) u → (vs : List ℤ) → out s x m u ≡ Values vs → Fills s.outs vs
   out_in_range x m u st mk f vs e =

@@ -1,21 +1,23 @@
-use Rattle.std.proofs.Common.{◌≡◌, ℕ, zero, suc, ◌+◌, ◌*◌, ◌^◌, ◌<◌, ◌≤◌, ℤ, pos, negsuc, ◌-ℤ◌, ◌≤ℤ◌, ◌<ℤ◌, length, Bool, true, false, refl, sym, ◌∙◌, arith, cond, inl, inr, ◌⊎◌, ◌||◌, not}
+use Rattle.std.proofs.Common.{◌≡◌, ℕ, zero, suc, ◌+◌, ◌*◌, ◌^◌, ◌<◌, ◌≤◌, ℤ, pos, negsuc, ◌-ℤ◌, ◌≤ℤ◌, ◌<ℤ◌, List, length, Bool, true, false, refl, sym, ◌∙◌, arith, subst, cond, inl, inr, ◌⊎◌, ◌||◌, not}
 use Rattle.std.proofs.lemmas.Int.{ints}
 use Rattle.std.proofs.lemmas.Bool.Decides.{nat_tests}
 use Rattle.std.specs.Prelude.{nat_eq, nat_le, int_lt, int_le, unsigned_abs}
 use Rattle.sci_base.specs.Fit.{int_eq, width}
-use Rattle.sci_base.specs.Lists.{at}
+use Rattle.sci_base.specs.Lists.{at, truth_at}
 use Rattle.sci_forms.specs.declared.Kind.{Kind}
 use Rattle.sci_forms.specs.declared.Kind.TheVariants.{Const, Summation, GainBlk, Product, AbsValue, Signum, MaxMin, Saturation, DeadBand, Convert, Mux, Demux, Extractor, LogicalOp, RelationalOp, Shift, BitSet, BitClear, ExtractBits, Switch2, Select, Logic, AndLog, Dollar, SampHold, Register, ModuloCount, GatedDelay, Sensor, EvtDly, EvtVarDly, IfThEl, ESelect, Halt}
 use Rattle.sci_forms.specs.declared.spec.Spec.{Spec}
 use Rattle.sci_forms.specs.Ports.{port_at, elements, type_of, total, sum_rows}
 use Rattle.sci_kinds.specs.Table.{out}
 use Rattle.sci_forms.specs.Words.{param, out_type, size}
-use Rattle.sci_forms.specs.Forms.{feeds, between, is_flag, is_sign, first_port, same_size, is_scalar, is_spread}
+use Rattle.sci_forms.specs.Forms.{feeds, fed, all_to, between, is_flag, is_sign, first_port, same_size, is_scalar, is_spread}
 use Rattle.sci_forms.specs.Typed.{typed}
-use Rattle.sci_kinds.specs.Asks.{IsAlikeSpec, IsSign, Asks}
-use Rattle.sci_kinds.specs.Laws.{NoFeedthroughLaw, FreeInputLaw, RangeLaw, FirstHeldLaw, DelayLaw, BranchLaw}
-use Rattle.sci_kinds.proofs.LawLemmas.{no_feedthrough_of, free_input_of, out_in_range, IsState-next, IsState-first_state, first_held_of, delay_of_typed, branch_of_typed}
-use Rattle.sci_forms.proofs.TestLemmas.{both_true, either_true, nat_same, nat_le_told, nat_lt_told, int_le_told, int_lt_told, int_same, between_told, in_range_told}
+use Rattle.sci_kinds.specs.Asks.{IsAlikeSpec, IsSign, Asks, SameFed, laid}
+use Rattle.sci_kinds.proofs.Inputs.{all_or_one, same_fed, length_laid, laid_same}
+use Rattle.std.proofs.Math.Numerals.{add-one}
+use Rattle.sci_kinds.specs.Laws.{FreeInputLaw, FedInputsLaw, LaidInputsLaw, RangeLaw, FirstHeldLaw, DelayLaw, BranchLaw}
+use Rattle.sci_kinds.proofs.LawLemmas.{gate, same_of, free_input_of, out_in_range, IsState-next, IsState-first_state, first_held_of, delay_of_typed, branch_of_typed}
+use Rattle.sci_forms.proofs.TestLemmas.{all_to_at, both_true, either_true, nat_same, nat_le_told, nat_lt_told, int_le_told, int_lt_told, int_same, between_told, in_range_told}
 use Rattle.sci_kinds.proofs.TypedLemmas.{Tests, tests, same_sized, scalar_one, same_typed, out_alike, alike_of, sized_of, one_of, scalars, columns, column_total, only_total, joined_of, two_total, three_total, before_one, type_at_first, type_at_third}
 
 spread_of : (len n : ℕ) → is_spread len n ≡ true → (len ≡ 1) ⊎ (len ≡ n)
@@ -297,20 +299,46 @@ asks_of Halt s t = (omega (arith, t.outs_most), omega (arith, t.ins_most))
 pub asks : (s : Spec) → typed s ≡ true → Asks s.kind s
 asks s h = asks_of s.kind s (tests s.kind s h)
 
--- feedthrough is left out only where the kind has none
-unfed_kind : (s : Spec) → typed s ≡ true → s.feed ≡ false → feeds s.kind ≡ false
-unfed_kind s h f = by_feed s.feed f (feeds s.kind) (tests s.kind s h).feed
+-- an input without feedthrough is one of which the kind has none
+unfed_kind : (s : Spec) → typed s ≡ true → (k : ℕ) → k < length s.ins → truth_at s.feed k ≡ false → feeds s.kind (k + 1) ≡ false
+unfed_kind s h k l f = by_truth (truth_at s.feed k) f (feeds s.kind (k + 1)) (all_to_at (fed s.kind s.feed) (length s.ins) (feed_parts s h).1 k l)
   where
-    by_feed : (a : Bool) → a ≡ false → (b : Bool) → (a || not b) ≡ true → b ≡ false
-    by_feed true p b h = cc
-    by_feed false p true h = cc
-    by_feed false p false h = refl
+    feed_parts : (s : Spec) → typed s ≡ true → (nat_eq (length s.feed) (length s.ins) ≡ true) × (all_to (fed s.kind s.feed) (length s.ins) ≡ true)
+    feed_parts s h = both_true (nat_eq (length s.feed) (length s.ins)) (all_to (fed s.kind s.feed) (length s.ins)) (tests s.kind s h).feed
 
-pub no_feedthrough : NoFeedthroughLaw
-no_feedthrough s x m u v h n f = no_feedthrough_of s (asks s h) x m u v n (unfed_kind s h f)
+    by_truth : (a : Bool) → a ≡ false → (b : Bool) → (a || not b) ≡ true → b ≡ false
+    by_truth true p b h = cc
+    by_truth false p true h = cc
+    by_truth false p false h = refl
 
 pub free_input : FreeInputLaw
-free_input s x m k u v h l n b = free_input_of s (asks s h) x m k u v l n b
+free_input s x m k u v h l n b = free_input_of s (asks s h) x m k u v l (unfed_kind s h k l n) b
+
+-- where an input of a GATED_DELAY has no feedthrough, the second has
+gated_fed : (s : Spec) → typed s ≡ true → (u v : List ℤ) → SameFed s u v → s.kind ≡ GatedDelay → at u (size s) ≡ at v (size s)
+gated_fed s h u v same kd =
+    let g = gate s (subst (λ k. Asks k s) kd (asks s h)) in
+    let on : truth_at s.feed 1 ≡ true = by_truth (truth_at s.feed 1) refl in
+    same 1 (size s) (omega (arith, g.0)) on (omega (arith, g.1)) (omega (arith, g.2))
+  where
+    by_truth : (b : Bool) → truth_at s.feed 1 ≡ b → truth_at s.feed 1 ≡ true
+    by_truth true p = p
+    by_truth false p =
+        let g = gate s (subst (λ k. Asks k s) kd (asks s h)) in
+        let none : feeds s.kind 2 ≡ false = unfed_kind s h 1 (omega (arith, g.0)) p in
+        let none_at : feeds GatedDelay 2 ≡ false = subst (λ k. feeds k 2 ≡ false) kd none in
+        cc
+
+pub fed_inputs : FedInputsLaw
+fed_inputs s x m u v h lu lv same = elim (all_or_one (truth_at s.feed) (length s.ins)) [
+  | inl all ↦ let e : u ≡ v = same_fed s.ins u v lu lv (λ k i l. same k i l (all k l)) in rw e (refl, refl)
+  | inr one ↦ same_of s (asks s h) x m one.0 u v one.1 (unfed_kind s h one.0 one.1 one.2) (gated_fed s h u v same)
+]
+
+pub laid_inputs : LaidInputsLaw
+laid_inputs s x m xs ys h same =
+    fed_inputs s x m (laid s.ins xs) (laid s.ins ys) h (length_laid s.ins xs) (length_laid s.ins ys)
+    (λ k e l on from to. laid_same s.ins xs ys k e from (rw add-one at to) (rw add-one at (same k l on)))
 
 pub range_law : RangeLaw
 range_law s x m u h st mk f = (out_in_range s (asks s h) x m u st mk f, IsState-next s (asks s h) x m u st f)

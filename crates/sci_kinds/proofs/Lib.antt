@@ -1,4 +1,5 @@
 pub mod Elements
+pub mod Inputs
 pub mod TypedLemmas
 pub mod Ranges
 pub mod LawLemmas

@@ -1,4 +1,4 @@
-use Rattle.std.proofs.Common.{◌≡◌, ℕ, suc, ◌+◌, ◌-◌, ◌*◌, ◌<◌, ◌≤◌, ℤ, pos, negsuc, ◌+ℤ◌, ◌≤ℤ◌, List, [], ◌∷◌, length, Bool, true, false, refl, ap, sym, ◌∙◌, arith, cond, inl, inr, ◌&&◌, ◌||◌, not}
+use Rattle.std.proofs.Common.{◌≡◌, ℕ, suc, ◌+◌, ◌-◌, ◌*◌, ◌<◌, ◌≤◌, ℤ, pos, negsuc, ◌+ℤ◌, ◌≤ℤ◌, List, [], ◌∷◌, length, Bool, true, false, refl, ap, sym, ◌∙◌, arith, cond, inl, inr, ◌&&◌}
 use Rattle.std.proofs.lemmas.Int.{ints}
 use Rattle.std.proofs.lemmas.Bool.{cases_lt}
 use Rattle.std.specs.Prelude.{nat_eq, nat_le, int_le, unsigned_abs, is_none}
@@ -10,8 +10,8 @@ use Rattle.sci_forms.specs.declared.Kind.{Kind}
 use Rattle.sci_forms.specs.declared.spec.Spec.{Spec}
 use Rattle.sci_forms.specs.Ports.{port_at, elements, type_of, total, type_at, IsAlike, before, sum_rows}
 use Rattle.sci_forms.specs.Words.{out_type, size}
-use Rattle.sci_forms.specs.Forms.{counts_of, feeds, has_delay, has_state, between, params_len_ok, param_ok, state_len_ok, state_ok, firing_ok, first_port, in_type_ok, out_type_ok, param_fits, state_fits, is_scalar, same_size, is_column, in_size_ok, out_size_ok, params_spread, state_spread, index_ok, all_to, within, or_else, unless, first_not, given}
-use Rattle.sci_forms.specs.Typed.{is_known, known_in, known_out, counted, formed_of, known_of, types_broken_of, sizes_broken_of, type_not_here, value_not_here, wrong_size, wrong_shape, param_fits_at, state_fits_at}
+use Rattle.sci_forms.specs.Forms.{counts_of, has_delay, has_state, between, params_len_ok, param_ok, state_len_ok, state_ok, firing_ok, first_port, in_type_ok, out_type_ok, param_fits, state_fits, is_scalar, same_size, is_column, in_size_ok, out_size_ok, params_spread, state_spread, index_ok, all_to, within, or_else, unless, first_not, given}
+use Rattle.sci_forms.specs.Typed.{is_known, known_in, known_out, feed_ok, counted, formed_of, known_of, types_broken_of, sizes_broken_of, type_not_here, value_not_here, wrong_size, wrong_shape, param_fits_at, state_fits_at}
 use Rattle.sci_kinds.specs.Asks.{IsOneOut, IsAlikeSpec, IsSizedSpec, IsJoined}
 use Rattle.sci_forms.proofs.TestLemmas.{both_true, none_parts, none_given, none_unless, all_to_at, nat_same, nat_le_told, int_le_told, int_same}
 use Rattle.sci_kinds.proofs.Elements.{nat_lt_yes, nat_lt_no}
@@ -31,7 +31,7 @@ pub record Tests (k : Kind) (s : Spec) : Type 0 where
   pub params : (i : ℕ) → i < length s.params → param_ok k (length s.ins) s.params i ≡ true
   pub state_len : cond (has_state k) (state_len_ok k (length s.state)) (nat_eq (length s.state) 0) ≡ true
   pub state : (i : ℕ) → i < length s.state → state_ok k s.params s.state i ≡ true
-  pub feed : (s.feed || not (feeds k)) ≡ true
+  pub feed : feed_ok k s.feed (length s.ins) ≡ true
   pub known_ins : (i : ℕ) → i < length s.ins → is_known (port_at s.ins i) ≡ true
   pub known_outs : (i : ℕ) → i < length s.outs → is_known (port_at s.outs i) ≡ true
   pub in_types : (i : ℕ) → i < length s.ins → in_type_ok k s i ≡ true
@@ -50,7 +50,7 @@ tests k s h =
     let p3 = both_true _ (is_none (sizes_broken_of k s)) h in
     let p2 = both_true _ (is_none (types_broken_of k s)) p3.0 in
     let p1 = both_true (formed_of k s) (known_of s) p2.0 in
-    let f6 = both_true _ (s.feed || not (feeds k)) p1.0 in
+    let f6 = both_true _ (feed_ok k s.feed (length s.ins)) p1.0 in
     let f5 = both_true _ (cond (has_delay k) (nat_eq (length s.firing) 1 && firing_ok (at s.firing 0)) (nat_eq (length s.firing) 0)) f6.0 in
     let f4 = both_true _ (all_to (state_ok k s.params s.state) (length s.state)) f5.0 in
     let f3 = both_true _ (cond (has_state k) (state_len_ok k (length s.state)) (nat_eq (length s.state) 0)) f4.0 in

@@ -1,9 +1,9 @@
 -- What holds of a typed spec, kind by kind; its states, masks and inputs.
-use Rattle.std.specs.Prelude.{◌≡◌, ◌≢◌, ℕ, ◌+◌, ◌*◌, ◌^◌, ◌<◌, ◌≤◌, ℤ, pos, negsuc, ◌-ℤ◌, ◌≤ℤ◌, ◌<ℤ◌, ◌⊎◌, List, length, unsigned_abs}
+use Rattle.std.specs.Prelude.{◌≡◌, ◌≢◌, ℕ, ◌+◌, ◌*◌, ◌^◌, ◌<◌, ◌≤◌, ℤ, pos, negsuc, ◌-ℤ◌, ◌≤ℤ◌, ◌<ℤ◌, ◌⊎◌, List, [], ◌∷◌, ◌++◌, suc, true, length, unsigned_abs}
 use Rattle.sci_base.specs.declared.Ty.{Ty}
 use Rattle.sci_base.specs.declared.Ty.TheVariants.{I32}
 use Rattle.sci_base.specs.Fit.{InRange, width, high}
-use Rattle.sci_base.specs.Lists.{at}
+use Rattle.sci_base.specs.Lists.{at, truth_at, listed}
 use Rattle.sci_forms.specs.declared.Kind.{Kind}
 use Rattle.sci_forms.specs.declared.Kind.TheVariants.{Const, Summation, GainBlk, Product, AbsValue, Signum, MaxMin, Saturation, DeadBand, Convert, Mux, Demux, Extractor, LogicalOp, RelationalOp, Shift, BitSet, BitClear, ExtractBits, Switch2, Select, Logic, AndLog, Dollar, SampHold, Register, ModuloCount, GatedDelay, Sensor, EvtDly, EvtVarDly, IfThEl, ESelect, Halt}
 use Rattle.sci_forms.specs.declared.ports.Port.{Port}
@@ -123,6 +123,16 @@ entering_of _ s = s.ins
 abbrev pub entering : Spec → List Port
 entering s = entering_of s.kind s
 
--- u and v are the same but for the values of input k
+-- u and v are the same at each element of each input with feedthrough, inputs counted from 0
+abbrev pub SameFed : Spec → List ℤ → List ℤ → Type 0
+SameFed s u v =
+    (k e : ℕ) → k < length s.ins → truth_at s.feed k ≡ true → before s.ins k ≤ e → e < before s.ins (k + 1) → at u e ≡ at v e
+
+-- the values on the inputs, one after the other: of input k, counted from 1, as many as its port has elements, 0 for those that xs k hasn't
+abbrev pub laid : List Port → (ℕ → List ℤ) → List ℤ
+laid [] xs = []
+laid (p ∷ ps) xs = listed (at (xs 1)) (elements p) ++ laid ps (λ k. xs (suc k))
+
+-- u and v are the same but for the values of input k, counted from 0
 abbrev pub SameBut : Spec → ℕ → List ℤ → List ℤ → Type 0
 SameBut s k u v = (e : ℕ) → ((e < before s.ins k) ⊎ (before s.ins (k + 1) ≤ e)) → at u e ≡ at v e

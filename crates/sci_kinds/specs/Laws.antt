@@ -1,22 +1,30 @@
-use Rattle.std.specs.Prelude.{◌≡◌, ◌≢◌, ℕ, ◌<◌, ◌≤◌, ℤ, pos, negsuc, ◌≤ℤ◌, List, length, false, true}
-use Rattle.sci_forms.specs.declared.Kind.TheVariants.{Sensor}
+use Rattle.std.specs.Prelude.{◌≡◌, ℕ, ◌+◌, ◌<◌, ◌≤◌, ℤ, pos, negsuc, ◌≤ℤ◌, List, length, false, true}
+use Rattle.sci_base.specs.Lists.{truth_at}
 use Rattle.sci_forms.specs.declared.spec.Spec.{Spec}
-use Rattle.sci_forms.specs.Ports.{Fills}
+use Rattle.sci_forms.specs.Ports.{total, Fills}
 use Rattle.sci_kinds.specs.Table.{Values, out, next, delay, branch, first_state, first_held}
-use Rattle.sci_forms.specs.Forms.{needs, is_sync}
+use Rattle.sci_forms.specs.Forms.{is_sync}
 use Rattle.sci_forms.specs.Typed.{typed}
-use Rattle.sci_kinds.specs.Asks.{IsState, IsMask, entering, SameBut}
+use Rattle.sci_kinds.specs.Asks.{IsState, IsMask, entering, SameBut, SameFed, laid}
 
--- without feedthrough the outputs are the same for all inputs
-abbrev pub NoFeedthroughLaw : Type 0
-NoFeedthroughLaw =
-    (s : Spec) (x : List ℤ) (m : ℕ) (u v : List ℤ) → typed s ≡ true → s.kind ≢ Sensor → s.feed ≡ false → out s x m u ≡ out s x m v
-
--- where the kind doesn't need input k, the outputs and the branch are the same for all values of input k
+-- where input k has no feedthrough, the outputs and the branch are the same for all values of input k, the others being equal
 abbrev pub FreeInputLaw : Type 0
 FreeInputLaw =
-    (s : Spec) (x : List ℤ) (m k : ℕ) (u v : List ℤ) → typed s ≡ true → k < length s.ins → needs s.kind k ≡ false → SameBut s k u v
+    (s : Spec) (x : List ℤ) (m k : ℕ) (u v : List ℤ) → typed s ≡ true → k < length s.ins → truth_at s.feed k ≡ false → SameBut s k u v
     → (out s x m u ≡ out s x m v) × (branch s u ≡ branch s v)
+
+-- the outputs and the branch are the same where the inputs with feedthrough are
+abbrev pub FedInputsLaw : Type 0
+FedInputsLaw =
+    (s : Spec) (x : List ℤ) (m : ℕ) (u v : List ℤ) → typed s ≡ true → length u ≡ total s.ins → length v ≡ total s.ins → SameFed s u v
+    → (out s x m u ≡ out s x m v) × (branch s u ≡ branch s v)
+
+-- the same of lists of values, one for each input
+abbrev pub LaidInputsLaw : Type 0
+LaidInputsLaw =
+    (s : Spec) (x : List ℤ) (m : ℕ) (xs ys : ℕ → List ℤ) → typed s ≡ true
+    → ((k : ℕ) → k < length s.ins → truth_at s.feed k ≡ true → xs (k + 1) ≡ ys (k + 1))
+    → (out s x m (laid s.ins xs) ≡ out s x m (laid s.ins ys)) × (branch s (laid s.ins xs) ≡ branch s (laid s.ins ys))
 
 -- values in range give values in range
 abbrev pub RangeLaw : Type 0

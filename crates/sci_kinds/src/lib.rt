@@ -2,9 +2,9 @@
 //! that the table keeps. With it come the kinds' forms and specs, and the check of a block.
 #![tactic(auto)]
 
-ghost use Rattle.sci_kinds.specs.Laws.{NoFeedthroughLaw, FreeInputLaw, RangeLaw, FirstHeldLaw, DelayLaw, BranchLaw};
+ghost use Rattle.sci_kinds.specs.Laws.{FreeInputLaw, FedInputsLaw, LaidInputsLaw, RangeLaw, FirstHeldLaw, DelayLaw, BranchLaw};
 
-pub use sci_check::{SpecStop, check_spec};
+pub use sci_check::check_spec;
 pub use sci_forms::{Broken, Counts, Detail, Kind, Port, Ports, Spec};
 
 /// What one element of an output is.
@@ -18,14 +18,19 @@ pub enum Cell {
     Zero,
 }
 
-/// Where a typed spec has no feedthrough, its outputs are the same for all inputs, the value of a sensor's column aside.
-pub fn no_feedthrough_law()
-    ensures { NoFeedthroughLaw }
-{}
-
-/// Where the kind doesn't need an input, the outputs and the branch are the same for all values of this input.
+/// Where an input of a typed spec has no feedthrough, the outputs and the branch are the same for all values of this input.
 pub fn free_input_law()
     ensures { FreeInputLaw }
+{}
+
+/// The outputs and the branch of a typed spec are the same where the inputs with feedthrough are.
+pub fn fed_inputs_law()
+    ensures { FedInputsLaw }
+{}
+
+/// The same where the values of each input are a list of their own, of whatever length.
+pub fn laid_inputs_law()
+    ensures { LaidInputsLaw }
 {}
 
 /// With inputs, state and mask in range the values of the outputs and of the next state are in range.

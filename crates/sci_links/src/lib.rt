@@ -7,7 +7,7 @@ ghost use Rattle.sci_links.specs.Linked.{node_at};
 ghost use Rattle.sci_links.specs.Table.{Table, first, behind, has, put_before, list_of, chain, chain_of, changed, pushed, inserted, removed, popped, empty, IsTable};
 
 use sci_base::NoMemory;
-use std::alloc::{AllocError, Global};
+use std::alloc::Global;
 use std::marker::Model;
 
 /// A table of lists, each a ring. Node `x` has the index `x`. List `l` has the index `nodes + l`, which stands between its last node and its first.
@@ -44,7 +44,7 @@ impl Links {
         }
     }
 
-    fn made(alloc: Global, lists: u32, nodes: u32) -> Result<Links, AllocError>
+    fn made(alloc: Global, lists: u32, nodes: u32) -> Result<Links, NoMemory>
         ensures empty { IfOk result (λ t. t ≡ empty lists nodes) }
         ensures table { IfOk result (λ t. IsTable t) }
     {

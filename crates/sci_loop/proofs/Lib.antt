@@ -4,3 +4,9 @@ pub mod Naming
 pub mod Settling
 pub mod Steps
 pub mod Needing
+pub mod Grounded
+pub mod Decided
+pub mod Depth
+pub mod Rounds
+pub mod Adding
+pub mod Walking

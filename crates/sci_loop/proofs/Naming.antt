@@ -2,9 +2,9 @@
 use Rattle.std.proofs.Common.{ℕ, ◌≡◌, ◌+◌, ◌-◌, ◌<◌, ◌≤◌, List, ◌++◌, length, get_or, map, take, drop, reverse, All, Contains, take-append-drop, subst, subst₂, sym, ap, ◌∙◌, arith, slice_index}
 use Rattle.std.proofs.lemmas.List.{get_or_default, get_or-map, length-map, length-drop, get_or-drop, get_or_append_left}
 use Rattle.std.proofs.lemmas.List.Sorted.{IsPermutation-append_comm, Contains-permutation}
-use Rattle.sci_relation.specs.Loops.{IsLoop, IsFromLeast}
-use Rattle.sci_relation.specs.Rounds.{IsRound}
-use Rattle.sci_relation.proofs.Rounds.{round_loop, loop_turned}
+use Rattle.sci_loop.specs.Loops.{IsLoop, IsFromLeast}
+use Rattle.sci_loop.specs.Rounds.{IsRound}
+use Rattle.sci_loop.proofs.Rounds.{round_loop, loop_turned}
 use Rattle.sci_loop.specs.declared.table.DepTable.{DepTable}
 use Rattle.sci_loop.specs.Table.{Needs, NeedsAt, IsTable}
 use Rattle.sci_loop.proofs.Places.{same_place}

@@ -8,9 +8,9 @@ use Rattle.std.proofs.lemmas.Map.Keys.{below_from_sorted, sorted_from_strictly_i
 use Rattle.std.proofs.lemmas.List.Sorted.{searched}
 use Rattle.std.specs.List.Sorted.{IsStrictlyIncreasing, IsBinarySearchResult}
 use Rattle.std.specs.declared.alloc.Global.{Global}
-use Rattle.sci_relation.specs.Grounded.{Grounded, grounded}
-use Rattle.sci_relation.specs.Loops.{HasNoLoop}
-use Rattle.sci_relation.proofs.Grounded.{grounded_no_loop}
+use Rattle.sci_loop.specs.Grounded.{Grounded, grounded}
+use Rattle.sci_loop.specs.Loops.{HasNoLoop}
+use Rattle.sci_loop.proofs.Grounded.{grounded_no_loop}
 use Rattle.sci_loop.specs.declared.table.DepTable.{DepTable}
 use Rattle.sci_loop.specs.Table.{Needs, NeedsAt, IsTable, IsRow, ArePlaces}
 use Rattle.sci_loop.specs.Progress.{IsSettled, SeenBelow, SeenTo, IsOpenNeed, IsMet, AllGrounded}
@@ -77,6 +77,14 @@ needs_at t i c row ms ns ok h holds is same_ms same_ns b =
           let same : n.1 ≡ row = same_Some _ _ (sym n.3 ∙ (ap (slice_get t.needs.items) one ∙ here)) in
           subst (λ xs. Contains xs b) (sym same_ns) (subst (λ (v : Vec ℕ Global). Contains v.items b) same n.4),
     )
+
+-- they rise
+pub rises_at : (t : DepTable) (i : ℕ) (row : Vec ℕ Global) (ms ns : List ℕ) → IsTable t → i < length ms → row ≡ get_or t.needs.items i row → ms ≡ t.members.items →
+    ns ≡ row.items → IsStrictlyIncreasing ns
+rises_at t i row ms ns ok h is same_ms same_ns =
+    let inside : i < length t.needs.items = subst (λ m. i < m) (ap length same_ms ∙ sym ok.rows) h in
+    let fits : IsRow t.members.items row = subst (IsRow t.members.items) (sym is) (ok.each i row inside) in
+    subst IsStrictlyIncreasing (sym same_ns) fits.rising
 
 pub closed_at : (t : DepTable) (i : ℕ) (row : Vec ℕ Global) (ms ns : List ℕ) → IsTable t → i < length t.members.items → row ≡ get_or t.needs.items i row →
     ms ≡ t.members.items → ns ≡ row.items → All (Contains ms) ns

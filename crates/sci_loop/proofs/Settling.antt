@@ -4,7 +4,7 @@ use Rattle.std.proofs.Math.ListN.{replicate}
 use Rattle.std.proofs.lemmas.Bool.{cases_eq, cases_lt}
 use Rattle.std.proofs.lemmas.List.{get_or_default, get_or-set_same, get_or-set_other, get_or_push, get_or_append_left, get_or-map, get_or-take, length-append, length-map, length-take-le, get_or-replicate}
 use Rattle.std.proofs.lemmas.Option.{same_Some, slice_get-get_or}
-use Rattle.sci_relation.proofs.Rounds.{distinct_by_places}
+use Rattle.sci_loop.proofs.Rounds.{distinct_by_places}
 use Rattle.std.specs.declared.alloc.Global.{Global}
 use Rattle.sci_loop.specs.declared.table.DepTable.{DepTable}
 use Rattle.sci_loop.specs.Table.{Needs, IsTable}

@@ -1,8 +1,8 @@
 -- What a step of the search keeps, from one state of it to the next.
 use Rattle.std.proofs.Common.{ℕ, ◌≡◌, ◌+◌, ◌-◌, ◌<◌, ◌≤◌, Bool, true, false, List, [], ◌∷◌, ◌++◌, length, get_or, slice_index, set, map, take, drop, All, Option, None, IfNone, subst, subst₂, sym, ap, ◌∙◌, arith}
 use Rattle.std.proofs.lemmas.List.{get_or_default, get_or-take, get_or-drop, length-take, length-drop}
-use Rattle.sci_relation.specs.Rounds.{IsRound}
-use Rattle.sci_relation.specs.Loops.{HasNoLoop}
+use Rattle.sci_loop.specs.Rounds.{IsRound}
+use Rattle.sci_loop.specs.Loops.{HasNoLoop}
 use Rattle.sci_loop.specs.declared.table.DepTable.{DepTable}
 use Rattle.sci_loop.specs.declared.search.Search.{Search}
 use Rattle.sci_loop.specs.Table.{Needs, NeedsAt, IsTable}

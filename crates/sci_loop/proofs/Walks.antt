@@ -6,9 +6,9 @@ use Rattle.std.proofs.lemmas.Bool.{cases_eq, cases_lt}
 use Rattle.std.proofs.lemmas.List.{get_or-set_same, get_or-set_other, get_or-take, get_or-drop, get_or_push, get_or_append_left, length-set, length-take-le, length-drop, length-append, length-replicate, get_or-replicate}
 use Rattle.std.proofs.lemmas.List.Sums.{sum_by-set}
 use Rattle.std.proofs.lemmas.Map.Steps.{length-le_from_distinct_below}
-use Rattle.sci_relation.specs.Rounds.{IsRound}
-use Rattle.sci_relation.proofs.Rounds.{distinct_by_places}
-use Rattle.sci_relation.proofs.Grounded.{inside_at}
+use Rattle.sci_loop.specs.Rounds.{IsRound}
+use Rattle.sci_loop.proofs.Rounds.{distinct_by_places}
+use Rattle.sci_loop.proofs.Grounded.{inside_at}
 use Rattle.sci_loop.specs.declared.table.DepTable.{DepTable}
 use Rattle.sci_loop.specs.Table.{NeedsAt, IsTable}
 use Rattle.sci_loop.specs.Progress.{SeenTo, IsMet, IsWalk, left_of}

@@ -1,3 +1,11 @@
 pub mod Table
 pub mod Progress
 pub mod Sorted
+pub mod Loops
+pub mod Depth
+pub mod Grounded
+pub mod Laws
+pub mod Rounds
+pub mod Lists
+pub mod Reached
+pub mod Walk

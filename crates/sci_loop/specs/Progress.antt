@@ -1,7 +1,7 @@
 -- What a search for a loop has come to.
 use Rattle.std.specs.Prelude.{◌≡◌, ℕ, ◌+◌, ◌-◌, ◌*◌, ◌<◌, Bool, true, false, List, length, Contains, Some, slice_get, slice_index, slice_index_or, Vec, count_by, not}
 use Rattle.std.specs.declared.alloc.Global.{Global}
-use Rattle.sci_relation.specs.Grounded.{Grounded}
+use Rattle.sci_loop.specs.Grounded.{Grounded}
 use Rattle.sci_loop.specs.declared.table.DepTable.{DepTable}
 use Rattle.sci_loop.specs.declared.search.Search.{Search}
 use Rattle.sci_loop.specs.Table.{Needs, NeedsAt}

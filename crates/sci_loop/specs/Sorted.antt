@@ -1,7 +1,7 @@
 -- What sorting a table comes to: a loop, or an order in which values can be computed.
 use Rattle.std.specs.Prelude.{ℕ, ◌<◌, ◌↔◌, List, length, take, eqb, Contains, slice_index}
 use Rattle.std.specs.List.{IsDistinct}
-use Rattle.sci_relation.specs.Loops.{IsLoop, HasNoLoop, IsFromLeast}
+use Rattle.sci_loop.specs.Loops.{IsLoop, HasNoLoop, IsFromLeast}
 use Rattle.sci_loop.specs.declared.table.DepTable.{DepTable}
 use Rattle.sci_loop.specs.declared.listing.Sorted.{Sorted}
 use Rattle.sci_loop.specs.declared.listing.Sorted.TheVariants.{Loop, Order}

@@ -5,11 +5,13 @@
 ghost use Rattle.std.specs.Prelude.{◌≡◌, IfSome, IfNone, IfOk};
 ghost use Rattle.sci_loop.specs.Table.{Needs, IsTable};
 ghost use Rattle.sci_loop.specs.Sorted.{IsSorted};
-ghost use Rattle.sci_relation.specs.Loops.{IsLoop, HasNoLoop, IsFromLeast};
+ghost use Rattle.sci_loop.specs.Loops.{IsLoop, HasNoLoop, IsFromLeast};
 
 mod listing;
+pub mod relation;
 mod search;
 mod table;
+pub mod walk;
 
 pub use listing::Sorted;
 use sci_base::NoMemory;
@@ -37,20 +39,18 @@ pub fn sort(alloc: Global, table: &DepTable) -> Result<Sorted, NoMemory>
     requires { IsTable table.now }
     ensures { IfOk result (λ o. IsSorted table.now o) }
 {
-    match listing::order_or_loop(alloc, table) {
-        Ok(sorted) => Ok(sorted),
-        Err(_) => Err(NoMemory),
-    }
+    listing::order_or_loop(alloc, table)
 }
 
 #[cfg(test)]
 mod tests {
     use super::{DepTable, Sorted, find, sort};
-    use std::alloc::{AllocError, Global};
+    use sci_base::NoMemory;
+    use std::alloc::Global;
     use std::test::Fail;
 
     // 2 has no needs, 5 needs 2 and 9, 7 needs 5, and 9 needs 7.
-    fn table(alloc: Global) -> Result<DepTable, AllocError> {
+    fn table(alloc: Global) -> Result<DepTable, NoMemory> {
         let members = vec![in alloc; 2, 5, 7, 9]?;
         let needs = vec![in alloc;
             Vec::new(alloc),

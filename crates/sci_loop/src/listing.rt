@@ -1,20 +1,21 @@
 // The listing of a loop.
 ghost use Rattle.std.specs.Prelude.{◌≡◌, ℕ, ◌<◌, ◌≤◌, length, All, IfOk, slice_index, map};
 ghost use Rattle.sci_loop.specs.Table.{Needs, NeedsAt, IsTable};
-ghost use Rattle.sci_relation.specs.Rounds.{IsRound};
-ghost use Rattle.sci_relation.specs.Loops.{IsLoop, IsFromLeast};
+ghost use Rattle.sci_loop.specs.Rounds.{IsRound};
+ghost use Rattle.sci_loop.specs.Loops.{IsLoop, IsFromLeast};
 ghost use Rattle.sci_loop.specs.Sorted.{IsSorted};
 
 use crate::search::Search;
 use crate::table::{DepTable, places_by_number};
-use std::alloc::{AllocError, Global};
+use sci_base::NoMemory;
+use std::alloc::Global;
 
 // The members at some places.
-fn names(alloc: Global, members: &[u32], places: &[usize]) -> Result<Vec<u32>, AllocError>
+fn names(alloc: Global, members: &[u32], places: &[usize]) -> Result<Vec<u32>, NoMemory>
     requires { All (λ i. i < length members.now) places.now }
     ensures { IfOk result (λ v. v.items ≡ map (λ i. slice_index members.now i) places.now) }
 {
-    places.iter().map(|i| members[*i]).collect(alloc)
+    Ok(places.iter().map(|i| members[*i]).collect(alloc)?)
 }
 
 // Where the least number stands.
@@ -33,7 +34,7 @@ fn least_at(numbers: &[u32]) -> usize
 }
 
 // The loop that a round of places is, from its least member.
-fn listed(alloc: Global, table: &DepTable, places: &[usize]) -> Result<Vec<u32>, AllocError>
+fn listed(alloc: Global, table: &DepTable, places: &[usize]) -> Result<Vec<u32>, NoMemory>
     requires table { IsTable table.now }
     requires within { All (λ i. i < length table.now.members.items) places.now }
     requires round { IsRound (NeedsAt table.now) places.now }
@@ -57,7 +58,7 @@ pub enum Sorted {
 }
 
 /// The members in an order, or a loop.
-pub fn order_or_loop(alloc: Global, table: &DepTable) -> Result<Sorted, AllocError>
+pub fn order_or_loop(alloc: Global, table: &DepTable) -> Result<Sorted, NoMemory>
     requires { IsTable table.now }
     ensures { IfOk result (λ o. IsSorted table.now o) }
 {

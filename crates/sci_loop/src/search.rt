@@ -4,10 +4,11 @@ ghost use Rattle.std.specs.Prelude.{◌≡◌, ℕ, ◌+◌, ◌-◌, ◌<◌, �
 ghost use Rattle.std.proofs.Math.ListN.{replicate};
 ghost use Rattle.sci_loop.specs.Table.{IsTable, NeedsAt, ArePlaces};
 ghost use Rattle.sci_loop.specs.Progress.{SeenTo, IsMet, IsOpenNeed, IsSearch, left, SettledStay, IsSettling};
-ghost use Rattle.sci_relation.specs.Rounds.{IsRound};
+ghost use Rattle.sci_loop.specs.Rounds.{IsRound};
 
 use crate::table::DepTable;
-use std::alloc::{AllocError, Global};
+use sci_base::NoMemory;
+use std::alloc::Global;
 
 /// A need of a member that isn't settled: its index among the needs, and its place among the members.
 #[derive(Clone, Copy)]
@@ -60,7 +61,7 @@ fn open_need(
 
 impl Search {
     /// A search over so many members, with nothing settled and no trail.
-    pub fn new(alloc: Global, count: usize) -> Result<Search, AllocError>
+    pub fn new(alloc: Global, count: usize) -> Result<Search, NoMemory>
         ensures settled { IfOk result (λ s. s.settled.items ≡ replicate count false) }
         ensures looked { IfOk result (λ s. s.looked.items ≡ replicate count 0) }
         ensures depths { IfOk result (λ s. s.depths.items ≡ replicate count 0) }
@@ -82,7 +83,7 @@ impl Search {
     }
 
     // The trail's last member is settled, and leaves it.
-    fn settle(&mut self, at: usize) -> Result<(), AllocError>
+    fn settle(&mut self, at: usize) -> Result<(), NoMemory>
         requires { at < length self.old.settled.items }
         ensures settled { OnOk result (self.new.settled.items ≡ slice_set self.old.settled.items at true) }
         ensures looked { OnOk result (self.new.looked.items ≡ self.old.looked.items) }
@@ -109,7 +110,7 @@ impl Search {
     }
 
     // The trail goes on to this member.
-    fn enter(&mut self, place: usize) -> Result<(), AllocError>
+    fn enter(&mut self, place: usize) -> Result<(), NoMemory>
         requires { place < length self.old.depths.items }
         ensures settled { self.new.settled.items ≡ self.old.settled.items }
         ensures looked { self.new.looked.items ≡ self.old.looked.items }
@@ -131,7 +132,7 @@ impl Search {
 
     // One step of the walk: the last member goes on to a need that isn't settled, or is settled itself. A need that is on the trail closes
     // a round: its depth is the answer.
-    fn step(&mut self, table: &DepTable, places: &[usize]) -> Result<Option<usize>, AllocError>
+    fn step(&mut self, table: &DepTable, places: &[usize]) -> Result<Option<usize>, NoMemory>
         requires table { IsTable table.now }
         requires places { ArePlaces table.now.members.items places.now }
         requires search { IsSearch table.now self.old }
@@ -169,7 +170,7 @@ impl Search {
         table: &DepTable,
         places: &[usize],
         start: usize,
-    ) -> Result<Option<usize>, AllocError>
+    ) -> Result<Option<usize>, NoMemory>
         requires table { IsTable table.now }
         requires places { ArePlaces table.now.members.items places.now }
         requires search { IsSearch table.now self.old }
@@ -194,7 +195,7 @@ impl Search {
     }
 
     /// Settles every member, or stops at a round: the trail from this depth on.
-    pub fn all(&mut self, table: &DepTable, places: &[usize]) -> Result<Option<usize>, AllocError>
+    pub fn all(&mut self, table: &DepTable, places: &[usize]) -> Result<Option<usize>, NoMemory>
         requires table { IsTable table.now }
         requires places { ArePlaces table.now.members.items places.now }
         requires search { IsSearch table.now self.old }

@@ -3,7 +3,8 @@ ghost use Rattle.std.specs.Prelude.{◌≡◌, ℕ, ◌<◌, ◌↔◌, length, 
 ghost use Rattle.std.specs.List.Sorted.{IsStrictlyIncreasing};
 ghost use Rattle.sci_loop.specs.Table.{Needs, HasNeeds, HasNumber, IsTable, IsRow, ArePlaces};
 
-use std::alloc::{AllocError, Global};
+use sci_base::NoMemory;
+use std::alloc::Global;
 
 /// Which blocks depend on which. A table is well formed where `members` rises strictly, `needs` has one list for each member,
 /// and each of these lists rises strictly and holds members alone.
@@ -37,11 +38,12 @@ impl DepTable {
         some_number(&self.needs)
     }
 
-    /// The members that a member depends on, by number. The table is well formed.
+    /// The members that a member depends on, by number, each once. The table is well formed.
     pub fn needs_of(&self, member: u32) -> &[u32]
         requires table { IsTable self.now }
         requires member { Contains self.now.members.items member }
-        ensures { (b : ℕ) → Contains result.now b ↔ Needs self.now member b }
+        ensures rising { IsStrictlyIncreasing result.now }
+        ensures exactly { (b : ℕ) → Contains result.now b ↔ Needs self.now member b }
     {
         self.needs[place_of(&self.members, member)].as_slice()
     }
@@ -138,7 +140,7 @@ fn size_of_places(members: &[u32]) -> usize
 }
 
 /// The place of each member, at the member's number. What stands at other numbers does not count.
-pub fn places_by_number(alloc: Global, members: &[u32]) -> Result<Vec<usize>, AllocError>
+pub fn places_by_number(alloc: Global, members: &[u32]) -> Result<Vec<usize>, NoMemory>
     requires { IsStrictlyIncreasing members.now }
     ensures { IfOk result (λ v. ArePlaces members.now v.items) }
 {

@@ -1,5 +1,3 @@
 pub mod Numbered
 pub mod ReadRows
 pub mod TypedSpecs
-pub mod Rising
-pub mod Drafted

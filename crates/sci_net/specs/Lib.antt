@@ -2,5 +2,3 @@ pub mod Parts
 pub mod Flat
 pub mod Net
 pub mod Sources
-pub mod Copies
-pub mod Drafts

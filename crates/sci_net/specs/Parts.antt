@@ -1,5 +1,5 @@
 -- The parts of a flat net: its blocks, numbered from 1, and which port feeds which.
-use Rattle.std.specs.Prelude.{◌≡◌, ℕ, zero, suc, ◌≤◌, Bool, true, false, ◌&&◌, ◌||◌, nat_lt, nat_eq, List, [], length, map, slice_index_or, unsigned_abs, AllPairs, Contains, Vec}
+use Rattle.std.specs.Prelude.{◌≡◌, ℕ, zero, suc, ◌<◌, ◌≤◌, Bool, true, false, ◌&&◌, ◌||◌, nat_lt, nat_eq, List, [], length, map, slice_index_or, unsigned_abs, AllPairs, Contains, Vec}
 use Rattle.std.specs.declared.alloc.Global.{Global}
 use Rattle.sci_base.specs.Lists.{at}
 use Rattle.sci_base.specs.declared.refusal.Place.{Place}
@@ -27,11 +27,16 @@ rows_of rows = map (λ v. v.items) rows
 abbrev pub paths_of : List Place → List (List ℕ)
 paths_of places = map (λ p. p.path.items) places
 
-abbrev pub feed_rows_of : List (Vec (Vec Feed Global) Global) → List (List (List Feed))
-feed_rows_of feeds = map (λ v. rows_of v.items) feeds
+-- by block and activation input, the list of this number, counted from 0
+abbrev pub feed_lists : List (List Feed) → List (List ℕ) → List (List (List Feed))
+feed_lists lists numbers = map (λ ks. map (λ k. slice_index_or lists k []) ks) numbers
 
-abbrev pub parts_of : List Spec → List Place → List (Vec Wire Global) → List (Vec (Vec Feed Global) Global) → Parts
-parts_of specs places wires feeds = record { specs = specs; paths = paths_of places; wires = rows_of wires; feeds = feed_rows_of feeds }
+-- each of these numbers is less than the count of the lists
+abbrev pub HaveLists : ℕ → List (List ℕ) → Type 0
+HaveLists count rows = (b p : ℕ) → b < length rows → p < length (slice_index_or rows b []) → slice_index_or (slice_index_or rows b []) p 0 < count
+
+abbrev pub parts_of : List Spec → List Place → List (Vec Wire Global) → List (List (List Feed)) → Parts
+parts_of specs places wires feeds = record { specs = specs; paths = paths_of places; wires = rows_of wires; feeds = feeds }
 
 -- the same net with other specs
 abbrev pub with_specs : Parts → List Spec → Parts
@@ -44,7 +49,7 @@ numbered d xs zero = d
 numbered d xs (suc n) = slice_index_or xs n d
 
 abbrev pub no_spec : Spec
-no_spec = record { kind = Halt; params = []; state = []; firing = []; ins = []; outs = []; evtin = 0; evtout = 0; feed = false }
+no_spec = record { kind = Halt; params = []; state = []; firing = []; ins = []; outs = []; evtin = 0; evtout = 0; feed = [] }
 
 abbrev pub no_wire : Wire
 no_wire = record { block = 0; port = 0 }

@@ -2,13 +2,15 @@
 //! `Flat` has the types and sizes that the diagram declares, a `Net` those that were inferred.
 #![tactic(auto)]
 
-mod copies;
-mod draft;
+mod feeds;
 mod flat;
 mod net;
+mod wiring;
 
+pub use feeds::Feeds;
 pub use flat::Flat;
 pub use net::{Column, Net, columns};
+pub use wiring::Wiring;
 
 /// The regular output that feeds a regular input; block and port are counted from 1.
 #[derive(Clone, Copy, Debug, Drop, PartialEq, Eq)]

@@ -2,14 +2,14 @@
 ghost use Rattle.std.specs.Prelude.{◌≡◌, ◌<◌, ◌≤◌, ◌^◌, ◌++◌, ◌∷◌, length, IfOk, OnOk, All, true};
 ghost use Rattle.sci_forms.specs.Typed.{typed};
 ghost use Rattle.sci_net.specs.declared.Source.TheVariants.{Start};
-ghost use Rattle.sci_net.specs.Parts.{parts_of, spec_of, path_of, wire_of, feeds_of, is_sensor, column_of};
+ghost use Rattle.sci_net.specs.Parts.{with_specs, spec_of, path_of, wire_of, feeds_of, is_sensor, column_of};
 ghost use Rattle.sci_net.specs.Net.{IsNet};
 ghost use Rattle.sci_net.specs.Sources.{ports_to, block_sources, sources_from, sources_of, source_of, sensor_columns, columns_from, columns_of};
 
-use crate::{Feed, Source, Wire};
+use crate::{Feed, Source, Wire, Wiring};
 use sci_base::{NoMemory, Place, Ty};
 use sci_forms::{Kind, Spec};
-use std::alloc::{AllocError, Global};
+use std::alloc::Global;
 use std::marker::Model;
 
 /// A column of the input file, from 1 to 255, the type of its values, and the SENSOR that reads it.
@@ -24,45 +24,33 @@ pub struct Column {
 #[derive(Drop)]
 pub struct Net {
     specs: Vec<Spec>,
-    paths: Vec<Place>,
-    wires: Vec<Vec<Wire>>,
-    feeds: Vec<Vec<Vec<Feed>>>,
+    wiring: Wiring,
     sources: Vec<Source>,
 }
 
 impl Model for Net {
-    ghost use Rattle.sci_net.specs.Parts.{Parts, parts_of};
+    ghost use Rattle.sci_net.specs.Parts.{Parts, with_specs};
     ghost use Rattle.sci_net.specs.Sources.{IsKept};
 
     ghost Value = { Parts };
 
-    ghost view = { λ n. parts_of n.specs.items n.paths.items n.wires.items n.feeds.items };
+    ghost view = { λ n. with_specs n.wiring n.specs.items };
 
-    ghost invariant = { λ n. IsKept (parts_of n.specs.items n.paths.items n.wires.items n.feeds.items) n.sources.items };
+    ghost invariant = { λ n. IsKept (with_specs n.wiring n.specs.items) n.sources.items };
 }
 
 impl Net {
-    /// The net of exactly these parts.
-    pub fn assemble(
-        alloc: Global,
-        specs: Vec<Spec>,
-        wires: Vec<Vec<Wire>>,
-        feeds: Vec<Vec<Vec<Feed>>>,
-        paths: Vec<Place>,
-    ) -> Result<Net, NoMemory>
-        requires { IsNet (parts_of specs.items paths.items wires.items feeds.items) }
-        ensures { IfOk result (λ n. n ≡ parts_of specs.items paths.items wires.items feeds.items) }
+    /// The net of exactly these specs and this wiring.
+    pub fn assemble(alloc: Global, specs: Vec<Spec>, wiring: Wiring) -> Result<Net, NoMemory>
+        requires { IsNet (with_specs wiring specs.items) }
+        ensures { IfOk result (λ n. n ≡ with_specs wiring specs.items) }
     {
-        match sources(alloc, specs.as_slice()) {
-            Ok(sources) => Ok(Net {
-                specs,
-                paths,
-                wires,
-                feeds,
-                sources,
-            }),
-            Err(_) => Err(NoMemory),
-        }
+        let sources = sources(alloc, &specs)?;
+        Ok(Net {
+            specs,
+            wiring,
+            sources,
+        })
     }
 
     /// What holds of every net.
@@ -95,7 +83,7 @@ impl Net {
         requires most { block ≤ length self.now.specs }
         ensures { result.now.path.items ≡ path_of self.now block }
     {
-        &self.paths[block as usize - 1]
+        self.wiring.path(block)
     }
 
     /// The regular output that feeds a regular input.
@@ -106,7 +94,7 @@ impl Net {
         requires port_most { port ≤ length (spec_of self.now block).ins }
         ensures { result ≡ wire_of self.now block port }
     {
-        self.wires[block as usize - 1][port as usize - 1]
+        self.wiring.wire(block, port)
     }
 
     /// The activation outputs that feed an activation input, by block and port, without repeats.
@@ -117,7 +105,7 @@ impl Net {
         requires port_most { port ≤ (spec_of self.now block).evtin }
         ensures { result.now ≡ feeds_of self.now block port }
     {
-        self.feeds[block as usize - 1][port as usize - 1].as_slice()
+        self.wiring.feeds(block, port)
     }
 
     /// How many sources of activation there are: start, and each activation output of a block that isn't synchronous.
@@ -137,7 +125,7 @@ impl Net {
 }
 
 /// The activation outputs of a block.
-fn push_ports(sources: &mut Vec<Source>, block: u32, count: u32) -> Result<(), AllocError>
+fn push_ports(sources: &mut Vec<Source>, block: u32, count: u32) -> Result<(), NoMemory>
     requires { count < 65536 }
     ensures { OnOk result (sources.new.items ≡ sources.old.items ++ ports_to block count) }
 {
@@ -151,7 +139,7 @@ fn push_ports(sources: &mut Vec<Source>, block: u32, count: u32) -> Result<(), A
 }
 
 /// The sources of a block.
-fn push_sources(sources: &mut Vec<Source>, block: u32, spec: &Spec) -> Result<(), AllocError>
+fn push_sources(sources: &mut Vec<Source>, block: u32, spec: &Spec) -> Result<(), NoMemory>
     requires { spec.now.evtout < 65536 }
     ensures { OnOk result (sources.new.items ≡ sources.old.items ++ block_sources block spec.now) }
 {
@@ -163,7 +151,7 @@ fn push_sources(sources: &mut Vec<Source>, block: u32, spec: &Spec) -> Result<()
 }
 
 /// Start, and the sources of all blocks.
-fn sources(alloc: Global, specs: &[Spec]) -> Result<Vec<Source>, AllocError>
+fn sources(alloc: Global, specs: &[Spec]) -> Result<Vec<Source>, NoMemory>
     requires few { length specs.now ≤ 2048 }
     requires typed_specs { All (λ s. typed s ≡ true) specs.now }
     ensures { IfOk result (λ v. v.items ≡ Start ∷ sources_from 1 specs.now) }
@@ -177,7 +165,7 @@ fn sources(alloc: Global, specs: &[Spec]) -> Result<Vec<Source>, AllocError>
 }
 
 /// The column of a block, if it is a sensor.
-fn push_column(columns: &mut Vec<Column>, block: u32, spec: &Spec) -> Result<(), AllocError>
+fn push_column(columns: &mut Vec<Column>, block: u32, spec: &Spec) -> Result<(), NoMemory>
     requires { typed spec.now ≡ true }
     ensures { OnOk result (columns.new.items ≡ columns.old.items ++ sensor_columns block spec.now) }
 {
@@ -192,7 +180,7 @@ fn push_column(columns: &mut Vec<Column>, block: u32, spec: &Spec) -> Result<(),
 }
 
 /// The columns of all blocks.
-fn spec_columns(alloc: Global, specs: &[Spec]) -> Result<Vec<Column>, AllocError>
+fn spec_columns(alloc: Global, specs: &[Spec]) -> Result<Vec<Column>, NoMemory>
     requires few { length specs.now ≤ 2048 }
     requires typed_specs { All (λ s. typed s ≡ true) specs.now }
     ensures { IfOk result (λ v. v.items ≡ columns_from 1 specs.now) }
@@ -208,8 +196,5 @@ fn spec_columns(alloc: Global, specs: &[Spec]) -> Result<Vec<Column>, AllocError
 pub fn columns(alloc: Global, net: &Net) -> Result<Vec<Column>, NoMemory>
     ensures { IfOk result (λ v. v.items ≡ columns_of net.now) }
 {
-    match spec_columns(alloc, net.specs.as_slice()) {
-        Ok(columns) => Ok(columns),
-        Err(_) => Err(NoMemory),
-    }
+    spec_columns(alloc, &net.specs)
 }

@@ -3,7 +3,7 @@ use Rattle.std.proofs.Common.{◌≡◌, ℕ, ◌+◌, ◌<◌, true, inl, inr, 
 use Rattle.std.proofs.lemmas.Nat.Bits.{same_from_bits, bit_at-lt}
 use Rattle.std.specs.Int.{bit_at}
 use Rattle.sci_base.specs.declared.observation.StopWord.{StopWord}
-use Rattle.sci_relation.specs.Grounded.{Grounded, grounded}
+use Rattle.sci_loop.specs.Grounded.{Grounded, grounded}
 use Rattle.sci_net.specs.declared.Source.{Source}
 use Rattle.sci_net.specs.Parts.{Parts, IsBlock, IsInput, IsWired, spec_of, wire_of}
 use Rattle.sci_reaction.specs.Links.{SuppliesThrough, has_feedthrough}

@@ -1,7 +1,7 @@
 -- Relations that hold together have the same loops and depths.
 use Rattle.std.proofs.Common.{ℕ, zero, suc, List, [], ◌∷◌}
-use Rattle.sci_relation.specs.Loops.{Chained, IsLoop, HasNoLoop}
-use Rattle.sci_relation.specs.Depth.{ChainTo, IsDepth}
+use Rattle.sci_loop.specs.Loops.{Chained, IsLoop, HasNoLoop}
+use Rattle.sci_loop.specs.Depth.{ChainTo, IsDepth}
 
 module _ (p q : ℕ → ℕ → Type 0) (to : (c b : ℕ) → p c b → q c b) where
   chained_alike : (before : ℕ) (xs : List ℕ) (first : ℕ) → Chained p before xs first → Chained q before xs first

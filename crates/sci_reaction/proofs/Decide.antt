@@ -5,8 +5,8 @@ use Rattle.std.specs.List.{IsDistinct, AllByRecursion, list_any}
 use Rattle.std.proofs.lemmas.Map.Keys.{IsDistinct-cons}
 use Rattle.std.proofs.lemmas.Map.Steps.{length-le_from_distinct_below}
 use Rattle.sci_forms.specs.Forms.{is_sync}
-use Rattle.sci_relation.proofs.Decided.{Decided, decide_true}
-use Rattle.sci_relation.proofs.Grounded.{fresh, inside_at, IsDistinct-nil}
+use Rattle.sci_loop.proofs.Decided.{Decided, decide_true}
+use Rattle.sci_loop.proofs.Grounded.{fresh, inside_at, IsDistinct-nil}
 use Rattle.sci_net.specs.declared.Feed.{Feed}
 use Rattle.sci_net.specs.declared.Source.{Source}
 use Rattle.sci_net.specs.declared.Source.TheVariants.{Start, Port}

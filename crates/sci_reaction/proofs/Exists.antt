@@ -9,7 +9,7 @@ use Rattle.std.proofs.lemmas.List.Quantifiers.{all_pairs_push}
 use Rattle.std.specs.List.{AllPairs}
 use Rattle.std.specs.Int.{bit_at}
 use Rattle.sci_forms.specs.Forms.{is_sync}
-use Rattle.sci_relation.proofs.Decided.{Decided, decide_true}
+use Rattle.sci_loop.proofs.Decided.{Decided, decide_true}
 use Rattle.sci_net.specs.declared.Feed.{Feed}
 use Rattle.sci_net.specs.declared.Source.{Source}
 use Rattle.sci_net.specs.declared.Source.TheVariants.{Start, Port}

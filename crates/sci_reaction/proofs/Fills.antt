@@ -14,7 +14,7 @@ use Rattle.sci_kinds.specs.Table.{Answer, Values, NoFit, NoQuotient, out}
 use Rattle.sci_kinds.specs.Asks.{Asks, IsState, IsMask, entering_of}
 use Rattle.sci_kinds.proofs.LawProofs.{asks, range_law}
 use Rattle.sci_kinds.proofs.Elements.{total_one, type_at_alike}
-use Rattle.sci_relation.specs.Grounded.{Grounded, grounded}
+use Rattle.sci_loop.specs.Grounded.{Grounded, grounded}
 use Rattle.sci_net.specs.declared.Source.{Source}
 use Rattle.sci_net.specs.Parts.{Parts, IsBlock, IsInput, spec_of, wire_of, numbered, is_sensor, column_of}
 use Rattle.sci_net.specs.Net.{IsNet}
@@ -29,7 +29,7 @@ use Rattle.sci_reaction.proofs.Fair.{fair}
 use Rattle.sci_reaction.proofs.Decide.{decide_possible}
 use Rattle.sci_reaction.proofs.OneResult.{ground}
 use Rattle.sci_reaction.proofs.Masks.{mask_in_range}
-use Rattle.sci_reaction.proofs.Ranges.{IsOf, output_in_range, joined_in_range}
+use Rattle.sci_reaction.proofs.Ranges.{IsOf, output_in_range, laid_in_range}
 
 -- ---- inputs
 
@@ -43,7 +43,7 @@ input_in_range n net y b k within fills =
 
 pub inputs_in_range : (n : Parts) → IsNet n → (y : Signals) (b : ℕ) → IsBlock n b → AreInRange n y → Fills (spec_of n b).ins (all_inputs (spec_of n b) (input_in n y b))
 inputs_in_range n net y b inside all =
-    joined_in_range (spec_of n b).ins (input_in n y b)
+    laid_in_range (spec_of n b).ins (input_in n y b)
     (λ k l. let within : IsInput n b (suc k) = record { block = inside; least = omega arith; most = omega (arith, l) } in
     input_in_range n net y b k within (all (wire_of n b (suc k)).block (net.wired.wires_lead b (suc k) within).block))
 
@@ -135,7 +135,7 @@ module _ (n : Parts) (m : Memory) (i : Columns) (s : Source) (net : IsNet n) (fr
       Fills (spec_of n b).outs (y b)
   active_in_range b inside on each =
       answer_in_range n m i net memory columns b on.mask (taken_inputs b) (y b) inside (mask_in_range n s y b on.mask net on.active on.mask_is)
-      (joined_in_range (spec_of n b).ins (taken_inputs b) each) (same_taken b on.mask inside ∙ on.answer_is)
+      (laid_in_range (spec_of n b).ins (taken_inputs b) each) (same_taken b on.mask inside ∙ on.answer_is)
 
   -- an input that is taken is in range where what is supplied is
   taken_in_range : (b k : ℕ) → IsInput n b (suc k) →

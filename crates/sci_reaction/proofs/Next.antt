@@ -14,7 +14,7 @@ use Rattle.sci_kinds.proofs.LawProofs.{range_law, first_held_law}
 use Rattle.sci_net.specs.declared.Source.{Source}
 use Rattle.sci_net.specs.Parts.{Parts, IsBlock, spec_of, is_sensor}
 use Rattle.sci_net.specs.Net.{IsNet}
-use Rattle.sci_relation.proofs.Decided.{Decided}
+use Rattle.sci_loop.proofs.Decided.{Decided}
 use Rattle.sci_reaction.specs.Memory.{Memory, IsMemory, first_memory}
 use Rattle.sci_reaction.specs.Equations.{Signals, AreInRange, input_in, all_inputs, IsActivated, IsMaskOf}
 use Rattle.sci_reaction.specs.Next.{IsNextMemory}

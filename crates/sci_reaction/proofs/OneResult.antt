@@ -2,9 +2,9 @@
 use Rattle.std.proofs.Common.{◌≡◌, ℕ, ◌<◌, ◌⊎◌, inl, inr, ⊎_elim, ℤ, List, Result, Ok, Err, sym, subst, arith}
 use Rattle.std.proofs.lemmas.Bool.{cases_order}
 use Rattle.sci_base.specs.declared.observation.StopWord.{StopWord}
-use Rattle.sci_relation.specs.Grounded.{Grounded}
-use Rattle.sci_relation.proofs.Grounded.{no_loop_grounded}
-use Rattle.sci_relation.proofs.Depth.{has_depth, one_depth, depth_falls}
+use Rattle.sci_loop.specs.Grounded.{Grounded}
+use Rattle.sci_loop.proofs.Grounded.{no_loop_grounded}
+use Rattle.sci_loop.proofs.Depth.{has_depth, one_depth, depth_falls}
 use Rattle.sci_net.specs.declared.Source.{Source}
 use Rattle.sci_net.specs.Parts.{Parts, IsBlock, IsWired}
 use Rattle.sci_reaction.specs.Active.{Possible}

@@ -6,7 +6,7 @@ use Rattle.std.specs.Int.{bit_at}
 use Rattle.std.specs.Int.Bits.{bit_or}
 use Rattle.std.specs.List.{list_any}
 use Rattle.sci_base.specs.declared.observation.StopWord.{StopWord}
-use Rattle.sci_relation.specs.Grounded.{Grounded, grounded}
+use Rattle.sci_loop.specs.Grounded.{Grounded, grounded}
 use Rattle.sci_net.specs.declared.Feed.{Feed}
 use Rattle.sci_net.specs.declared.Source.{Source}
 use Rattle.sci_net.specs.declared.Source.TheVariants.{Start, Port}

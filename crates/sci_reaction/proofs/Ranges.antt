@@ -3,26 +3,15 @@ use Rattle.std.proofs.Common.{◌≡◌, ℕ, zero, suc, ◌+◌, ◌-◌, ◌<�
 use Rattle.std.proofs.lemmas.Bool.{cases_lt}
 use Rattle.std.proofs.lemmas.List.{get_or-take, get_or-drop, get_or_append_left, get_or-append_right, length-take-le, length-drop, length-append}
 use Rattle.sci_base.specs.Fit.{InRange}
-use Rattle.sci_base.specs.Lists.{at}
+use Rattle.sci_base.specs.Lists.{at, listed}
 use Rattle.sci_forms.specs.declared.ports.Port.{Port}
 use Rattle.sci_forms.specs.Ports.{no_port, port_at, elements, type_of, total, type_at, before, Fills}
-use Rattle.sci_kinds.proofs.Elements.{nat_lt_yes, nat_lt_no}
+use Rattle.sci_kinds.specs.Asks.{laid}
+use Rattle.sci_kinds.proofs.Elements.{nat_lt_yes, nat_lt_no, listed_at}
 use Rattle.sci_net.specs.Parts.{numbered}
-use Rattle.sci_reaction.specs.Equations.{output_among, joined}
+use Rattle.sci_reaction.specs.Equations.{output_among}
 
 -- ---- where the elements of a port stand
-
-before_more : (ps : List Port) (k : ℕ) → k < length ps → before ps (suc k) ≡ before ps k + elements (port_at ps k)
-before_more [] k h = absurd (omega (arith, h))
-before_more (p ∷ []) zero h = let e : elements p + 0 ≡ 0 + elements p = omega arith in e
-before_more (p ∷ q ∷ ps) zero h = let e : elements p + 0 ≡ 0 + elements p = omega arith in e
-before_more (p ∷ ps) (suc k) h =
-    let rest = before_more ps k (omega (arith, h)) in
-    let e : elements p + before ps (suc k) ≡ elements p + before ps k + elements (port_at ps k) = omega (arith, rest) in e
-
-before_all : (ps : List Port) → before ps (length ps) ≡ total ps
-before_all [] = refl
-before_all (p ∷ ps) = ap (λ n. elements p + n) (before_all ps)
 
 before_within : (ps : List Port) (k : ℕ) → k < length ps → before ps k + elements (port_at ps k) ≤ total ps
 before_within [] k h = absurd (omega (arith, h))
@@ -68,35 +57,28 @@ output_in_range ps vs (suc k) least most fills = one_port ps vs k (omega (arith,
 
 -- ---- all inputs
 
-record Fronts (ps : List Port) (m : ℕ) (us : List ℤ) : Type 0 where
-  enough : length us ≡ before ps m
-  in_range : (e : ℕ) → e < before ps m → InRange (type_at ps e) (at us e)
+type_low : (p : Port) (ps : List Port) (e : ℕ) → e < elements p → type_at (p ∷ ps) e ≡ type_of p
+type_low p ps e l = rw (nat_lt_yes e (elements p) l) refl
 
-fronts : (ps : List Port) (f : ℕ → List ℤ) → ((k : ℕ) → k < length ps → IsOf (port_at ps k) (f (suc k))) → (m : ℕ) → m ≤ length ps → Fronts ps m (joined f m)
-fronts ps f each zero h = record { enough = refl; in_range = λ e l. absurd (omega (arith, l)) }
-fronts ps f each (suc m) h =
-    let old = fronts ps f each m (omega (arith, h)) in
-    let inside : m < length ps = omega (arith, h) in
-    let new = each m inside in
-    let more = before_more ps m inside in
-    let left : List ℤ = joined f m in
-    let right : List ℤ = f (suc m) in
+type_high : (p : Port) (ps : List Port) (e : ℕ) → elements p ≤ e → type_at (p ∷ ps) e ≡ type_at ps (e - elements p)
+type_high p ps e l = rw (nat_lt_no e (elements p) l) refl
+
+pub laid_in_range : (ps : List Port) (f : ℕ → List ℤ) → ((k : ℕ) → k < length ps → IsOf (port_at ps k) (f (suc k))) → Fills ps (laid ps f)
+laid_in_range [] f each = record { enough = refl; in_range = λ e l. absurd (omega (arith, l)) }
+laid_in_range (p ∷ ps) f each =
+    let here : IsOf p (f 1) = each 0 (omega arith) in
+    let rest = laid_in_range ps (λ k. f (suc k)) (λ k l. each (suc k) (omega (arith, l))) in
+    let g = listed_at (at (f 1)) (elements p) in
+    let left : List ℤ = listed (at (f 1)) (elements p) in
+    let right : List ℤ = laid ps (λ k. f (suc k)) in
     record {
-      enough = let l = length-append left right in omega (arith, l, old.enough, new.enough, more);
+      enough = let l = length-append left right in omega (arith, l, g.0, rest.enough);
       in_range = λ e l. ⊎_elim
-          (λ low. let within : e < length left = omega (arith, low, old.enough) in
-          subst (λ v. InRange (type_at ps e) v) (sym (get_or_append_left left right (pos 0) e within)) (old.in_range e low))
-          (λ high. let j : ℕ = e - before ps m in
-          let short : j < elements (port_at ps m) = omega (arith, l, more, high) in
-          let place : before ps m + j ≡ e = omega (arith, high) in
-          let read : at (left ++ right) e ≡ at right j = get_or-append_right left right (before ps m) e (pos 0) old.enough high in
-          subst (λ v. InRange (type_at ps e) v) (sym read)
-          (subst (λ t. InRange t (at right j)) (sym (type_in ps m j inside short) ∙ ap (type_at ps) place) (new.in_range j short)))
-          (cases_lt e (before ps m));
+          (λ low. let within : e < length left = omega (arith, low, g.0) in
+          let read : at (left ++ right) e ≡ at (f 1) e = get_or_append_left left right (pos 0) e within ∙ g.1 e low in
+          subst (λ v. InRange (type_at (p ∷ ps) e) v) (sym read) (subst (λ t. InRange t (at (f 1) e)) (sym (type_low p ps e low)) (here.in_range e low)))
+          (λ high. let j : ℕ = e - elements p in
+          let read : at (left ++ right) e ≡ at right j = get_or-append_right left right (elements p) e (pos 0) g.0 high in
+          subst (λ v. InRange (type_at (p ∷ ps) e) v) (sym read) (subst (λ t. InRange t (at right j)) (sym (type_high p ps e high)) (rest.in_range j (omega (arith, l, high)))))
+          (cases_lt e (elements p));
     }
-
-pub joined_in_range : (ps : List Port) (f : ℕ → List ℤ) → ((k : ℕ) → k < length ps → IsOf (port_at ps k) (f (suc k))) → Fills ps (joined f (length ps))
-joined_in_range ps f each =
-    let all = fronts ps f each (length ps) (omega arith) in
-    let t = before_all ps in
-    record { enough = all.enough ∙ t; in_range = λ e l. all.in_range e (omega (arith, t, l)) }

@@ -1,8 +1,8 @@
 -- A relation along which a rank falls has no loop.
 use Rattle.std.proofs.Common.{ℕ, zero, suc, ◌+◌, ◌<◌, arith}
-use Rattle.sci_relation.specs.Grounded.{Grounded, grounded}
-use Rattle.sci_relation.specs.Loops.{HasNoLoop}
-use Rattle.sci_relation.proofs.Grounded.{grounded_no_loop}
+use Rattle.sci_loop.specs.Grounded.{Grounded, grounded}
+use Rattle.sci_loop.specs.Loops.{HasNoLoop}
+use Rattle.sci_loop.proofs.Grounded.{grounded_no_loop}
 
 module _ (needs : ℕ → ℕ → Type 0) (rank : ℕ → ℕ) (falls : (c b : ℕ) → needs c b → rank b < rank c) where
   ranked : (k c : ℕ) → rank c < k → Grounded needs c

@@ -11,7 +11,7 @@ use Rattle.sci_reaction.specs.Links.{SourceFeeds}
 use Rattle.sci_reaction.specs.Depends.{IsLoopFree, Precedes}
 use Rattle.sci_reaction.specs.Equations.{HasBits}
 use Rattle.sci_reaction.specs.Schedule.{Guard, Entry, blocks_of, branch_of, IsGuard, IsEntry, IsRow}
-use Rattle.sci_relation.proofs.Decided.{Decided}
+use Rattle.sci_loop.proofs.Decided.{Decided}
 use Rattle.sci_reaction.proofs.Lists.{Has, or_left, or_right, any_to, any_from}
 use Rattle.sci_reaction.proofs.Spreading.{Spread-block}
 use Rattle.sci_reaction.proofs.Bits.{bits_of, bits_of-at}

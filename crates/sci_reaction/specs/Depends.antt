@@ -1,7 +1,7 @@
 -- What a possible block depends on.
 use Rattle.std.specs.Prelude.{ℕ, ◌⊎◌, ◌<◌, ◌≡◌}
-use Rattle.sci_relation.specs.Depth.{IsDepth}
-use Rattle.sci_relation.specs.Loops.{HasNoLoop}
+use Rattle.sci_loop.specs.Depth.{IsDepth}
+use Rattle.sci_loop.specs.Loops.{HasNoLoop}
 use Rattle.sci_net.specs.declared.Source.{Source}
 use Rattle.sci_net.specs.Parts.{Parts}
 use Rattle.sci_reaction.specs.Links.{SuppliesThrough}

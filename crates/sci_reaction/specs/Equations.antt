@@ -1,11 +1,12 @@
 -- The equations of one reaction.
-use Rattle.std.specs.Prelude.{◌≡◌, ℕ, zero, suc, ◌+◌, ◌↔◌, ◌⊎◌, ℤ, List, [], ◌∷◌, ◌++◌, length, take, drop, Contains, Option, Some, None, Result, Ok, Err, if◌then◌else◌}
+use Rattle.std.specs.Prelude.{◌≡◌, ℕ, zero, suc, ◌+◌, ◌↔◌, ◌⊎◌, ℤ, List, [], ◌∷◌, take, drop, Contains, Option, Some, None, Result, Ok, Err, if◌then◌else◌}
 use Rattle.std.specs.Int.{bit_at}
 use Rattle.sci_base.specs.declared.observation.StopWord.{StopWord}
 use Rattle.sci_base.specs.declared.observation.StopWord.TheVariants.{Overflow, Zero, Input}
 use Rattle.sci_forms.specs.declared.ports.Port.{Port}
 use Rattle.sci_forms.specs.declared.spec.Spec.{Spec}
 use Rattle.sci_forms.specs.Ports.{port_at, elements, before, Fills}
+use Rattle.sci_kinds.specs.Asks.{laid}
 use Rattle.sci_kinds.specs.Table.{Answer, Values, NoFit, NoQuotient, out, branch}
 use Rattle.sci_net.specs.declared.Source.{Source}
 use Rattle.sci_net.specs.Parts.{Parts, IsBlock, IsActivationInput, spec_of, wire_of, feeds_of, is_sensor}
@@ -32,15 +33,11 @@ output_among ports vs (suc k) = take (elements (port_at ports k)) (drop (before 
 abbrev pub input_in : Parts → Signals → ℕ → ℕ → List ℤ
 input_in n y b k = output_among (spec_of n (wire_of n b k).block).outs (y (wire_of n b k).block) (wire_of n b k).port
 
--- the values on inputs 1 to k, one after the other
-abbrev pub joined : (ℕ → List ℤ) → ℕ → List ℤ
-joined inputs zero = []
-joined inputs (suc k) = joined inputs k ++ inputs (suc k)
-
 -- ---- what a block does on its inputs
 
+-- the values on all inputs, one after the other
 abbrev pub all_inputs : Spec → (ℕ → List ℤ) → List ℤ
-all_inputs s inputs = joined inputs (length s.ins)
+all_inputs s inputs = laid s.ins inputs
 
 -- the branch that a synchronous block takes
 unfoldable pub branch_on : Spec → (ℕ → List ℤ) → ℕ

@@ -5,11 +5,11 @@ use Rattle.sci_forms.specs.Forms.{is_sync}
 use Rattle.sci_net.specs.declared.Feed.{Feed}
 use Rattle.sci_net.specs.declared.Source.{Source}
 use Rattle.sci_net.specs.declared.Source.TheVariants.{Start, Port}
-use Rattle.sci_net.specs.Parts.{Parts, IsBlock, IsInput, IsActivationInput, IsActivationOutput, spec_of, wire_of, feeds_of}
+use Rattle.sci_net.specs.Parts.{Parts, numbered, IsBlock, IsInput, IsActivationInput, IsActivationOutput, spec_of, wire_of, feeds_of}
 
--- within a reaction the block's outputs or its branch depend on its input k
+-- within a reaction the block's outputs or its branch depend on its input k, counted from 1
 abbrev pub has_feedthrough : Spec → ℕ → Bool
-has_feedthrough s k = s.feed
+has_feedthrough s k = numbered false s.feed k
 
 -- a is the source block of an input of b
 pub record Supplies (n : Parts) (a b : ℕ) : Type 0 where

@@ -1,8 +1,8 @@
 -- Small nets, worked out by hand.
 use Rattle.std.specs.Prelude.{◌≡◌, ℕ, ℤ, pos, List, [], ◌∷◌, true, false}
 use Rattle.sci_base.specs.declared.observation.StopWord.TheVariants.{Overflow}
-use Rattle.sci_relation.specs.Loops.{IsLoop}
-use Rattle.sci_forms.specs.declared.Kind.TheVariants.{Const, Summation, GainBlk, Dollar, ModuloCount, EvtDly, IfThEl}
+use Rattle.sci_loop.specs.Loops.{IsLoop}
+use Rattle.sci_forms.specs.declared.Kind.TheVariants.{Const, Summation, GainBlk, Dollar, ModuloCount, GatedDelay, EvtDly, IfThEl}
 use Rattle.sci_forms.specs.declared.ports.Port.{Port}
 use Rattle.sci_forms.specs.declared.spec.Spec.{Spec}
 use Rattle.sci_net.specs.declared.Feed.{Feed}
@@ -29,26 +29,30 @@ feed b = record { block = b; port = 1 }
 
 -- an event each tick
 abbrev pub timer : Spec
-timer = record { kind = EvtDly; params = pos 1 ∷ []; state = []; firing = pos 0 ∷ []; ins = []; outs = []; evtin = 1; evtout = 1; feed = false }
+timer = record { kind = EvtDly; params = pos 1 ∷ []; state = []; firing = pos 0 ∷ []; ins = []; outs = []; evtin = 1; evtout = 1; feed = [] }
 
 abbrev pub condition : Spec
-condition = record { kind = IfThEl; params = []; state = []; firing = []; ins = scalar ∷ []; outs = []; evtin = 1; evtout = 2; feed = true }
+condition = record { kind = IfThEl; params = []; state = []; firing = []; ins = scalar ∷ []; outs = []; evtin = 1; evtout = 2; feed = true ∷ [] }
 
 abbrev pub delay : Spec
-delay = record { kind = Dollar; params = []; state = pos 0 ∷ []; firing = []; ins = scalar ∷ []; outs = scalar ∷ []; evtin = 1; evtout = 0; feed = false }
+delay = record { kind = Dollar; params = []; state = pos 0 ∷ []; firing = []; ins = scalar ∷ []; outs = scalar ∷ []; evtin = 1; evtout = 0; feed = false ∷ [] }
 
 abbrev pub constant : ℤ → Spec
-constant v = record { kind = Const; params = v ∷ []; state = []; firing = []; ins = []; outs = scalar ∷ []; evtin = 0; evtout = 0; feed = false }
+constant v = record { kind = Const; params = v ∷ []; state = []; firing = []; ins = []; outs = scalar ∷ []; evtin = 0; evtout = 0; feed = [] }
 
 abbrev pub counter : Spec
-counter = record { kind = ModuloCount; params = pos 5 ∷ []; state = pos 0 ∷ []; firing = []; ins = []; outs = scalar ∷ []; evtin = 1; evtout = 0; feed = false }
+counter = record { kind = ModuloCount; params = pos 5 ∷ []; state = pos 0 ∷ []; firing = []; ins = []; outs = scalar ∷ []; evtin = 1; evtout = 0; feed = [] }
 
 -- the sum of two inputs, fitted by the mode
 abbrev pub sum : ℤ → ℕ → Spec
-sum mode evtin = record { kind = Summation; params = mode ∷ pos 1 ∷ pos 1 ∷ []; state = []; firing = []; ins = scalar ∷ scalar ∷ []; outs = scalar ∷ []; evtin = evtin; evtout = 0; feed = true }
+sum mode evtin = record { kind = Summation; params = mode ∷ pos 1 ∷ pos 1 ∷ []; state = []; firing = []; ins = scalar ∷ scalar ∷ []; outs = scalar ∷ []; evtin = evtin; evtout = 0; feed = true ∷ true ∷ [] }
 
 abbrev pub gain : ℕ → Spec
-gain evtin = record { kind = GainBlk; params = pos 0 ∷ pos 1 ∷ []; state = []; firing = []; ins = scalar ∷ []; outs = scalar ∷ []; evtin = evtin; evtout = 0; feed = true }
+gain evtin = record { kind = GainBlk; params = pos 0 ∷ pos 1 ∷ []; state = []; firing = []; ins = scalar ∷ []; outs = scalar ∷ []; evtin = evtin; evtout = 0; feed = true ∷ [] }
+
+-- its first input has no feedthrough, the second has
+abbrev pub gate : Spec
+gate = record { kind = GatedDelay; params = []; state = pos 0 ∷ []; firing = []; ins = scalar ∷ scalar ∷ []; outs = scalar ∷ []; evtin = 1; evtout = 0; feed = false ∷ true ∷ [] }
 
 -- ---- loops
 
@@ -94,6 +98,27 @@ NoLoopAtOtherTimes = IsLoopFree gain_at_other_times Start × IsLoopFree gain_at_
 -- it keeps all that the laws ask of a net
 abbrev pub OtherTimesIsNet : Type 0
 OtherTimesIsNet = IsNet gain_at_other_times
+
+-- 1 a timer; 2 a gated delay, activated by it; 3 the constant 1; 4 the sum of 2 and 3, which inherits. The delay's first input is fed by the
+-- sum, its second by the constant.
+abbrev pub sum_into_first : Parts
+sum_into_first = record {
+  specs = timer ∷ gate ∷ constant (pos 1) ∷ sum (pos 0) 0 ∷ [];
+  paths = (1 ∷ []) ∷ (2 ∷ []) ∷ (3 ∷ []) ∷ (4 ∷ []) ∷ [];
+  wires = [] ∷ (wire 4 ∷ wire 3 ∷ []) ∷ [] ∷ (wire 2 ∷ wire 3 ∷ []) ∷ [];
+  feeds = ((feed 1 ∷ []) ∷ []) ∷ ((feed 1 ∷ []) ∷ []) ∷ [] ∷ [] ∷ [];
+}
+
+-- the sum feeds an input without feedthrough, so it waits for the delay alone
+abbrev pub NoLoopIntoFirst : Type 0
+NoLoopIntoFirst = IsLoopFree sum_into_first (Event (feed 1))
+
+-- the same, with the delay's inputs exchanged
+abbrev pub sum_into_second : Parts
+sum_into_second = record sum_into_first { wires = [] ∷ (wire 3 ∷ wire 4 ∷ []) ∷ [] ∷ (wire 2 ∷ wire 3 ∷ []) ∷ [] }
+
+abbrev pub LoopIntoSecond : Type 0
+LoopIntoSecond = IsLoop (Depends sum_into_second (Event (feed 1))) (2 ∷ 4 ∷ [])
 
 -- ---- reactions
 

@@ -5,7 +5,7 @@
 #![tactic(auto)]
 
 ghost use Rattle.sci_reaction.specs.Laws.{OneDepth, DepthRises, OneSolution, AtMostOneResult, SomeResult, ExactlyOneResult, SomeRow, OneRow, SomeSchedule, OneSchedule, SourcesAreListed, PassFindsResult, PassBegins, PassGoesOn, PassEnds, EntriesAreExact, MasksAreExact, OthersAreIdle, MasksInRange, InputsInRange, SignalsInRange, SomeNextMemory, OneNextMemory, NextInRange, FirstInRange};
-ghost use Rattle.sci_reaction.specs.Worked.{LoopThroughCondition, LoopOfFeedthrough, NoLoopAtOtherTimes, OtherTimesIsNet, CountingStarts, OverflowStops};
+ghost use Rattle.sci_reaction.specs.Worked.{LoopThroughCondition, LoopOfFeedthrough, NoLoopAtOtherTimes, OtherTimesIsNet, NoLoopIntoFirst, LoopIntoSecond, CountingStarts, OverflowStops};
 
 /// Without a loop each possible block has one depth, greater than that of what it depends on.
 pub fn depths()
@@ -69,13 +69,16 @@ pub fn next_memory()
     ensures first { FirstInRange }
 {}
 
-/// The definitions say what was worked out by hand for small nets: a loop through a condition, a loop of feedthrough, and a cycle of
-/// the drawing that is no loop, since its blocks are activated at different times.
+/// The definitions say what was worked out by hand for small nets: a loop through a condition, a loop of feedthrough, a cycle of the
+/// drawing that is no loop, since its blocks are activated at different times, and one through a gated delay, which is a loop where it
+/// leads through the second input, and none where it leads through the first.
 pub fn worked_loops()
     ensures condition { LoopThroughCondition }
     ensures feedthrough { LoopOfFeedthrough }
     ensures none { NoLoopAtOtherTimes }
     ensures net { OtherTimesIsNet }
+    ensures first_input { NoLoopIntoFirst }
+    ensures second_input { LoopIntoSecond }
 {}
 
 /// The same of reactions: a first sum, and a stop.

@@ -4,7 +4,7 @@ use Rattle.std.specs.Prelude.{nat_eq, int_lt, is_none}
 use Rattle.std.proofs.lemmas.Bool.{eq-eqb, ne_eqb}
 use Rattle.std.proofs.lemmas.List.{length-map, get_or-map, take_more, take_all}
 use Rattle.sci_base.specs.Lists.{at}
-use Rattle.sci_base.specs.Plain.{Fields}
+use Rattle.sci_base.specs.Plain.{Fields, each_input}
 use Rattle.sci_forms.specs.declared.Kind.{Kind}
 use Rattle.sci_forms.specs.declared.Kind.TheVariants.{Const, Summation, GainBlk, Product, AbsValue, Signum, MaxMin, Saturation, DeadBand, Convert, Mux, Demux, Extractor, LogicalOp, RelationalOp, Shift, BitSet, BitClear, ExtractBits, Switch2, Select, Logic, AndLog, Dollar, SampHold, Register, ModuloCount, GatedDelay, Sensor, EvtDly, EvtVarDly, IfThEl, ESelect, Halt}
 use Rattle.sci_forms.specs.declared.broken.Broken.{Broken}
@@ -12,10 +12,10 @@ use Rattle.sci_forms.specs.declared.ports.Port.{Port}
 use Rattle.sci_forms.specs.declared.spec.Spec.{Spec}
 use Rattle.sci_forms.specs.Ports.{port_at, no_port}
 use Rattle.sci_forms.specs.Names.{name_of, by_name}
-use Rattle.sci_forms.specs.Forms.{or_else, unless, first_not, given, all_to, within, between, counts_of, feeds, has_delay, has_state, params_len_ok, param_ok, state_len_ok, state_ok, firing_ok}
-use Rattle.sci_forms.specs.Typed.{typed, counted, formed_of, known_of, known_in, known_out, is_known, types_broken_of, sizes_broken_of}
+use Rattle.sci_forms.specs.Forms.{or_else, unless, first_not, given, all_to, within, between, counts_of, fed, has_delay, has_state, params_len_ok, param_ok, state_len_ok, state_ok, firing_ok}
+use Rattle.sci_forms.specs.Typed.{feed_ok, counted, formed_of, known_of, known_in, known_out, is_known, types_broken_of, sizes_broken_of}
 use Rattle.sci_forms.proofs.TestLemmas.{both_true, all_to_at, nat_same}
-use Rattle.sci_check.specs.Check.{judged, broken, counts_broken, lengths_broken, forms_broken, types_broken, side_broken, integer_at, not_integer, active_broken, params_broken, state_broken, events_broken, values_broken, cols_ok, types_len_ok, firing_len_ok, feed_ok, date_ok, bad_value, declared_port, declared_ports, kept, spec_of}
+use Rattle.sci_check.specs.Check.{judged, broken, counts_broken, lengths_broken, forms_broken, types_broken, side_broken, integer_at, not_integer, active_broken, params_broken, state_broken, events_broken, values_broken, cols_ok, types_len_ok, firing_len_ok, feed_broken, bad_truth, date_ok, bad_value, declared_port, declared_ports, kept, spec_of}
 use Rattle.sci_rows.specs.Laws.{OriginLaw}
 
 -- ---- the name of a kind
@@ -146,12 +146,6 @@ free_state ModuloCount n h = h
 free_state GatedDelay n h = h
 free_state _ n h = refl
 
-fed : (a b : Bool) → (b || not a) ≡ true → (not a || b) ≡ true
-fed true true h = refl
-fed true false h = cc
-fed false true h = refl
-fed false false h = refl
-
 -- ---- the fields of a spec
 
 abbrev fields_for : Spec → Fields
@@ -167,7 +161,7 @@ fields_for s = record {
   dstate = s.state;
   ipar = s.params;
   firing = s.firing;
-  dep = Some (s.feed, false);
+  dep = Some (record { part = each_input s.feed; always = false });
 }
 
 equal_lengths : (a b : ℕ) → a ≡ b → nat_eq a b ≡ true
@@ -183,7 +177,7 @@ passes c s h k =
     let n3 : length f.intyp ≡ length f.ins = length-map s.ins (λ (p : Port). p.ty) ∙ sym n in
     let m3 : length f.outtyp ≡ length f.outs = length-map s.outs (λ (p : Port). p.ty) ∙ sym m in
     let t = counts_of c (length s.ins) in
-    let f6 = both_true _ (s.feed || not (feeds c)) h in
+    let f6 = both_true _ (feed_ok c s.feed (length s.ins)) h in
     let f5 = both_true _ (cond (has_delay c) (nat_eq (length s.firing) 1 && firing_ok (at s.firing 0)) (nat_eq (length s.firing) 0)) f6.0 in
     let f4 = both_true _ (all_to (state_ok c s.params s.state) (length s.state)) f5.0 in
     let f3 = both_true _ (cond (has_state c) (state_len_ok c (length s.state)) (nat_eq (length s.state) 0)) f4.0 in
@@ -209,8 +203,10 @@ passes c s h k =
     rw (n, m) (pass (params_len_ok c (length s.ins) (length s.outs) (length s.params)) _ _ f1.1 (given_none (first_not (param_ok c (length s.ins) s.params) (length s.params)) (bad_value (pos 1) s.params) f2.1)) in
     let state : state_broken c f ≡ None =
     pass (state_len_ok c (length s.state)) _ _ (free_state c (length s.state) f3.1) (given_none (first_not (state_ok c s.params s.state) (length s.state)) (bad_value (pos 2) s.state) f4.1) in
-    let events : events_broken c f ≡ None =
-    pass (date_ok c s.firing) _ _ dates.2 (pass (feed_ok c f.dep) _ _ (fed (feeds c) s.feed f6.1) refl) in
+    let truths = both_true (nat_eq (length s.feed) (length s.ins)) (all_to (fed c s.feed) (length s.ins)) f6.1 in
+    let feed : feed_broken c f.dep (length f.ins) ≡ None =
+    rw n (pass (nat_eq (length s.feed) (length s.ins)) _ _ truths.0 (given_none (first_not (fed c s.feed) (length s.ins)) bad_truth truths.1)) in
+    let events : events_broken c f ≡ None = pass (date_ok c s.firing) _ _ dates.2 feed in
     neither (forms_broken c f) (or_else (types_broken f) (or_else (active_broken f) (values_broken c f)))
     (neither (counts_broken c f) (lengths_broken c f) counts lengths)
     (neither (types_broken f) (or_else (active_broken f) (values_broken c f)) types
@@ -220,7 +216,7 @@ passes c s h k =
 
 spec_again : (s : Spec) → formed_of s.kind s ≡ true → spec_of s.kind (fields_for s) ≡ s
 spec_again s h =
-    let f6 = both_true _ (s.feed || not (feeds s.kind)) h in
+    let f6 = both_true _ (feed_ok s.kind s.feed (length s.ins)) h in
     let f5 = both_true _ (cond (has_delay s.kind) (nat_eq (length s.firing) 1 && firing_ok (at s.firing 0)) (nat_eq (length s.firing) 0)) f6.0 in
     let f4 = both_true _ (all_to (state_ok s.kind s.params s.state) (length s.state)) f5.0 in
     let f3 = both_true _ (cond (has_state s.kind) (state_len_ok s.kind (length s.state)) (nat_eq (length s.state) 0)) f4.0 in

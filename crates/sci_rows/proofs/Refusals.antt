@@ -3,16 +3,23 @@ use Rattle.std.proofs.Common.{◌≡◌, ℕ, zero, suc, ℤ, pos, negsuc, List,
 use Rattle.std.specs.Prelude.{codes}
 use Rattle.sci_base.specs.declared.refusal.Rule.{Rule}
 use Rattle.sci_base.specs.declared.refusal.Rule.TheVariants.{UnknownBlock, BadParameter, PortShape, NotInteger, AlwaysActive}
-use Rattle.sci_base.specs.Plain.{Fields}
+use Rattle.sci_base.specs.Plain.{Fields, Dependence, all_inputs, each_input}
 use Rattle.sci_forms.specs.declared.Kind.{Kind}
 use Rattle.sci_forms.specs.declared.Kind.TheVariants.{Const, Summation, GainBlk, Product, AbsValue, Signum, MaxMin, Saturation, DeadBand, Convert, Mux, Demux, Extractor, LogicalOp, RelationalOp, Shift, BitSet, BitClear, ExtractBits, Switch2, Select, Logic, AndLog, Dollar, SampHold, Register, ModuloCount, GatedDelay, Sensor, EvtDly, EvtVarDly, IfThEl, ESelect, Halt}
 use Rattle.sci_forms.specs.declared.ports.Port.{Port}
 use Rattle.sci_forms.specs.declared.spec.Spec.{Spec}
 use Rattle.sci_check.specs.Check.{checked}
 
-abbrev fields : List ℤ → List ℤ → List ℤ → List ℤ → List ℤ → List ℤ → ℕ → ℕ → List ℤ → List ℤ → List ℤ → Option (Bool × Bool) → Fields
+abbrev fields : List ℤ → List ℤ → List ℤ → List ℤ → List ℤ → List ℤ → ℕ → ℕ → List ℤ → List ℤ → List ℤ → Option Dependence → Fields
 fields a b c d e f g h i j k l =
     record { ins = a; in2 = b; intyp = c; outs = d; out2 = e; outtyp = f; evtin = g; evtout = h; dstate = i; ipar = j; firing = k; dep = l }
+
+-- what is declared of all inputs, or of each, and whether the block is always active
+abbrev all : Bool → Bool → Option Dependence
+all b a = Some (record { part = all_inputs b; always = a })
+
+abbrev each : List Bool → Bool → Option Dependence
+each ts a = Some (record { part = each_input ts; always = a })
 
 abbrev many : {A : Type 0} → ℕ → A → List A
 many zero v = []
@@ -29,29 +36,29 @@ abbrev port : ℤ → ℤ → ℤ → Port
 port r c t = record { rows = r; cols = c; ty = t }
 
 -- a spec by its kind, parameters, state, first dates, inputs, outputs, counts of activation ports and feedthrough
-abbrev block : Kind → List ℤ → List ℤ → List ℤ → List Port → List Port → ℕ → ℕ → Bool → Spec
+abbrev block : Kind → List ℤ → List ℤ → List ℤ → List Port → List Port → ℕ → ℕ → List Bool → Spec
 block k ps xs fs is os a b d = record { kind = k; params = ps; state = xs; firing = fs; ins = is; outs = os; evtin = a; evtout = b; feed = d }
 
 -- it passes, with this spec
 abbrev Passes : List ℕ → Fields → Spec → Type 0
 Passes gui f s = checked place gui f ≡ Ok s
 
-unknown1 : Refuses (codes "") (fields (negsuc 0 ∷ []) [] (pos 5 ∷ []) (negsuc 0 ∷ []) [] (pos 5 ∷ []) 0 0 [] (pos 0 ∷ pos 3 ∷ []) [] (Some (true, true))) UnknownBlock []
+unknown1 : Refuses (codes "") (fields (negsuc 0 ∷ []) [] (pos 5 ∷ []) (negsuc 0 ∷ []) [] (pos 5 ∷ []) 0 0 [] (pos 0 ∷ pos 3 ∷ []) [] (all true true)) UnknownBlock []
 unknown1 = refl
 
-unknown2 : Refuses (codes "GAINBLK ") (fields (negsuc 0 ∷ []) [] (pos 5 ∷ []) (negsuc 0 ∷ []) [] (pos 5 ∷ []) 0 0 [] (pos 0 ∷ pos 3 ∷ []) [] (Some (true, true))) UnknownBlock []
+unknown2 : Refuses (codes "GAINBLK ") (fields (negsuc 0 ∷ []) [] (pos 5 ∷ []) (negsuc 0 ∷ []) [] (pos 5 ∷ []) 0 0 [] (pos 0 ∷ pos 3 ∷ []) [] (all true true)) UnknownBlock []
 unknown2 = refl
 
-unknown3 : Refuses (codes "gainblk") (fields (negsuc 0 ∷ []) [] (pos 5 ∷ []) (negsuc 0 ∷ []) [] (pos 5 ∷ []) 0 0 [] (pos 0 ∷ pos 3 ∷ []) [] (Some (true, true))) UnknownBlock []
+unknown3 : Refuses (codes "gainblk") (fields (negsuc 0 ∷ []) [] (pos 5 ∷ []) (negsuc 0 ∷ []) [] (pos 5 ∷ []) 0 0 [] (pos 0 ∷ pos 3 ∷ []) [] (all true true)) UnknownBlock []
 unknown3 = refl
 
-unknown4 : Refuses (codes "CONST") (fields (negsuc 0 ∷ []) [] (pos 5 ∷ []) (negsuc 0 ∷ []) [] (pos 5 ∷ []) 0 0 [] (pos 0 ∷ pos 3 ∷ []) [] (Some (true, true))) UnknownBlock []
+unknown4 : Refuses (codes "CONST") (fields (negsuc 0 ∷ []) [] (pos 5 ∷ []) (negsuc 0 ∷ []) [] (pos 5 ∷ []) 0 0 [] (pos 0 ∷ pos 3 ∷ []) [] (all true true)) UnknownBlock []
 unknown4 = refl
 
-unknown5 : Refuses (codes "SPLIT_f") (fields (negsuc 0 ∷ []) [] (pos 5 ∷ []) (negsuc 0 ∷ []) [] (pos 5 ∷ []) 0 0 [] (pos 0 ∷ pos 3 ∷ []) [] (Some (true, true))) UnknownBlock []
+unknown5 : Refuses (codes "SPLIT_f") (fields (negsuc 0 ∷ []) [] (pos 5 ∷ []) (negsuc 0 ∷ []) [] (pos 5 ∷ []) 0 0 [] (pos 0 ∷ pos 3 ∷ []) [] (all true true)) UnknownBlock []
 unknown5 = refl
 
-unknown6 : Refuses (codes "SUMMATIONS") (fields (negsuc 0 ∷ []) [] (pos 5 ∷ []) (negsuc 0 ∷ []) [] (pos 5 ∷ []) 0 0 [] (pos 0 ∷ pos 3 ∷ []) [] (Some (true, true))) UnknownBlock []
+unknown6 : Refuses (codes "SUMMATIONS") (fields (negsuc 0 ∷ []) [] (pos 5 ∷ []) (negsuc 0 ∷ []) [] (pos 5 ∷ []) 0 0 [] (pos 0 ∷ pos 3 ∷ []) [] (all true true)) UnknownBlock []
 unknown6 = refl
 
 refused1 : Refuses (codes "CONST_m") (fields (negsuc 0 ∷ []) [] (pos 5 ∷ []) (negsuc 0 ∷ []) [] (pos 5 ∷ []) 0 0 [] (pos 7 ∷ []) [] None) PortShape (pos 1 ∷ pos 1 ∷ [])
@@ -777,1175 +784,1826 @@ refused240 = refl
 refused241 : Refuses (codes "SUMMATION") (fields (negsuc 0 ∷ negsuc 0 ∷ []) [] (pos 3 ∷ pos 2 ∷ []) (negsuc 0 ∷ []) [] (pos 1 ∷ []) 0 0 [] (pos 0 ∷ pos 1 ∷ negsuc 0 ∷ []) [] None) NotInteger (pos 1 ∷ pos 2 ∷ pos 2 ∷ [])
 refused241 = refl
 
-refused242 : Refuses (codes "GAINBLK") (fields (negsuc 0 ∷ []) [] (pos 5 ∷ []) (negsuc 0 ∷ []) [] (pos 5 ∷ []) 0 0 [] (pos 0 ∷ pos 3 ∷ []) [] (Some (true, true))) AlwaysActive []
+refused242 : Refuses (codes "GAINBLK") (fields (negsuc 0 ∷ []) [] (pos 5 ∷ []) (negsuc 0 ∷ []) [] (pos 5 ∷ []) 0 0 [] (pos 0 ∷ pos 3 ∷ []) [] (all true true)) AlwaysActive []
 refused242 = refl
 
-refused243 : Refuses (codes "DOLLAR_m") (fields (negsuc 0 ∷ []) [] (pos 5 ∷ []) (negsuc 0 ∷ []) [] (pos 5 ∷ []) 1 0 (pos 0 ∷ []) [] [] (Some (false, true))) AlwaysActive []
+refused243 : Refuses (codes "DOLLAR_m") (fields (negsuc 0 ∷ []) [] (pos 5 ∷ []) (negsuc 0 ∷ []) [] (pos 5 ∷ []) 1 0 (pos 0 ∷ []) [] [] (all false true)) AlwaysActive []
 refused243 = refl
 
-refused244 : Refuses (codes "SUMMATION") (fields (negsuc 0 ∷ negsuc 0 ∷ []) [] (pos 5 ∷ pos 5 ∷ []) (negsuc 0 ∷ []) [] (pos 5 ∷ []) 0 0 [] (pos 0 ∷ pos 1 ∷ negsuc 0 ∷ []) [] (Some (false, false))) BadParameter (pos 4 ∷ pos 1 ∷ pos 0 ∷ [])
+refused244 : Refuses (codes "GATED_DELAY") (fields (negsuc 0 ∷ negsuc 0 ∷ []) [] (pos 5 ∷ pos 5 ∷ []) (negsuc 0 ∷ []) [] (pos 5 ∷ []) 1 0 (pos 0 ∷ []) [] [] (each (true ∷ []) true)) AlwaysActive []
 refused244 = refl
 
-refused245 : Refuses (codes "GAINBLK") (fields (negsuc 0 ∷ []) [] (pos 5 ∷ []) (negsuc 0 ∷ []) [] (pos 5 ∷ []) 0 0 [] (pos 0 ∷ pos 3 ∷ []) [] (Some (false, false))) BadParameter (pos 4 ∷ pos 1 ∷ pos 0 ∷ [])
+refused245 : Refuses (codes "SUMMATION") (fields (negsuc 0 ∷ negsuc 0 ∷ []) [] (pos 5 ∷ pos 5 ∷ []) (negsuc 0 ∷ []) [] (pos 5 ∷ []) 0 0 [] (pos 0 ∷ pos 1 ∷ negsuc 0 ∷ []) [] (all false false)) BadParameter (pos 4 ∷ pos 1 ∷ pos 0 ∷ [])
 refused245 = refl
 
-refused246 : Refuses (codes "PRODUCT") (fields (negsuc 0 ∷ negsuc 0 ∷ []) [] (pos 5 ∷ pos 5 ∷ []) (negsuc 0 ∷ []) [] (pos 5 ∷ []) 0 0 [] (pos 0 ∷ pos 1 ∷ []) [] (Some (false, false))) BadParameter (pos 4 ∷ pos 1 ∷ pos 0 ∷ [])
+refused246 : Refuses (codes "GAINBLK") (fields (negsuc 0 ∷ []) [] (pos 5 ∷ []) (negsuc 0 ∷ []) [] (pos 5 ∷ []) 0 0 [] (pos 0 ∷ pos 3 ∷ []) [] (all false false)) BadParameter (pos 4 ∷ pos 1 ∷ pos 0 ∷ [])
 refused246 = refl
 
-refused247 : Refuses (codes "ABS_VALUE") (fields (negsuc 0 ∷ []) [] (pos 5 ∷ []) (negsuc 0 ∷ []) [] (pos 5 ∷ []) 0 0 [] (pos 0 ∷ []) [] (Some (false, false))) BadParameter (pos 4 ∷ pos 1 ∷ pos 0 ∷ [])
+refused247 : Refuses (codes "PRODUCT") (fields (negsuc 0 ∷ negsuc 0 ∷ []) [] (pos 5 ∷ pos 5 ∷ []) (negsuc 0 ∷ []) [] (pos 5 ∷ []) 0 0 [] (pos 0 ∷ pos 1 ∷ []) [] (all false false)) BadParameter (pos 4 ∷ pos 1 ∷ pos 0 ∷ [])
 refused247 = refl
 
-refused248 : Refuses (codes "SIGNUM") (fields (negsuc 0 ∷ []) [] (pos 5 ∷ []) (negsuc 0 ∷ []) [] (pos 5 ∷ []) 0 0 [] [] [] (Some (false, false))) BadParameter (pos 4 ∷ pos 1 ∷ pos 0 ∷ [])
+refused248 : Refuses (codes "ABS_VALUE") (fields (negsuc 0 ∷ []) [] (pos 5 ∷ []) (negsuc 0 ∷ []) [] (pos 5 ∷ []) 0 0 [] (pos 0 ∷ []) [] (all false false)) BadParameter (pos 4 ∷ pos 1 ∷ pos 0 ∷ [])
 refused248 = refl
 
-refused249 : Refuses (codes "MAXMIN") (fields (negsuc 0 ∷ negsuc 0 ∷ []) [] (pos 5 ∷ pos 5 ∷ []) (negsuc 0 ∷ []) [] (pos 5 ∷ []) 0 0 [] (pos 1 ∷ []) [] (Some (false, false))) BadParameter (pos 4 ∷ pos 1 ∷ pos 0 ∷ [])
+refused249 : Refuses (codes "SIGNUM") (fields (negsuc 0 ∷ []) [] (pos 5 ∷ []) (negsuc 0 ∷ []) [] (pos 5 ∷ []) 0 0 [] [] [] (all false false)) BadParameter (pos 4 ∷ pos 1 ∷ pos 0 ∷ [])
 refused249 = refl
 
-refused250 : Refuses (codes "SATURATION") (fields (negsuc 0 ∷ []) [] (pos 5 ∷ []) (negsuc 0 ∷ []) [] (pos 5 ∷ []) 0 0 [] (negsuc 4 ∷ pos 5 ∷ []) [] (Some (false, false))) BadParameter (pos 4 ∷ pos 1 ∷ pos 0 ∷ [])
+refused250 : Refuses (codes "MAXMIN") (fields (negsuc 0 ∷ negsuc 0 ∷ []) [] (pos 5 ∷ pos 5 ∷ []) (negsuc 0 ∷ []) [] (pos 5 ∷ []) 0 0 [] (pos 1 ∷ []) [] (all false false)) BadParameter (pos 4 ∷ pos 1 ∷ pos 0 ∷ [])
 refused250 = refl
 
-refused251 : Refuses (codes "DEADBAND") (fields (negsuc 0 ∷ []) [] (pos 5 ∷ []) (negsuc 0 ∷ []) [] (pos 5 ∷ []) 0 0 [] (pos 0 ∷ negsuc 4 ∷ pos 5 ∷ []) [] (Some (false, false))) BadParameter (pos 4 ∷ pos 1 ∷ pos 0 ∷ [])
+refused251 : Refuses (codes "SATURATION") (fields (negsuc 0 ∷ []) [] (pos 5 ∷ []) (negsuc 0 ∷ []) [] (pos 5 ∷ []) 0 0 [] (negsuc 4 ∷ pos 5 ∷ []) [] (all false false)) BadParameter (pos 4 ∷ pos 1 ∷ pos 0 ∷ [])
 refused251 = refl
 
-refused252 : Refuses (codes "CONVERT") (fields (negsuc 0 ∷ []) [] (pos 5 ∷ []) (negsuc 0 ∷ []) [] (pos 5 ∷ []) 0 0 [] (pos 0 ∷ []) [] (Some (false, false))) BadParameter (pos 4 ∷ pos 1 ∷ pos 0 ∷ [])
+refused252 : Refuses (codes "DEADBAND") (fields (negsuc 0 ∷ []) [] (pos 5 ∷ []) (negsuc 0 ∷ []) [] (pos 5 ∷ []) 0 0 [] (pos 0 ∷ negsuc 4 ∷ pos 5 ∷ []) [] (all false false)) BadParameter (pos 4 ∷ pos 1 ∷ pos 0 ∷ [])
 refused252 = refl
 
-refused253 : Refuses (codes "MUX") (fields (negsuc 0 ∷ negsuc 0 ∷ []) [] (pos 5 ∷ pos 5 ∷ []) (negsuc 0 ∷ []) [] (pos 5 ∷ []) 0 0 [] [] [] (Some (false, false))) BadParameter (pos 4 ∷ pos 1 ∷ pos 0 ∷ [])
+refused253 : Refuses (codes "CONVERT") (fields (negsuc 0 ∷ []) [] (pos 5 ∷ []) (negsuc 0 ∷ []) [] (pos 5 ∷ []) 0 0 [] (pos 0 ∷ []) [] (all false false)) BadParameter (pos 4 ∷ pos 1 ∷ pos 0 ∷ [])
 refused253 = refl
 
-refused254 : Refuses (codes "DEMUX") (fields (negsuc 0 ∷ []) [] (pos 5 ∷ []) (negsuc 0 ∷ negsuc 0 ∷ []) [] (pos 5 ∷ pos 5 ∷ []) 0 0 [] [] [] (Some (false, false))) BadParameter (pos 4 ∷ pos 1 ∷ pos 0 ∷ [])
+refused254 : Refuses (codes "MUX") (fields (negsuc 0 ∷ negsuc 0 ∷ []) [] (pos 5 ∷ pos 5 ∷ []) (negsuc 0 ∷ []) [] (pos 5 ∷ []) 0 0 [] [] [] (all false false)) BadParameter (pos 4 ∷ pos 1 ∷ pos 0 ∷ [])
 refused254 = refl
 
-refused255 : Refuses (codes "EXTRACTOR") (fields (negsuc 0 ∷ []) [] (pos 5 ∷ []) (negsuc 0 ∷ []) [] (pos 5 ∷ []) 0 0 [] (pos 2 ∷ pos 1 ∷ []) [] (Some (false, false))) BadParameter (pos 4 ∷ pos 1 ∷ pos 0 ∷ [])
+refused255 : Refuses (codes "DEMUX") (fields (negsuc 0 ∷ []) [] (pos 5 ∷ []) (negsuc 0 ∷ negsuc 0 ∷ []) [] (pos 5 ∷ pos 5 ∷ []) 0 0 [] [] [] (all false false)) BadParameter (pos 4 ∷ pos 1 ∷ pos 0 ∷ [])
 refused255 = refl
 
-refused256 : Refuses (codes "LOGICAL_OP") (fields (negsuc 0 ∷ negsuc 0 ∷ []) [] (pos 5 ∷ pos 5 ∷ []) (negsuc 0 ∷ []) [] (pos 5 ∷ []) 0 0 [] (pos 0 ∷ pos 0 ∷ []) [] (Some (false, false))) BadParameter (pos 4 ∷ pos 1 ∷ pos 0 ∷ [])
+refused256 : Refuses (codes "EXTRACTOR") (fields (negsuc 0 ∷ []) [] (pos 5 ∷ []) (negsuc 0 ∷ []) [] (pos 5 ∷ []) 0 0 [] (pos 2 ∷ pos 1 ∷ []) [] (all false false)) BadParameter (pos 4 ∷ pos 1 ∷ pos 0 ∷ [])
 refused256 = refl
 
-refused257 : Refuses (codes "RELATIONALOP") (fields (negsuc 0 ∷ negsuc 0 ∷ []) [] (pos 5 ∷ pos 5 ∷ []) (negsuc 0 ∷ []) [] (pos 5 ∷ []) 0 0 [] (pos 0 ∷ []) [] (Some (false, false))) BadParameter (pos 4 ∷ pos 1 ∷ pos 0 ∷ [])
+refused257 : Refuses (codes "LOGICAL_OP") (fields (negsuc 0 ∷ negsuc 0 ∷ []) [] (pos 5 ∷ pos 5 ∷ []) (negsuc 0 ∷ []) [] (pos 5 ∷ []) 0 0 [] (pos 0 ∷ pos 0 ∷ []) [] (all false false)) BadParameter (pos 4 ∷ pos 1 ∷ pos 0 ∷ [])
 refused257 = refl
 
-refused258 : Refuses (codes "SHIFT") (fields (negsuc 0 ∷ []) [] (pos 5 ∷ []) (negsuc 0 ∷ []) [] (pos 5 ∷ []) 0 0 [] (pos 3 ∷ pos 0 ∷ []) [] (Some (false, false))) BadParameter (pos 4 ∷ pos 1 ∷ pos 0 ∷ [])
+refused258 : Refuses (codes "RELATIONALOP") (fields (negsuc 0 ∷ negsuc 0 ∷ []) [] (pos 5 ∷ pos 5 ∷ []) (negsuc 0 ∷ []) [] (pos 5 ∷ []) 0 0 [] (pos 0 ∷ []) [] (all false false)) BadParameter (pos 4 ∷ pos 1 ∷ pos 0 ∷ [])
 refused258 = refl
 
-refused259 : Refuses (codes "BITSET") (fields (negsuc 0 ∷ []) [] (pos 5 ∷ []) (negsuc 0 ∷ []) [] (pos 5 ∷ []) 0 0 [] (pos 3 ∷ []) [] (Some (false, false))) BadParameter (pos 4 ∷ pos 1 ∷ pos 0 ∷ [])
+refused259 : Refuses (codes "SHIFT") (fields (negsuc 0 ∷ []) [] (pos 5 ∷ []) (negsuc 0 ∷ []) [] (pos 5 ∷ []) 0 0 [] (pos 3 ∷ pos 0 ∷ []) [] (all false false)) BadParameter (pos 4 ∷ pos 1 ∷ pos 0 ∷ [])
 refused259 = refl
 
-refused260 : Refuses (codes "BITCLEAR") (fields (negsuc 0 ∷ []) [] (pos 5 ∷ []) (negsuc 0 ∷ []) [] (pos 5 ∷ []) 0 0 [] (pos 3 ∷ []) [] (Some (false, false))) BadParameter (pos 4 ∷ pos 1 ∷ pos 0 ∷ [])
+refused260 : Refuses (codes "BITSET") (fields (negsuc 0 ∷ []) [] (pos 5 ∷ []) (negsuc 0 ∷ []) [] (pos 5 ∷ []) 0 0 [] (pos 3 ∷ []) [] (all false false)) BadParameter (pos 4 ∷ pos 1 ∷ pos 0 ∷ [])
 refused260 = refl
 
-refused261 : Refuses (codes "EXTRACTBITS") (fields (negsuc 0 ∷ []) [] (pos 5 ∷ []) (negsuc 0 ∷ []) [] (pos 5 ∷ []) 0 0 [] (pos 1 ∷ pos 3 ∷ []) [] (Some (false, false))) BadParameter (pos 4 ∷ pos 1 ∷ pos 0 ∷ [])
+refused261 : Refuses (codes "BITCLEAR") (fields (negsuc 0 ∷ []) [] (pos 5 ∷ []) (negsuc 0 ∷ []) [] (pos 5 ∷ []) 0 0 [] (pos 3 ∷ []) [] (all false false)) BadParameter (pos 4 ∷ pos 1 ∷ pos 0 ∷ [])
 refused261 = refl
 
-refused262 : Refuses (codes "SWITCH2_m") (fields (negsuc 0 ∷ negsuc 0 ∷ negsuc 0 ∷ []) [] (pos 5 ∷ pos 5 ∷ pos 5 ∷ []) (negsuc 0 ∷ []) [] (pos 5 ∷ []) 0 0 [] (pos 0 ∷ pos 0 ∷ []) [] (Some (false, false))) BadParameter (pos 4 ∷ pos 1 ∷ pos 0 ∷ [])
+refused262 : Refuses (codes "EXTRACTBITS") (fields (negsuc 0 ∷ []) [] (pos 5 ∷ []) (negsuc 0 ∷ []) [] (pos 5 ∷ []) 0 0 [] (pos 1 ∷ pos 3 ∷ []) [] (all false false)) BadParameter (pos 4 ∷ pos 1 ∷ pos 0 ∷ [])
 refused262 = refl
 
-refused263 : Refuses (codes "SELECT_m") (fields (negsuc 0 ∷ negsuc 0 ∷ negsuc 0 ∷ []) [] (pos 5 ∷ pos 5 ∷ pos 5 ∷ []) (negsuc 0 ∷ []) [] (pos 5 ∷ []) 3 0 [] [] [] (Some (false, false))) BadParameter (pos 4 ∷ pos 1 ∷ pos 0 ∷ [])
+refused263 : Refuses (codes "SWITCH2_m") (fields (negsuc 0 ∷ negsuc 0 ∷ negsuc 0 ∷ []) [] (pos 5 ∷ pos 5 ∷ pos 5 ∷ []) (negsuc 0 ∷ []) [] (pos 5 ∷ []) 0 0 [] (pos 0 ∷ pos 0 ∷ []) [] (all false false)) BadParameter (pos 4 ∷ pos 1 ∷ pos 0 ∷ [])
 refused263 = refl
 
-refused264 : Refuses (codes "LOGIC") (fields (negsuc 0 ∷ negsuc 0 ∷ []) [] (pos 5 ∷ pos 5 ∷ []) (negsuc 0 ∷ []) [] (pos 5 ∷ []) 0 0 [] (pos 0 ∷ pos 0 ∷ pos 0 ∷ pos 1 ∷ []) [] (Some (false, false))) BadParameter (pos 4 ∷ pos 1 ∷ pos 0 ∷ [])
+refused264 : Refuses (codes "SELECT_m") (fields (negsuc 0 ∷ negsuc 0 ∷ negsuc 0 ∷ []) [] (pos 5 ∷ pos 5 ∷ pos 5 ∷ []) (negsuc 0 ∷ []) [] (pos 5 ∷ []) 3 0 [] [] [] (all false false)) BadParameter (pos 4 ∷ pos 1 ∷ pos 0 ∷ [])
 refused264 = refl
 
-refused265 : Refuses (codes "SAMPHOLD_m") (fields (negsuc 0 ∷ []) [] (pos 5 ∷ []) (negsuc 0 ∷ []) [] (pos 5 ∷ []) 1 0 [] [] [] (Some (false, false))) BadParameter (pos 4 ∷ pos 1 ∷ pos 0 ∷ [])
+refused265 : Refuses (codes "LOGIC") (fields (negsuc 0 ∷ negsuc 0 ∷ []) [] (pos 5 ∷ pos 5 ∷ []) (negsuc 0 ∷ []) [] (pos 5 ∷ []) 0 0 [] (pos 0 ∷ pos 0 ∷ pos 0 ∷ pos 1 ∷ []) [] (all false false)) BadParameter (pos 4 ∷ pos 1 ∷ pos 0 ∷ [])
 refused265 = refl
 
-refused266 : Refuses (codes "GATED_DELAY") (fields (negsuc 0 ∷ negsuc 0 ∷ []) [] (pos 5 ∷ pos 5 ∷ []) (negsuc 0 ∷ []) [] (pos 5 ∷ []) 1 0 (pos 0 ∷ []) [] [] (Some (false, false))) BadParameter (pos 4 ∷ pos 1 ∷ pos 0 ∷ [])
+refused266 : Refuses (codes "SAMPHOLD_m") (fields (negsuc 0 ∷ []) [] (pos 5 ∷ []) (negsuc 0 ∷ []) [] (pos 5 ∷ []) 1 0 [] [] [] (all false false)) BadParameter (pos 4 ∷ pos 1 ∷ pos 0 ∷ [])
 refused266 = refl
 
-refused267 : Refuses (codes "IFTHEL_f") (fields (negsuc 0 ∷ []) [] (pos 5 ∷ []) [] [] [] 0 2 [] [] [] (Some (false, false))) BadParameter (pos 4 ∷ pos 1 ∷ pos 0 ∷ [])
+refused267 : Refuses (codes "GATED_DELAY") (fields (negsuc 0 ∷ negsuc 0 ∷ []) [] (pos 5 ∷ pos 5 ∷ []) (negsuc 0 ∷ []) [] (pos 5 ∷ []) 1 0 (pos 0 ∷ []) [] [] (all false false)) BadParameter (pos 4 ∷ pos 1 ∷ pos 0 ∷ [])
 refused267 = refl
 
-refused268 : Refuses (codes "ESELECT_f") (fields (negsuc 0 ∷ []) [] (pos 5 ∷ []) [] [] [] 0 3 [] [] [] (Some (false, false))) BadParameter (pos 4 ∷ pos 1 ∷ pos 0 ∷ [])
+refused268 : Refuses (codes "IFTHEL_f") (fields (negsuc 0 ∷ []) [] (pos 5 ∷ []) [] [] [] 0 2 [] [] [] (all false false)) BadParameter (pos 4 ∷ pos 1 ∷ pos 0 ∷ [])
 refused268 = refl
 
-refused269 : Refuses (codes "CONST_m") (fields [] [] [] (negsuc 0 ∷ []) [] (pos 5 ∷ []) 0 0 [] [] [] None) BadParameter (pos 1 ∷ pos 0 ∷ pos 0 ∷ [])
+refused269 : Refuses (codes "ESELECT_f") (fields (negsuc 0 ∷ []) [] (pos 5 ∷ []) [] [] [] 0 3 [] [] [] (all false false)) BadParameter (pos 4 ∷ pos 1 ∷ pos 0 ∷ [])
 refused269 = refl
 
-refused270 : Refuses (codes "SUMMATION") (fields (negsuc 0 ∷ negsuc 0 ∷ []) [] (pos 5 ∷ pos 5 ∷ []) (negsuc 0 ∷ []) [] (pos 5 ∷ []) 0 0 [] (pos 0 ∷ pos 1 ∷ negsuc 0 ∷ pos 1 ∷ []) [] None) BadParameter (pos 1 ∷ pos 0 ∷ pos 4 ∷ [])
+refused270 : Refuses (codes "CONST_m") (fields [] [] [] (negsuc 0 ∷ []) [] (pos 5 ∷ []) 0 0 [] (pos 7 ∷ []) [] (each (true ∷ []) false)) BadParameter (pos 4 ∷ pos 0 ∷ pos 1 ∷ [])
 refused270 = refl
 
-refused271 : Refuses (codes "SUMMATION") (fields (negsuc 0 ∷ negsuc 0 ∷ []) [] (pos 5 ∷ pos 5 ∷ []) (negsuc 0 ∷ []) [] (pos 5 ∷ []) 0 0 [] (pos 0 ∷ pos 1 ∷ []) [] None) BadParameter (pos 1 ∷ pos 0 ∷ pos 2 ∷ [])
+refused271 : Refuses (codes "CONST_m") (fields [] [] [] (negsuc 0 ∷ []) [] (pos 5 ∷ []) 0 0 [] (pos 7 ∷ []) [] (each (false ∷ []) false)) BadParameter (pos 4 ∷ pos 0 ∷ pos 1 ∷ [])
 refused271 = refl
 
-refused272 : Refuses (codes "GAINBLK") (fields (negsuc 0 ∷ []) [] (pos 5 ∷ []) (negsuc 0 ∷ []) [] (pos 5 ∷ []) 0 0 [] (pos 0 ∷ pos 3 ∷ pos 1 ∷ []) [] None) BadParameter (pos 1 ∷ pos 0 ∷ pos 3 ∷ [])
+refused272 : Refuses (codes "SUMMATION") (fields (negsuc 0 ∷ negsuc 0 ∷ []) [] (pos 5 ∷ pos 5 ∷ []) (negsuc 0 ∷ []) [] (pos 5 ∷ []) 0 0 [] (pos 0 ∷ pos 1 ∷ negsuc 0 ∷ []) [] (each (true ∷ true ∷ true ∷ []) false)) BadParameter (pos 4 ∷ pos 0 ∷ pos 3 ∷ [])
 refused272 = refl
 
-refused273 : Refuses (codes "GAINBLK") (fields (negsuc 0 ∷ []) [] (pos 5 ∷ []) (negsuc 0 ∷ []) [] (pos 5 ∷ []) 0 0 [] (pos 0 ∷ []) [] None) BadParameter (pos 1 ∷ pos 0 ∷ pos 1 ∷ [])
+refused273 : Refuses (codes "SUMMATION") (fields (negsuc 0 ∷ negsuc 0 ∷ []) [] (pos 5 ∷ pos 5 ∷ []) (negsuc 0 ∷ []) [] (pos 5 ∷ []) 0 0 [] (pos 0 ∷ pos 1 ∷ negsuc 0 ∷ []) [] (each (true ∷ []) false)) BadParameter (pos 4 ∷ pos 0 ∷ pos 1 ∷ [])
 refused273 = refl
 
-refused274 : Refuses (codes "PRODUCT") (fields (negsuc 0 ∷ negsuc 0 ∷ []) [] (pos 5 ∷ pos 5 ∷ []) (negsuc 0 ∷ []) [] (pos 5 ∷ []) 0 0 [] (pos 0 ∷ pos 1 ∷ pos 1 ∷ []) [] None) BadParameter (pos 1 ∷ pos 0 ∷ pos 3 ∷ [])
+refused274 : Refuses (codes "SUMMATION") (fields (negsuc 0 ∷ negsuc 0 ∷ []) [] (pos 5 ∷ pos 5 ∷ []) (negsuc 0 ∷ []) [] (pos 5 ∷ []) 0 0 [] (pos 0 ∷ pos 1 ∷ negsuc 0 ∷ []) [] (each [] false)) BadParameter (pos 4 ∷ pos 0 ∷ pos 0 ∷ [])
 refused274 = refl
 
-refused275 : Refuses (codes "PRODUCT") (fields (negsuc 0 ∷ negsuc 0 ∷ []) [] (pos 5 ∷ pos 5 ∷ []) (negsuc 0 ∷ []) [] (pos 5 ∷ []) 0 0 [] (pos 0 ∷ []) [] None) BadParameter (pos 1 ∷ pos 0 ∷ pos 1 ∷ [])
+refused275 : Refuses (codes "SUMMATION") (fields (negsuc 0 ∷ negsuc 0 ∷ []) [] (pos 5 ∷ pos 5 ∷ []) (negsuc 0 ∷ []) [] (pos 5 ∷ []) 0 0 [] (pos 0 ∷ pos 1 ∷ negsuc 0 ∷ []) [] (each (false ∷ true ∷ []) false)) BadParameter (pos 4 ∷ pos 1 ∷ pos 0 ∷ [])
 refused275 = refl
 
-refused276 : Refuses (codes "ABS_VALUE") (fields (negsuc 0 ∷ []) [] (pos 5 ∷ []) (negsuc 0 ∷ []) [] (pos 5 ∷ []) 0 0 [] (pos 0 ∷ pos 1 ∷ []) [] None) BadParameter (pos 1 ∷ pos 0 ∷ pos 2 ∷ [])
+refused276 : Refuses (codes "SUMMATION") (fields (negsuc 0 ∷ negsuc 0 ∷ []) [] (pos 5 ∷ pos 5 ∷ []) (negsuc 0 ∷ []) [] (pos 5 ∷ []) 0 0 [] (pos 0 ∷ pos 1 ∷ negsuc 0 ∷ []) [] (each (true ∷ false ∷ []) false)) BadParameter (pos 4 ∷ pos 2 ∷ pos 0 ∷ [])
 refused276 = refl
 
-refused277 : Refuses (codes "ABS_VALUE") (fields (negsuc 0 ∷ []) [] (pos 5 ∷ []) (negsuc 0 ∷ []) [] (pos 5 ∷ []) 0 0 [] [] [] None) BadParameter (pos 1 ∷ pos 0 ∷ pos 0 ∷ [])
+refused277 : Refuses (codes "SUMMATION") (fields (negsuc 0 ∷ negsuc 0 ∷ []) [] (pos 5 ∷ pos 5 ∷ []) (negsuc 0 ∷ []) [] (pos 5 ∷ []) 0 0 [] (pos 0 ∷ pos 1 ∷ negsuc 0 ∷ []) [] (each (false ∷ false ∷ []) false)) BadParameter (pos 4 ∷ pos 1 ∷ pos 0 ∷ [])
 refused277 = refl
 
-refused278 : Refuses (codes "SIGNUM") (fields (negsuc 0 ∷ []) [] (pos 5 ∷ []) (negsuc 0 ∷ []) [] (pos 5 ∷ []) 0 0 [] (pos 1 ∷ []) [] None) BadParameter (pos 1 ∷ pos 0 ∷ pos 1 ∷ [])
+refused278 : Refuses (codes "GAINBLK") (fields (negsuc 0 ∷ []) [] (pos 5 ∷ []) (negsuc 0 ∷ []) [] (pos 5 ∷ []) 0 0 [] (pos 0 ∷ pos 3 ∷ []) [] (each (true ∷ true ∷ []) false)) BadParameter (pos 4 ∷ pos 0 ∷ pos 2 ∷ [])
 refused278 = refl
 
-refused279 : Refuses (codes "MAXMIN") (fields (negsuc 0 ∷ negsuc 0 ∷ []) [] (pos 5 ∷ pos 5 ∷ []) (negsuc 0 ∷ []) [] (pos 5 ∷ []) 0 0 [] (pos 1 ∷ pos 1 ∷ []) [] None) BadParameter (pos 1 ∷ pos 0 ∷ pos 2 ∷ [])
+refused279 : Refuses (codes "GAINBLK") (fields (negsuc 0 ∷ []) [] (pos 5 ∷ []) (negsuc 0 ∷ []) [] (pos 5 ∷ []) 0 0 [] (pos 0 ∷ pos 3 ∷ []) [] (each [] false)) BadParameter (pos 4 ∷ pos 0 ∷ pos 0 ∷ [])
 refused279 = refl
 
-refused280 : Refuses (codes "MAXMIN") (fields (negsuc 0 ∷ negsuc 0 ∷ []) [] (pos 5 ∷ pos 5 ∷ []) (negsuc 0 ∷ []) [] (pos 5 ∷ []) 0 0 [] [] [] None) BadParameter (pos 1 ∷ pos 0 ∷ pos 0 ∷ [])
+refused280 : Refuses (codes "GAINBLK") (fields (negsuc 0 ∷ []) [] (pos 5 ∷ []) (negsuc 0 ∷ []) [] (pos 5 ∷ []) 0 0 [] (pos 0 ∷ pos 3 ∷ []) [] (each [] false)) BadParameter (pos 4 ∷ pos 0 ∷ pos 0 ∷ [])
 refused280 = refl
 
-refused281 : Refuses (codes "SATURATION") (fields (negsuc 0 ∷ []) [] (pos 5 ∷ []) (negsuc 0 ∷ []) [] (pos 5 ∷ []) 0 0 [] (negsuc 4 ∷ pos 5 ∷ pos 1 ∷ []) [] None) BadParameter (pos 1 ∷ pos 0 ∷ pos 3 ∷ [])
+refused281 : Refuses (codes "GAINBLK") (fields (negsuc 0 ∷ []) [] (pos 5 ∷ []) (negsuc 0 ∷ []) [] (pos 5 ∷ []) 0 0 [] (pos 0 ∷ pos 3 ∷ []) [] (each (false ∷ []) false)) BadParameter (pos 4 ∷ pos 1 ∷ pos 0 ∷ [])
 refused281 = refl
 
-refused282 : Refuses (codes "SATURATION") (fields (negsuc 0 ∷ []) [] (pos 5 ∷ []) (negsuc 0 ∷ []) [] (pos 5 ∷ []) 0 0 [] (negsuc 4 ∷ []) [] None) BadParameter (pos 1 ∷ pos 0 ∷ pos 1 ∷ [])
+refused282 : Refuses (codes "GAINBLK") (fields (negsuc 0 ∷ []) [] (pos 5 ∷ []) (negsuc 0 ∷ []) [] (pos 5 ∷ []) 0 0 [] (pos 0 ∷ pos 3 ∷ []) [] (each (false ∷ []) false)) BadParameter (pos 4 ∷ pos 1 ∷ pos 0 ∷ [])
 refused282 = refl
 
-refused283 : Refuses (codes "DEADBAND") (fields (negsuc 0 ∷ []) [] (pos 5 ∷ []) (negsuc 0 ∷ []) [] (pos 5 ∷ []) 0 0 [] (pos 0 ∷ negsuc 4 ∷ pos 5 ∷ pos 1 ∷ []) [] None) BadParameter (pos 1 ∷ pos 0 ∷ pos 4 ∷ [])
+refused283 : Refuses (codes "PRODUCT") (fields (negsuc 0 ∷ negsuc 0 ∷ []) [] (pos 5 ∷ pos 5 ∷ []) (negsuc 0 ∷ []) [] (pos 5 ∷ []) 0 0 [] (pos 0 ∷ pos 1 ∷ []) [] (each (true ∷ true ∷ true ∷ []) false)) BadParameter (pos 4 ∷ pos 0 ∷ pos 3 ∷ [])
 refused283 = refl
 
-refused284 : Refuses (codes "DEADBAND") (fields (negsuc 0 ∷ []) [] (pos 5 ∷ []) (negsuc 0 ∷ []) [] (pos 5 ∷ []) 0 0 [] (pos 0 ∷ negsuc 4 ∷ []) [] None) BadParameter (pos 1 ∷ pos 0 ∷ pos 2 ∷ [])
+refused284 : Refuses (codes "PRODUCT") (fields (negsuc 0 ∷ negsuc 0 ∷ []) [] (pos 5 ∷ pos 5 ∷ []) (negsuc 0 ∷ []) [] (pos 5 ∷ []) 0 0 [] (pos 0 ∷ pos 1 ∷ []) [] (each (true ∷ []) false)) BadParameter (pos 4 ∷ pos 0 ∷ pos 1 ∷ [])
 refused284 = refl
 
-refused285 : Refuses (codes "CONVERT") (fields (negsuc 0 ∷ []) [] (pos 5 ∷ []) (negsuc 0 ∷ []) [] (pos 5 ∷ []) 0 0 [] (pos 0 ∷ pos 1 ∷ []) [] None) BadParameter (pos 1 ∷ pos 0 ∷ pos 2 ∷ [])
+refused285 : Refuses (codes "PRODUCT") (fields (negsuc 0 ∷ negsuc 0 ∷ []) [] (pos 5 ∷ pos 5 ∷ []) (negsuc 0 ∷ []) [] (pos 5 ∷ []) 0 0 [] (pos 0 ∷ pos 1 ∷ []) [] (each [] false)) BadParameter (pos 4 ∷ pos 0 ∷ pos 0 ∷ [])
 refused285 = refl
 
-refused286 : Refuses (codes "CONVERT") (fields (negsuc 0 ∷ []) [] (pos 5 ∷ []) (negsuc 0 ∷ []) [] (pos 5 ∷ []) 0 0 [] [] [] None) BadParameter (pos 1 ∷ pos 0 ∷ pos 0 ∷ [])
+refused286 : Refuses (codes "PRODUCT") (fields (negsuc 0 ∷ negsuc 0 ∷ []) [] (pos 5 ∷ pos 5 ∷ []) (negsuc 0 ∷ []) [] (pos 5 ∷ []) 0 0 [] (pos 0 ∷ pos 1 ∷ []) [] (each (false ∷ true ∷ []) false)) BadParameter (pos 4 ∷ pos 1 ∷ pos 0 ∷ [])
 refused286 = refl
 
-refused287 : Refuses (codes "MUX") (fields (negsuc 0 ∷ negsuc 0 ∷ []) [] (pos 5 ∷ pos 5 ∷ []) (negsuc 0 ∷ []) [] (pos 5 ∷ []) 0 0 [] (pos 1 ∷ []) [] None) BadParameter (pos 1 ∷ pos 0 ∷ pos 1 ∷ [])
+refused287 : Refuses (codes "PRODUCT") (fields (negsuc 0 ∷ negsuc 0 ∷ []) [] (pos 5 ∷ pos 5 ∷ []) (negsuc 0 ∷ []) [] (pos 5 ∷ []) 0 0 [] (pos 0 ∷ pos 1 ∷ []) [] (each (true ∷ false ∷ []) false)) BadParameter (pos 4 ∷ pos 2 ∷ pos 0 ∷ [])
 refused287 = refl
 
-refused288 : Refuses (codes "DEMUX") (fields (negsuc 0 ∷ []) [] (pos 5 ∷ []) (negsuc 0 ∷ negsuc 0 ∷ []) [] (pos 5 ∷ pos 5 ∷ []) 0 0 [] (pos 1 ∷ []) [] None) BadParameter (pos 1 ∷ pos 0 ∷ pos 1 ∷ [])
+refused288 : Refuses (codes "PRODUCT") (fields (negsuc 0 ∷ negsuc 0 ∷ []) [] (pos 5 ∷ pos 5 ∷ []) (negsuc 0 ∷ []) [] (pos 5 ∷ []) 0 0 [] (pos 0 ∷ pos 1 ∷ []) [] (each (false ∷ false ∷ []) false)) BadParameter (pos 4 ∷ pos 1 ∷ pos 0 ∷ [])
 refused288 = refl
 
-refused289 : Refuses (codes "EXTRACTOR") (fields (negsuc 0 ∷ []) [] (pos 5 ∷ []) (negsuc 0 ∷ []) [] (pos 5 ∷ []) 0 0 [] [] [] None) BadParameter (pos 1 ∷ pos 0 ∷ pos 0 ∷ [])
+refused289 : Refuses (codes "ABS_VALUE") (fields (negsuc 0 ∷ []) [] (pos 5 ∷ []) (negsuc 0 ∷ []) [] (pos 5 ∷ []) 0 0 [] (pos 0 ∷ []) [] (each (true ∷ true ∷ []) false)) BadParameter (pos 4 ∷ pos 0 ∷ pos 2 ∷ [])
 refused289 = refl
 
-refused290 : Refuses (codes "LOGICAL_OP") (fields (negsuc 0 ∷ negsuc 0 ∷ []) [] (pos 5 ∷ pos 5 ∷ []) (negsuc 0 ∷ []) [] (pos 5 ∷ []) 0 0 [] (pos 0 ∷ pos 0 ∷ pos 1 ∷ []) [] None) BadParameter (pos 1 ∷ pos 0 ∷ pos 3 ∷ [])
+refused290 : Refuses (codes "ABS_VALUE") (fields (negsuc 0 ∷ []) [] (pos 5 ∷ []) (negsuc 0 ∷ []) [] (pos 5 ∷ []) 0 0 [] (pos 0 ∷ []) [] (each [] false)) BadParameter (pos 4 ∷ pos 0 ∷ pos 0 ∷ [])
 refused290 = refl
 
-refused291 : Refuses (codes "LOGICAL_OP") (fields (negsuc 0 ∷ negsuc 0 ∷ []) [] (pos 5 ∷ pos 5 ∷ []) (negsuc 0 ∷ []) [] (pos 5 ∷ []) 0 0 [] (pos 0 ∷ []) [] None) BadParameter (pos 1 ∷ pos 0 ∷ pos 1 ∷ [])
+refused291 : Refuses (codes "ABS_VALUE") (fields (negsuc 0 ∷ []) [] (pos 5 ∷ []) (negsuc 0 ∷ []) [] (pos 5 ∷ []) 0 0 [] (pos 0 ∷ []) [] (each [] false)) BadParameter (pos 4 ∷ pos 0 ∷ pos 0 ∷ [])
 refused291 = refl
 
-refused292 : Refuses (codes "RELATIONALOP") (fields (negsuc 0 ∷ negsuc 0 ∷ []) [] (pos 5 ∷ pos 5 ∷ []) (negsuc 0 ∷ []) [] (pos 5 ∷ []) 0 0 [] (pos 0 ∷ pos 1 ∷ []) [] None) BadParameter (pos 1 ∷ pos 0 ∷ pos 2 ∷ [])
+refused292 : Refuses (codes "ABS_VALUE") (fields (negsuc 0 ∷ []) [] (pos 5 ∷ []) (negsuc 0 ∷ []) [] (pos 5 ∷ []) 0 0 [] (pos 0 ∷ []) [] (each (false ∷ []) false)) BadParameter (pos 4 ∷ pos 1 ∷ pos 0 ∷ [])
 refused292 = refl
 
-refused293 : Refuses (codes "RELATIONALOP") (fields (negsuc 0 ∷ negsuc 0 ∷ []) [] (pos 5 ∷ pos 5 ∷ []) (negsuc 0 ∷ []) [] (pos 5 ∷ []) 0 0 [] [] [] None) BadParameter (pos 1 ∷ pos 0 ∷ pos 0 ∷ [])
+refused293 : Refuses (codes "ABS_VALUE") (fields (negsuc 0 ∷ []) [] (pos 5 ∷ []) (negsuc 0 ∷ []) [] (pos 5 ∷ []) 0 0 [] (pos 0 ∷ []) [] (each (false ∷ []) false)) BadParameter (pos 4 ∷ pos 1 ∷ pos 0 ∷ [])
 refused293 = refl
 
-refused294 : Refuses (codes "SHIFT") (fields (negsuc 0 ∷ []) [] (pos 5 ∷ []) (negsuc 0 ∷ []) [] (pos 5 ∷ []) 0 0 [] (pos 3 ∷ pos 0 ∷ pos 1 ∷ []) [] None) BadParameter (pos 1 ∷ pos 0 ∷ pos 3 ∷ [])
+refused294 : Refuses (codes "SIGNUM") (fields (negsuc 0 ∷ []) [] (pos 5 ∷ []) (negsuc 0 ∷ []) [] (pos 5 ∷ []) 0 0 [] [] [] (each (true ∷ true ∷ []) false)) BadParameter (pos 4 ∷ pos 0 ∷ pos 2 ∷ [])
 refused294 = refl
 
-refused295 : Refuses (codes "SHIFT") (fields (negsuc 0 ∷ []) [] (pos 5 ∷ []) (negsuc 0 ∷ []) [] (pos 5 ∷ []) 0 0 [] (pos 3 ∷ []) [] None) BadParameter (pos 1 ∷ pos 0 ∷ pos 1 ∷ [])
+refused295 : Refuses (codes "SIGNUM") (fields (negsuc 0 ∷ []) [] (pos 5 ∷ []) (negsuc 0 ∷ []) [] (pos 5 ∷ []) 0 0 [] [] [] (each [] false)) BadParameter (pos 4 ∷ pos 0 ∷ pos 0 ∷ [])
 refused295 = refl
 
-refused296 : Refuses (codes "BITSET") (fields (negsuc 0 ∷ []) [] (pos 5 ∷ []) (negsuc 0 ∷ []) [] (pos 5 ∷ []) 0 0 [] (pos 3 ∷ pos 1 ∷ []) [] None) BadParameter (pos 1 ∷ pos 0 ∷ pos 2 ∷ [])
+refused296 : Refuses (codes "SIGNUM") (fields (negsuc 0 ∷ []) [] (pos 5 ∷ []) (negsuc 0 ∷ []) [] (pos 5 ∷ []) 0 0 [] [] [] (each [] false)) BadParameter (pos 4 ∷ pos 0 ∷ pos 0 ∷ [])
 refused296 = refl
 
-refused297 : Refuses (codes "BITSET") (fields (negsuc 0 ∷ []) [] (pos 5 ∷ []) (negsuc 0 ∷ []) [] (pos 5 ∷ []) 0 0 [] [] [] None) BadParameter (pos 1 ∷ pos 0 ∷ pos 0 ∷ [])
+refused297 : Refuses (codes "SIGNUM") (fields (negsuc 0 ∷ []) [] (pos 5 ∷ []) (negsuc 0 ∷ []) [] (pos 5 ∷ []) 0 0 [] [] [] (each (false ∷ []) false)) BadParameter (pos 4 ∷ pos 1 ∷ pos 0 ∷ [])
 refused297 = refl
 
-refused298 : Refuses (codes "BITCLEAR") (fields (negsuc 0 ∷ []) [] (pos 5 ∷ []) (negsuc 0 ∷ []) [] (pos 5 ∷ []) 0 0 [] (pos 3 ∷ pos 1 ∷ []) [] None) BadParameter (pos 1 ∷ pos 0 ∷ pos 2 ∷ [])
+refused298 : Refuses (codes "SIGNUM") (fields (negsuc 0 ∷ []) [] (pos 5 ∷ []) (negsuc 0 ∷ []) [] (pos 5 ∷ []) 0 0 [] [] [] (each (false ∷ []) false)) BadParameter (pos 4 ∷ pos 1 ∷ pos 0 ∷ [])
 refused298 = refl
 
-refused299 : Refuses (codes "BITCLEAR") (fields (negsuc 0 ∷ []) [] (pos 5 ∷ []) (negsuc 0 ∷ []) [] (pos 5 ∷ []) 0 0 [] [] [] None) BadParameter (pos 1 ∷ pos 0 ∷ pos 0 ∷ [])
+refused299 : Refuses (codes "MAXMIN") (fields (negsuc 0 ∷ negsuc 0 ∷ []) [] (pos 5 ∷ pos 5 ∷ []) (negsuc 0 ∷ []) [] (pos 5 ∷ []) 0 0 [] (pos 1 ∷ []) [] (each (true ∷ true ∷ true ∷ []) false)) BadParameter (pos 4 ∷ pos 0 ∷ pos 3 ∷ [])
 refused299 = refl
 
-refused300 : Refuses (codes "EXTRACTBITS") (fields (negsuc 0 ∷ []) [] (pos 5 ∷ []) (negsuc 0 ∷ []) [] (pos 5 ∷ []) 0 0 [] (pos 1 ∷ pos 3 ∷ pos 1 ∷ []) [] None) BadParameter (pos 1 ∷ pos 0 ∷ pos 3 ∷ [])
+refused300 : Refuses (codes "MAXMIN") (fields (negsuc 0 ∷ negsuc 0 ∷ []) [] (pos 5 ∷ pos 5 ∷ []) (negsuc 0 ∷ []) [] (pos 5 ∷ []) 0 0 [] (pos 1 ∷ []) [] (each (true ∷ []) false)) BadParameter (pos 4 ∷ pos 0 ∷ pos 1 ∷ [])
 refused300 = refl
 
-refused301 : Refuses (codes "EXTRACTBITS") (fields (negsuc 0 ∷ []) [] (pos 5 ∷ []) (negsuc 0 ∷ []) [] (pos 5 ∷ []) 0 0 [] (pos 1 ∷ []) [] None) BadParameter (pos 1 ∷ pos 0 ∷ pos 1 ∷ [])
+refused301 : Refuses (codes "MAXMIN") (fields (negsuc 0 ∷ negsuc 0 ∷ []) [] (pos 5 ∷ pos 5 ∷ []) (negsuc 0 ∷ []) [] (pos 5 ∷ []) 0 0 [] (pos 1 ∷ []) [] (each [] false)) BadParameter (pos 4 ∷ pos 0 ∷ pos 0 ∷ [])
 refused301 = refl
 
-refused302 : Refuses (codes "SWITCH2_m") (fields (negsuc 0 ∷ negsuc 0 ∷ negsuc 0 ∷ []) [] (pos 5 ∷ pos 5 ∷ pos 5 ∷ []) (negsuc 0 ∷ []) [] (pos 5 ∷ []) 0 0 [] (pos 0 ∷ pos 0 ∷ pos 1 ∷ []) [] None) BadParameter (pos 1 ∷ pos 0 ∷ pos 3 ∷ [])
+refused302 : Refuses (codes "MAXMIN") (fields (negsuc 0 ∷ negsuc 0 ∷ []) [] (pos 5 ∷ pos 5 ∷ []) (negsuc 0 ∷ []) [] (pos 5 ∷ []) 0 0 [] (pos 1 ∷ []) [] (each (false ∷ true ∷ []) false)) BadParameter (pos 4 ∷ pos 1 ∷ pos 0 ∷ [])
 refused302 = refl
 
-refused303 : Refuses (codes "SWITCH2_m") (fields (negsuc 0 ∷ negsuc 0 ∷ negsuc 0 ∷ []) [] (pos 5 ∷ pos 5 ∷ pos 5 ∷ []) (negsuc 0 ∷ []) [] (pos 5 ∷ []) 0 0 [] (pos 0 ∷ []) [] None) BadParameter (pos 1 ∷ pos 0 ∷ pos 1 ∷ [])
+refused303 : Refuses (codes "MAXMIN") (fields (negsuc 0 ∷ negsuc 0 ∷ []) [] (pos 5 ∷ pos 5 ∷ []) (negsuc 0 ∷ []) [] (pos 5 ∷ []) 0 0 [] (pos 1 ∷ []) [] (each (true ∷ false ∷ []) false)) BadParameter (pos 4 ∷ pos 2 ∷ pos 0 ∷ [])
 refused303 = refl
 
-refused304 : Refuses (codes "SELECT_m") (fields (negsuc 0 ∷ negsuc 0 ∷ negsuc 0 ∷ []) [] (pos 5 ∷ pos 5 ∷ pos 5 ∷ []) (negsuc 0 ∷ []) [] (pos 5 ∷ []) 3 0 [] (pos 1 ∷ []) [] None) BadParameter (pos 1 ∷ pos 0 ∷ pos 1 ∷ [])
+refused304 : Refuses (codes "MAXMIN") (fields (negsuc 0 ∷ negsuc 0 ∷ []) [] (pos 5 ∷ pos 5 ∷ []) (negsuc 0 ∷ []) [] (pos 5 ∷ []) 0 0 [] (pos 1 ∷ []) [] (each (false ∷ false ∷ []) false)) BadParameter (pos 4 ∷ pos 1 ∷ pos 0 ∷ [])
 refused304 = refl
 
-refused305 : Refuses (codes "LOGIC") (fields (negsuc 0 ∷ negsuc 0 ∷ []) [] (pos 5 ∷ pos 5 ∷ []) (negsuc 0 ∷ []) [] (pos 5 ∷ []) 0 0 [] (pos 0 ∷ pos 0 ∷ pos 0 ∷ pos 1 ∷ pos 1 ∷ []) [] None) BadParameter (pos 1 ∷ pos 0 ∷ pos 5 ∷ [])
+refused305 : Refuses (codes "SATURATION") (fields (negsuc 0 ∷ []) [] (pos 5 ∷ []) (negsuc 0 ∷ []) [] (pos 5 ∷ []) 0 0 [] (negsuc 4 ∷ pos 5 ∷ []) [] (each (true ∷ true ∷ []) false)) BadParameter (pos 4 ∷ pos 0 ∷ pos 2 ∷ [])
 refused305 = refl
 
-refused306 : Refuses (codes "LOGIC") (fields (negsuc 0 ∷ negsuc 0 ∷ []) [] (pos 5 ∷ pos 5 ∷ []) (negsuc 0 ∷ []) [] (pos 5 ∷ []) 0 0 [] (pos 0 ∷ pos 0 ∷ pos 0 ∷ []) [] None) BadParameter (pos 1 ∷ pos 0 ∷ pos 3 ∷ [])
+refused306 : Refuses (codes "SATURATION") (fields (negsuc 0 ∷ []) [] (pos 5 ∷ []) (negsuc 0 ∷ []) [] (pos 5 ∷ []) 0 0 [] (negsuc 4 ∷ pos 5 ∷ []) [] (each [] false)) BadParameter (pos 4 ∷ pos 0 ∷ pos 0 ∷ [])
 refused306 = refl
 
-refused307 : Refuses (codes "ANDLOG_f") (fields [] [] [] (negsuc 0 ∷ []) [] (pos 5 ∷ []) 2 0 [] (pos 1 ∷ []) [] None) BadParameter (pos 1 ∷ pos 0 ∷ pos 1 ∷ [])
+refused307 : Refuses (codes "SATURATION") (fields (negsuc 0 ∷ []) [] (pos 5 ∷ []) (negsuc 0 ∷ []) [] (pos 5 ∷ []) 0 0 [] (negsuc 4 ∷ pos 5 ∷ []) [] (each [] false)) BadParameter (pos 4 ∷ pos 0 ∷ pos 0 ∷ [])
 refused307 = refl
 
-refused308 : Refuses (codes "DOLLAR_m") (fields (negsuc 0 ∷ []) [] (pos 5 ∷ []) (negsuc 0 ∷ []) [] (pos 5 ∷ []) 1 0 (pos 0 ∷ []) (pos 1 ∷ []) [] None) BadParameter (pos 1 ∷ pos 0 ∷ pos 1 ∷ [])
+refused308 : Refuses (codes "SATURATION") (fields (negsuc 0 ∷ []) [] (pos 5 ∷ []) (negsuc 0 ∷ []) [] (pos 5 ∷ []) 0 0 [] (negsuc 4 ∷ pos 5 ∷ []) [] (each (false ∷ []) false)) BadParameter (pos 4 ∷ pos 1 ∷ pos 0 ∷ [])
 refused308 = refl
 
-refused309 : Refuses (codes "SAMPHOLD_m") (fields (negsuc 0 ∷ []) [] (pos 5 ∷ []) (negsuc 0 ∷ []) [] (pos 5 ∷ []) 1 0 [] (pos 1 ∷ []) [] None) BadParameter (pos 1 ∷ pos 0 ∷ pos 1 ∷ [])
+refused309 : Refuses (codes "SATURATION") (fields (negsuc 0 ∷ []) [] (pos 5 ∷ []) (negsuc 0 ∷ []) [] (pos 5 ∷ []) 0 0 [] (negsuc 4 ∷ pos 5 ∷ []) [] (each (false ∷ []) false)) BadParameter (pos 4 ∷ pos 1 ∷ pos 0 ∷ [])
 refused309 = refl
 
-refused310 : Refuses (codes "REGISTER") (fields (negsuc 0 ∷ []) [] (pos 5 ∷ []) (negsuc 0 ∷ []) [] (pos 5 ∷ []) 1 0 (pos 0 ∷ pos 0 ∷ []) (pos 1 ∷ []) [] None) BadParameter (pos 1 ∷ pos 0 ∷ pos 1 ∷ [])
+refused310 : Refuses (codes "DEADBAND") (fields (negsuc 0 ∷ []) [] (pos 5 ∷ []) (negsuc 0 ∷ []) [] (pos 5 ∷ []) 0 0 [] (pos 0 ∷ negsuc 4 ∷ pos 5 ∷ []) [] (each (true ∷ true ∷ []) false)) BadParameter (pos 4 ∷ pos 0 ∷ pos 2 ∷ [])
 refused310 = refl
 
-refused311 : Refuses (codes "Modulo_Count") (fields [] [] [] (negsuc 0 ∷ []) [] (pos 5 ∷ []) 1 0 (pos 0 ∷ []) (pos 10 ∷ pos 1 ∷ []) [] None) BadParameter (pos 1 ∷ pos 0 ∷ pos 2 ∷ [])
+refused311 : Refuses (codes "DEADBAND") (fields (negsuc 0 ∷ []) [] (pos 5 ∷ []) (negsuc 0 ∷ []) [] (pos 5 ∷ []) 0 0 [] (pos 0 ∷ negsuc 4 ∷ pos 5 ∷ []) [] (each [] false)) BadParameter (pos 4 ∷ pos 0 ∷ pos 0 ∷ [])
 refused311 = refl
 
-refused312 : Refuses (codes "Modulo_Count") (fields [] [] [] (negsuc 0 ∷ []) [] (pos 5 ∷ []) 1 0 (pos 0 ∷ []) [] [] None) BadParameter (pos 1 ∷ pos 0 ∷ pos 0 ∷ [])
+refused312 : Refuses (codes "DEADBAND") (fields (negsuc 0 ∷ []) [] (pos 5 ∷ []) (negsuc 0 ∷ []) [] (pos 5 ∷ []) 0 0 [] (pos 0 ∷ negsuc 4 ∷ pos 5 ∷ []) [] (each [] false)) BadParameter (pos 4 ∷ pos 0 ∷ pos 0 ∷ [])
 refused312 = refl
 
-refused313 : Refuses (codes "GATED_DELAY") (fields (negsuc 0 ∷ negsuc 0 ∷ []) [] (pos 5 ∷ pos 5 ∷ []) (negsuc 0 ∷ []) [] (pos 5 ∷ []) 1 0 (pos 0 ∷ []) (pos 1 ∷ []) [] None) BadParameter (pos 1 ∷ pos 0 ∷ pos 1 ∷ [])
+refused313 : Refuses (codes "DEADBAND") (fields (negsuc 0 ∷ []) [] (pos 5 ∷ []) (negsuc 0 ∷ []) [] (pos 5 ∷ []) 0 0 [] (pos 0 ∷ negsuc 4 ∷ pos 5 ∷ []) [] (each (false ∷ []) false)) BadParameter (pos 4 ∷ pos 1 ∷ pos 0 ∷ [])
 refused313 = refl
 
-refused314 : Refuses (codes "SENSOR") (fields [] [] [] (negsuc 0 ∷ []) [] (pos 5 ∷ []) 1 0 [] (pos 1 ∷ pos 1 ∷ []) [] None) BadParameter (pos 1 ∷ pos 0 ∷ pos 2 ∷ [])
+refused314 : Refuses (codes "DEADBAND") (fields (negsuc 0 ∷ []) [] (pos 5 ∷ []) (negsuc 0 ∷ []) [] (pos 5 ∷ []) 0 0 [] (pos 0 ∷ negsuc 4 ∷ pos 5 ∷ []) [] (each (false ∷ []) false)) BadParameter (pos 4 ∷ pos 1 ∷ pos 0 ∷ [])
 refused314 = refl
 
-refused315 : Refuses (codes "SENSOR") (fields [] [] [] (negsuc 0 ∷ []) [] (pos 5 ∷ []) 1 0 [] [] [] None) BadParameter (pos 1 ∷ pos 0 ∷ pos 0 ∷ [])
+refused315 : Refuses (codes "CONVERT") (fields (negsuc 0 ∷ []) [] (pos 5 ∷ []) (negsuc 0 ∷ []) [] (pos 5 ∷ []) 0 0 [] (pos 0 ∷ []) [] (each (true ∷ true ∷ []) false)) BadParameter (pos 4 ∷ pos 0 ∷ pos 2 ∷ [])
 refused315 = refl
 
-refused316 : Refuses (codes "EVTDLY_c") (fields [] [] [] [] [] [] 1 1 [] (pos 5 ∷ pos 1 ∷ []) (pos 0 ∷ []) None) BadParameter (pos 1 ∷ pos 0 ∷ pos 2 ∷ [])
+refused316 : Refuses (codes "CONVERT") (fields (negsuc 0 ∷ []) [] (pos 5 ∷ []) (negsuc 0 ∷ []) [] (pos 5 ∷ []) 0 0 [] (pos 0 ∷ []) [] (each [] false)) BadParameter (pos 4 ∷ pos 0 ∷ pos 0 ∷ [])
 refused316 = refl
 
-refused317 : Refuses (codes "EVTDLY_c") (fields [] [] [] [] [] [] 1 1 [] [] (pos 0 ∷ []) None) BadParameter (pos 1 ∷ pos 0 ∷ pos 0 ∷ [])
+refused317 : Refuses (codes "CONVERT") (fields (negsuc 0 ∷ []) [] (pos 5 ∷ []) (negsuc 0 ∷ []) [] (pos 5 ∷ []) 0 0 [] (pos 0 ∷ []) [] (each [] false)) BadParameter (pos 4 ∷ pos 0 ∷ pos 0 ∷ [])
 refused317 = refl
 
-refused318 : Refuses (codes "EVTVARDLY") (fields (negsuc 0 ∷ []) [] (pos 5 ∷ []) [] [] [] 1 1 [] (pos 1 ∷ []) (negsuc 0 ∷ []) None) BadParameter (pos 1 ∷ pos 0 ∷ pos 1 ∷ [])
+refused318 : Refuses (codes "CONVERT") (fields (negsuc 0 ∷ []) [] (pos 5 ∷ []) (negsuc 0 ∷ []) [] (pos 5 ∷ []) 0 0 [] (pos 0 ∷ []) [] (each (false ∷ []) false)) BadParameter (pos 4 ∷ pos 1 ∷ pos 0 ∷ [])
 refused318 = refl
 
-refused319 : Refuses (codes "IFTHEL_f") (fields (negsuc 0 ∷ []) [] (pos 5 ∷ []) [] [] [] 0 2 [] (pos 1 ∷ []) [] None) BadParameter (pos 1 ∷ pos 0 ∷ pos 1 ∷ [])
+refused319 : Refuses (codes "CONVERT") (fields (negsuc 0 ∷ []) [] (pos 5 ∷ []) (negsuc 0 ∷ []) [] (pos 5 ∷ []) 0 0 [] (pos 0 ∷ []) [] (each (false ∷ []) false)) BadParameter (pos 4 ∷ pos 1 ∷ pos 0 ∷ [])
 refused319 = refl
 
-refused320 : Refuses (codes "ESELECT_f") (fields (negsuc 0 ∷ []) [] (pos 5 ∷ []) [] [] [] 0 3 [] (pos 1 ∷ []) [] None) BadParameter (pos 1 ∷ pos 0 ∷ pos 1 ∷ [])
+refused320 : Refuses (codes "MUX") (fields (negsuc 0 ∷ negsuc 0 ∷ []) [] (pos 5 ∷ pos 5 ∷ []) (negsuc 0 ∷ []) [] (pos 5 ∷ []) 0 0 [] [] [] (each (true ∷ true ∷ true ∷ []) false)) BadParameter (pos 4 ∷ pos 0 ∷ pos 3 ∷ [])
 refused320 = refl
 
-refused321 : Refuses (codes "HALT_f") (fields [] [] [] [] [] [] 1 0 [] (pos 1 ∷ []) [] None) BadParameter (pos 1 ∷ pos 0 ∷ pos 1 ∷ [])
+refused321 : Refuses (codes "MUX") (fields (negsuc 0 ∷ negsuc 0 ∷ []) [] (pos 5 ∷ pos 5 ∷ []) (negsuc 0 ∷ []) [] (pos 5 ∷ []) 0 0 [] [] [] (each (true ∷ []) false)) BadParameter (pos 4 ∷ pos 0 ∷ pos 1 ∷ [])
 refused321 = refl
 
-refused322 : Refuses (codes "EXTRACTOR") (fields (negsuc 0 ∷ []) [] (pos 5 ∷ []) (negsuc 0 ∷ []) [] (pos 5 ∷ []) 0 0 [] (many 257 (pos 1)) [] None) BadParameter (pos 1 ∷ pos 0 ∷ pos 257 ∷ [])
+refused322 : Refuses (codes "MUX") (fields (negsuc 0 ∷ negsuc 0 ∷ []) [] (pos 5 ∷ pos 5 ∷ []) (negsuc 0 ∷ []) [] (pos 5 ∷ []) 0 0 [] [] [] (each [] false)) BadParameter (pos 4 ∷ pos 0 ∷ pos 0 ∷ [])
 refused322 = refl
 
-refused323 : Refuses (codes "SUMMATION") (fields (negsuc 0 ∷ negsuc 0 ∷ []) [] (pos 5 ∷ pos 5 ∷ []) (negsuc 0 ∷ []) [] (pos 5 ∷ []) 0 0 [] (negsuc 0 ∷ pos 1 ∷ negsuc 0 ∷ []) [] None) BadParameter (pos 1 ∷ pos 1 ∷ negsuc 0 ∷ [])
+refused323 : Refuses (codes "MUX") (fields (negsuc 0 ∷ negsuc 0 ∷ []) [] (pos 5 ∷ pos 5 ∷ []) (negsuc 0 ∷ []) [] (pos 5 ∷ []) 0 0 [] [] [] (each (false ∷ true ∷ []) false)) BadParameter (pos 4 ∷ pos 1 ∷ pos 0 ∷ [])
 refused323 = refl
 
-refused324 : Refuses (codes "SUMMATION") (fields (negsuc 0 ∷ negsuc 0 ∷ []) [] (pos 5 ∷ pos 5 ∷ []) (negsuc 0 ∷ []) [] (pos 5 ∷ []) 0 0 [] (pos 3 ∷ pos 1 ∷ negsuc 0 ∷ []) [] None) BadParameter (pos 1 ∷ pos 1 ∷ pos 3 ∷ [])
+refused324 : Refuses (codes "MUX") (fields (negsuc 0 ∷ negsuc 0 ∷ []) [] (pos 5 ∷ pos 5 ∷ []) (negsuc 0 ∷ []) [] (pos 5 ∷ []) 0 0 [] [] [] (each (true ∷ false ∷ []) false)) BadParameter (pos 4 ∷ pos 2 ∷ pos 0 ∷ [])
 refused324 = refl
 
-refused325 : Refuses (codes "SUMMATION") (fields (negsuc 0 ∷ negsuc 0 ∷ []) [] (pos 5 ∷ pos 5 ∷ []) (negsuc 0 ∷ []) [] (pos 5 ∷ []) 0 0 [] (pos 0 ∷ pos 0 ∷ pos 1 ∷ []) [] None) BadParameter (pos 1 ∷ pos 2 ∷ pos 0 ∷ [])
+refused325 : Refuses (codes "MUX") (fields (negsuc 0 ∷ negsuc 0 ∷ []) [] (pos 5 ∷ pos 5 ∷ []) (negsuc 0 ∷ []) [] (pos 5 ∷ []) 0 0 [] [] [] (each (false ∷ false ∷ []) false)) BadParameter (pos 4 ∷ pos 1 ∷ pos 0 ∷ [])
 refused325 = refl
 
-refused326 : Refuses (codes "SUMMATION") (fields (negsuc 0 ∷ negsuc 0 ∷ []) [] (pos 5 ∷ pos 5 ∷ []) (negsuc 0 ∷ []) [] (pos 5 ∷ []) 0 0 [] (pos 0 ∷ pos 2 ∷ pos 1 ∷ []) [] None) BadParameter (pos 1 ∷ pos 2 ∷ pos 2 ∷ [])
+refused326 : Refuses (codes "DEMUX") (fields (negsuc 0 ∷ []) [] (pos 5 ∷ []) (negsuc 0 ∷ negsuc 0 ∷ []) [] (pos 5 ∷ pos 5 ∷ []) 0 0 [] [] [] (each (true ∷ true ∷ []) false)) BadParameter (pos 4 ∷ pos 0 ∷ pos 2 ∷ [])
 refused326 = refl
 
-refused327 : Refuses (codes "SUMMATION") (fields (negsuc 0 ∷ negsuc 0 ∷ []) [] (pos 5 ∷ pos 5 ∷ []) (negsuc 0 ∷ []) [] (pos 5 ∷ []) 0 0 [] (pos 0 ∷ negsuc 1 ∷ pos 1 ∷ []) [] None) BadParameter (pos 1 ∷ pos 2 ∷ negsuc 1 ∷ [])
+refused327 : Refuses (codes "DEMUX") (fields (negsuc 0 ∷ []) [] (pos 5 ∷ []) (negsuc 0 ∷ negsuc 0 ∷ []) [] (pos 5 ∷ pos 5 ∷ []) 0 0 [] [] [] (each [] false)) BadParameter (pos 4 ∷ pos 0 ∷ pos 0 ∷ [])
 refused327 = refl
 
-refused328 : Refuses (codes "SUMMATION") (fields (negsuc 0 ∷ negsuc 0 ∷ []) [] (pos 5 ∷ pos 5 ∷ []) (negsuc 0 ∷ []) [] (pos 5 ∷ []) 0 0 [] (pos 0 ∷ pos 1 ∷ pos 0 ∷ []) [] None) BadParameter (pos 1 ∷ pos 3 ∷ pos 0 ∷ [])
+refused328 : Refuses (codes "DEMUX") (fields (negsuc 0 ∷ []) [] (pos 5 ∷ []) (negsuc 0 ∷ negsuc 0 ∷ []) [] (pos 5 ∷ pos 5 ∷ []) 0 0 [] [] [] (each [] false)) BadParameter (pos 4 ∷ pos 0 ∷ pos 0 ∷ [])
 refused328 = refl
 
-refused329 : Refuses (codes "SUMMATION") (fields (negsuc 0 ∷ negsuc 0 ∷ []) [] (pos 5 ∷ pos 5 ∷ []) (negsuc 0 ∷ []) [] (pos 5 ∷ []) 0 0 [] (pos 0 ∷ pos 1 ∷ pos 2 ∷ []) [] None) BadParameter (pos 1 ∷ pos 3 ∷ pos 2 ∷ [])
+refused329 : Refuses (codes "DEMUX") (fields (negsuc 0 ∷ []) [] (pos 5 ∷ []) (negsuc 0 ∷ negsuc 0 ∷ []) [] (pos 5 ∷ pos 5 ∷ []) 0 0 [] [] [] (each (false ∷ []) false)) BadParameter (pos 4 ∷ pos 1 ∷ pos 0 ∷ [])
 refused329 = refl
 
-refused330 : Refuses (codes "SUMMATION") (fields (negsuc 0 ∷ negsuc 0 ∷ []) [] (pos 5 ∷ pos 5 ∷ []) (negsuc 0 ∷ []) [] (pos 5 ∷ []) 0 0 [] (pos 0 ∷ pos 1 ∷ negsuc 1 ∷ []) [] None) BadParameter (pos 1 ∷ pos 3 ∷ negsuc 1 ∷ [])
+refused330 : Refuses (codes "DEMUX") (fields (negsuc 0 ∷ []) [] (pos 5 ∷ []) (negsuc 0 ∷ negsuc 0 ∷ []) [] (pos 5 ∷ pos 5 ∷ []) 0 0 [] [] [] (each (false ∷ []) false)) BadParameter (pos 4 ∷ pos 1 ∷ pos 0 ∷ [])
 refused330 = refl
 
-refused331 : Refuses (codes "GAINBLK") (fields (negsuc 0 ∷ []) [] (pos 5 ∷ []) (negsuc 0 ∷ []) [] (pos 5 ∷ []) 0 0 [] (negsuc 0 ∷ pos 3 ∷ []) [] None) BadParameter (pos 1 ∷ pos 1 ∷ negsuc 0 ∷ [])
+refused331 : Refuses (codes "EXTRACTOR") (fields (negsuc 0 ∷ []) [] (pos 5 ∷ []) (negsuc 0 ∷ []) [] (pos 5 ∷ []) 0 0 [] (pos 2 ∷ pos 1 ∷ []) [] (each (true ∷ true ∷ []) false)) BadParameter (pos 4 ∷ pos 0 ∷ pos 2 ∷ [])
 refused331 = refl
 
-refused332 : Refuses (codes "GAINBLK") (fields (negsuc 0 ∷ []) [] (pos 5 ∷ []) (negsuc 0 ∷ []) [] (pos 5 ∷ []) 0 0 [] (pos 3 ∷ pos 3 ∷ []) [] None) BadParameter (pos 1 ∷ pos 1 ∷ pos 3 ∷ [])
+refused332 : Refuses (codes "EXTRACTOR") (fields (negsuc 0 ∷ []) [] (pos 5 ∷ []) (negsuc 0 ∷ []) [] (pos 5 ∷ []) 0 0 [] (pos 2 ∷ pos 1 ∷ []) [] (each [] false)) BadParameter (pos 4 ∷ pos 0 ∷ pos 0 ∷ [])
 refused332 = refl
 
-refused333 : Refuses (codes "PRODUCT") (fields (negsuc 0 ∷ negsuc 0 ∷ []) [] (pos 5 ∷ pos 5 ∷ []) (negsuc 0 ∷ []) [] (pos 5 ∷ []) 0 0 [] (negsuc 0 ∷ pos 1 ∷ []) [] None) BadParameter (pos 1 ∷ pos 1 ∷ negsuc 0 ∷ [])
+refused333 : Refuses (codes "EXTRACTOR") (fields (negsuc 0 ∷ []) [] (pos 5 ∷ []) (negsuc 0 ∷ []) [] (pos 5 ∷ []) 0 0 [] (pos 2 ∷ pos 1 ∷ []) [] (each [] false)) BadParameter (pos 4 ∷ pos 0 ∷ pos 0 ∷ [])
 refused333 = refl
 
-refused334 : Refuses (codes "PRODUCT") (fields (negsuc 0 ∷ negsuc 0 ∷ []) [] (pos 5 ∷ pos 5 ∷ []) (negsuc 0 ∷ []) [] (pos 5 ∷ []) 0 0 [] (pos 3 ∷ pos 1 ∷ []) [] None) BadParameter (pos 1 ∷ pos 1 ∷ pos 3 ∷ [])
+refused334 : Refuses (codes "EXTRACTOR") (fields (negsuc 0 ∷ []) [] (pos 5 ∷ []) (negsuc 0 ∷ []) [] (pos 5 ∷ []) 0 0 [] (pos 2 ∷ pos 1 ∷ []) [] (each (false ∷ []) false)) BadParameter (pos 4 ∷ pos 1 ∷ pos 0 ∷ [])
 refused334 = refl
 
-refused335 : Refuses (codes "PRODUCT") (fields (negsuc 0 ∷ negsuc 0 ∷ []) [] (pos 5 ∷ pos 5 ∷ []) (negsuc 0 ∷ []) [] (pos 5 ∷ []) 0 0 [] (pos 0 ∷ pos 0 ∷ []) [] None) BadParameter (pos 1 ∷ pos 2 ∷ pos 0 ∷ [])
+refused335 : Refuses (codes "EXTRACTOR") (fields (negsuc 0 ∷ []) [] (pos 5 ∷ []) (negsuc 0 ∷ []) [] (pos 5 ∷ []) 0 0 [] (pos 2 ∷ pos 1 ∷ []) [] (each (false ∷ []) false)) BadParameter (pos 4 ∷ pos 1 ∷ pos 0 ∷ [])
 refused335 = refl
 
-refused336 : Refuses (codes "PRODUCT") (fields (negsuc 0 ∷ negsuc 0 ∷ []) [] (pos 5 ∷ pos 5 ∷ []) (negsuc 0 ∷ []) [] (pos 5 ∷ []) 0 0 [] (pos 0 ∷ pos 2 ∷ []) [] None) BadParameter (pos 1 ∷ pos 2 ∷ pos 2 ∷ [])
+refused336 : Refuses (codes "LOGICAL_OP") (fields (negsuc 0 ∷ negsuc 0 ∷ []) [] (pos 5 ∷ pos 5 ∷ []) (negsuc 0 ∷ []) [] (pos 5 ∷ []) 0 0 [] (pos 0 ∷ pos 0 ∷ []) [] (each (true ∷ true ∷ true ∷ []) false)) BadParameter (pos 4 ∷ pos 0 ∷ pos 3 ∷ [])
 refused336 = refl
 
-refused337 : Refuses (codes "PRODUCT") (fields (negsuc 0 ∷ negsuc 0 ∷ []) [] (pos 5 ∷ pos 5 ∷ []) (negsuc 0 ∷ []) [] (pos 5 ∷ []) 0 0 [] (pos 0 ∷ negsuc 1 ∷ []) [] None) BadParameter (pos 1 ∷ pos 2 ∷ negsuc 1 ∷ [])
+refused337 : Refuses (codes "LOGICAL_OP") (fields (negsuc 0 ∷ negsuc 0 ∷ []) [] (pos 5 ∷ pos 5 ∷ []) (negsuc 0 ∷ []) [] (pos 5 ∷ []) 0 0 [] (pos 0 ∷ pos 0 ∷ []) [] (each (true ∷ []) false)) BadParameter (pos 4 ∷ pos 0 ∷ pos 1 ∷ [])
 refused337 = refl
 
-refused338 : Refuses (codes "ABS_VALUE") (fields (negsuc 0 ∷ []) [] (pos 5 ∷ []) (negsuc 0 ∷ []) [] (pos 5 ∷ []) 0 0 [] (negsuc 0 ∷ []) [] None) BadParameter (pos 1 ∷ pos 1 ∷ negsuc 0 ∷ [])
+refused338 : Refuses (codes "LOGICAL_OP") (fields (negsuc 0 ∷ negsuc 0 ∷ []) [] (pos 5 ∷ pos 5 ∷ []) (negsuc 0 ∷ []) [] (pos 5 ∷ []) 0 0 [] (pos 0 ∷ pos 0 ∷ []) [] (each [] false)) BadParameter (pos 4 ∷ pos 0 ∷ pos 0 ∷ [])
 refused338 = refl
 
-refused339 : Refuses (codes "ABS_VALUE") (fields (negsuc 0 ∷ []) [] (pos 5 ∷ []) (negsuc 0 ∷ []) [] (pos 5 ∷ []) 0 0 [] (pos 3 ∷ []) [] None) BadParameter (pos 1 ∷ pos 1 ∷ pos 3 ∷ [])
+refused339 : Refuses (codes "LOGICAL_OP") (fields (negsuc 0 ∷ negsuc 0 ∷ []) [] (pos 5 ∷ pos 5 ∷ []) (negsuc 0 ∷ []) [] (pos 5 ∷ []) 0 0 [] (pos 0 ∷ pos 0 ∷ []) [] (each (false ∷ true ∷ []) false)) BadParameter (pos 4 ∷ pos 1 ∷ pos 0 ∷ [])
 refused339 = refl
 
-refused340 : Refuses (codes "MAXMIN") (fields (negsuc 0 ∷ negsuc 0 ∷ []) [] (pos 5 ∷ pos 5 ∷ []) (negsuc 0 ∷ []) [] (pos 5 ∷ []) 0 0 [] (pos 0 ∷ []) [] None) BadParameter (pos 1 ∷ pos 1 ∷ pos 0 ∷ [])
+refused340 : Refuses (codes "LOGICAL_OP") (fields (negsuc 0 ∷ negsuc 0 ∷ []) [] (pos 5 ∷ pos 5 ∷ []) (negsuc 0 ∷ []) [] (pos 5 ∷ []) 0 0 [] (pos 0 ∷ pos 0 ∷ []) [] (each (true ∷ false ∷ []) false)) BadParameter (pos 4 ∷ pos 2 ∷ pos 0 ∷ [])
 refused340 = refl
 
-refused341 : Refuses (codes "MAXMIN") (fields (negsuc 0 ∷ negsuc 0 ∷ []) [] (pos 5 ∷ pos 5 ∷ []) (negsuc 0 ∷ []) [] (pos 5 ∷ []) 0 0 [] (pos 3 ∷ []) [] None) BadParameter (pos 1 ∷ pos 1 ∷ pos 3 ∷ [])
+refused341 : Refuses (codes "LOGICAL_OP") (fields (negsuc 0 ∷ negsuc 0 ∷ []) [] (pos 5 ∷ pos 5 ∷ []) (negsuc 0 ∷ []) [] (pos 5 ∷ []) 0 0 [] (pos 0 ∷ pos 0 ∷ []) [] (each (false ∷ false ∷ []) false)) BadParameter (pos 4 ∷ pos 1 ∷ pos 0 ∷ [])
 refused341 = refl
 
-refused342 : Refuses (codes "SATURATION") (fields (negsuc 0 ∷ []) [] (pos 5 ∷ []) (negsuc 0 ∷ []) [] (pos 5 ∷ []) 0 0 [] (pos 5 ∷ pos 4 ∷ []) [] None) BadParameter (pos 1 ∷ pos 2 ∷ pos 4 ∷ [])
+refused342 : Refuses (codes "RELATIONALOP") (fields (negsuc 0 ∷ negsuc 0 ∷ []) [] (pos 5 ∷ pos 5 ∷ []) (negsuc 0 ∷ []) [] (pos 5 ∷ []) 0 0 [] (pos 0 ∷ []) [] (each (true ∷ true ∷ true ∷ []) false)) BadParameter (pos 4 ∷ pos 0 ∷ pos 3 ∷ [])
 refused342 = refl
 
-refused343 : Refuses (codes "DEADBAND") (fields (negsuc 0 ∷ []) [] (pos 5 ∷ []) (negsuc 0 ∷ []) [] (pos 5 ∷ []) 0 0 [] (negsuc 0 ∷ negsuc 4 ∷ pos 5 ∷ []) [] None) BadParameter (pos 1 ∷ pos 1 ∷ negsuc 0 ∷ [])
+refused343 : Refuses (codes "RELATIONALOP") (fields (negsuc 0 ∷ negsuc 0 ∷ []) [] (pos 5 ∷ pos 5 ∷ []) (negsuc 0 ∷ []) [] (pos 5 ∷ []) 0 0 [] (pos 0 ∷ []) [] (each (true ∷ []) false)) BadParameter (pos 4 ∷ pos 0 ∷ pos 1 ∷ [])
 refused343 = refl
 
-refused344 : Refuses (codes "DEADBAND") (fields (negsuc 0 ∷ []) [] (pos 5 ∷ []) (negsuc 0 ∷ []) [] (pos 5 ∷ []) 0 0 [] (pos 3 ∷ negsuc 4 ∷ pos 5 ∷ []) [] None) BadParameter (pos 1 ∷ pos 1 ∷ pos 3 ∷ [])
+refused344 : Refuses (codes "RELATIONALOP") (fields (negsuc 0 ∷ negsuc 0 ∷ []) [] (pos 5 ∷ pos 5 ∷ []) (negsuc 0 ∷ []) [] (pos 5 ∷ []) 0 0 [] (pos 0 ∷ []) [] (each [] false)) BadParameter (pos 4 ∷ pos 0 ∷ pos 0 ∷ [])
 refused344 = refl
 
-refused345 : Refuses (codes "DEADBAND") (fields (negsuc 0 ∷ []) [] (pos 5 ∷ []) (negsuc 0 ∷ []) [] (pos 5 ∷ []) 0 0 [] (pos 0 ∷ pos 5 ∷ pos 4 ∷ []) [] None) BadParameter (pos 1 ∷ pos 3 ∷ pos 4 ∷ [])
+refused345 : Refuses (codes "RELATIONALOP") (fields (negsuc 0 ∷ negsuc 0 ∷ []) [] (pos 5 ∷ pos 5 ∷ []) (negsuc 0 ∷ []) [] (pos 5 ∷ []) 0 0 [] (pos 0 ∷ []) [] (each (false ∷ true ∷ []) false)) BadParameter (pos 4 ∷ pos 1 ∷ pos 0 ∷ [])
 refused345 = refl
 
-refused346 : Refuses (codes "DEADBAND") (fields (negsuc 0 ∷ []) [] (pos 5 ∷ []) (negsuc 0 ∷ []) [] (pos 5 ∷ []) 0 0 [] (pos 3 ∷ pos 5 ∷ pos 4 ∷ []) [] None) BadParameter (pos 1 ∷ pos 1 ∷ pos 3 ∷ [])
+refused346 : Refuses (codes "RELATIONALOP") (fields (negsuc 0 ∷ negsuc 0 ∷ []) [] (pos 5 ∷ pos 5 ∷ []) (negsuc 0 ∷ []) [] (pos 5 ∷ []) 0 0 [] (pos 0 ∷ []) [] (each (true ∷ false ∷ []) false)) BadParameter (pos 4 ∷ pos 2 ∷ pos 0 ∷ [])
 refused346 = refl
 
-refused347 : Refuses (codes "CONVERT") (fields (negsuc 0 ∷ []) [] (pos 5 ∷ []) (negsuc 0 ∷ []) [] (pos 5 ∷ []) 0 0 [] (negsuc 0 ∷ []) [] None) BadParameter (pos 1 ∷ pos 1 ∷ negsuc 0 ∷ [])
+refused347 : Refuses (codes "RELATIONALOP") (fields (negsuc 0 ∷ negsuc 0 ∷ []) [] (pos 5 ∷ pos 5 ∷ []) (negsuc 0 ∷ []) [] (pos 5 ∷ []) 0 0 [] (pos 0 ∷ []) [] (each (false ∷ false ∷ []) false)) BadParameter (pos 4 ∷ pos 1 ∷ pos 0 ∷ [])
 refused347 = refl
 
-refused348 : Refuses (codes "CONVERT") (fields (negsuc 0 ∷ []) [] (pos 5 ∷ []) (negsuc 0 ∷ []) [] (pos 5 ∷ []) 0 0 [] (pos 3 ∷ []) [] None) BadParameter (pos 1 ∷ pos 1 ∷ pos 3 ∷ [])
+refused348 : Refuses (codes "SHIFT") (fields (negsuc 0 ∷ []) [] (pos 5 ∷ []) (negsuc 0 ∷ []) [] (pos 5 ∷ []) 0 0 [] (pos 3 ∷ pos 0 ∷ []) [] (each (true ∷ true ∷ []) false)) BadParameter (pos 4 ∷ pos 0 ∷ pos 2 ∷ [])
 refused348 = refl
 
-refused349 : Refuses (codes "EXTRACTOR") (fields (negsuc 0 ∷ []) [] (pos 5 ∷ []) (negsuc 0 ∷ []) [] (pos 5 ∷ []) 0 0 [] (pos 1 ∷ pos 0 ∷ negsuc 0 ∷ []) [] None) BadParameter (pos 1 ∷ pos 2 ∷ pos 0 ∷ [])
+refused349 : Refuses (codes "SHIFT") (fields (negsuc 0 ∷ []) [] (pos 5 ∷ []) (negsuc 0 ∷ []) [] (pos 5 ∷ []) 0 0 [] (pos 3 ∷ pos 0 ∷ []) [] (each [] false)) BadParameter (pos 4 ∷ pos 0 ∷ pos 0 ∷ [])
 refused349 = refl
 
-refused350 : Refuses (codes "EXTRACTOR") (fields (negsuc 0 ∷ []) [] (pos 5 ∷ []) (negsuc 0 ∷ []) [] (pos 5 ∷ []) 0 0 [] (negsuc 2 ∷ []) [] None) BadParameter (pos 1 ∷ pos 1 ∷ negsuc 2 ∷ [])
+refused350 : Refuses (codes "SHIFT") (fields (negsuc 0 ∷ []) [] (pos 5 ∷ []) (negsuc 0 ∷ []) [] (pos 5 ∷ []) 0 0 [] (pos 3 ∷ pos 0 ∷ []) [] (each [] false)) BadParameter (pos 4 ∷ pos 0 ∷ pos 0 ∷ [])
 refused350 = refl
 
-refused351 : Refuses (codes "LOGICAL_OP") (fields (negsuc 0 ∷ negsuc 0 ∷ []) [] (pos 5 ∷ pos 5 ∷ []) (negsuc 0 ∷ []) [] (pos 5 ∷ []) 0 0 [] (negsuc 0 ∷ pos 0 ∷ []) [] None) BadParameter (pos 1 ∷ pos 1 ∷ negsuc 0 ∷ [])
+refused351 : Refuses (codes "SHIFT") (fields (negsuc 0 ∷ []) [] (pos 5 ∷ []) (negsuc 0 ∷ []) [] (pos 5 ∷ []) 0 0 [] (pos 3 ∷ pos 0 ∷ []) [] (each (false ∷ []) false)) BadParameter (pos 4 ∷ pos 1 ∷ pos 0 ∷ [])
 refused351 = refl
 
-refused352 : Refuses (codes "LOGICAL_OP") (fields (negsuc 0 ∷ negsuc 0 ∷ []) [] (pos 5 ∷ pos 5 ∷ []) (negsuc 0 ∷ []) [] (pos 5 ∷ []) 0 0 [] (pos 5 ∷ pos 0 ∷ []) [] None) BadParameter (pos 1 ∷ pos 1 ∷ pos 5 ∷ [])
+refused352 : Refuses (codes "SHIFT") (fields (negsuc 0 ∷ []) [] (pos 5 ∷ []) (negsuc 0 ∷ []) [] (pos 5 ∷ []) 0 0 [] (pos 3 ∷ pos 0 ∷ []) [] (each (false ∷ []) false)) BadParameter (pos 4 ∷ pos 1 ∷ pos 0 ∷ [])
 refused352 = refl
 
-refused353 : Refuses (codes "LOGICAL_OP") (fields (negsuc 0 ∷ negsuc 0 ∷ []) [] (pos 5 ∷ pos 5 ∷ []) (negsuc 0 ∷ []) [] (pos 5 ∷ []) 0 0 [] (pos 6 ∷ pos 2 ∷ []) [] None) BadParameter (pos 1 ∷ pos 1 ∷ pos 6 ∷ [])
+refused353 : Refuses (codes "BITSET") (fields (negsuc 0 ∷ []) [] (pos 5 ∷ []) (negsuc 0 ∷ []) [] (pos 5 ∷ []) 0 0 [] (pos 3 ∷ []) [] (each (true ∷ true ∷ []) false)) BadParameter (pos 4 ∷ pos 0 ∷ pos 2 ∷ [])
 refused353 = refl
 
-refused354 : Refuses (codes "LOGICAL_OP") (fields (negsuc 0 ∷ []) [] (pos 5 ∷ []) (negsuc 0 ∷ []) [] (pos 5 ∷ []) 0 0 [] (pos 4 ∷ pos 1 ∷ []) [] None) BadParameter (pos 1 ∷ pos 1 ∷ pos 4 ∷ [])
+refused354 : Refuses (codes "BITSET") (fields (negsuc 0 ∷ []) [] (pos 5 ∷ []) (negsuc 0 ∷ []) [] (pos 5 ∷ []) 0 0 [] (pos 3 ∷ []) [] (each [] false)) BadParameter (pos 4 ∷ pos 0 ∷ pos 0 ∷ [])
 refused354 = refl
 
-refused355 : Refuses (codes "LOGICAL_OP") (fields (negsuc 0 ∷ []) [] (pos 5 ∷ []) (negsuc 0 ∷ []) [] (pos 5 ∷ []) 0 0 [] (pos 6 ∷ pos 1 ∷ []) [] None) BadParameter (pos 1 ∷ pos 1 ∷ pos 6 ∷ [])
+refused355 : Refuses (codes "BITSET") (fields (negsuc 0 ∷ []) [] (pos 5 ∷ []) (negsuc 0 ∷ []) [] (pos 5 ∷ []) 0 0 [] (pos 3 ∷ []) [] (each [] false)) BadParameter (pos 4 ∷ pos 0 ∷ pos 0 ∷ [])
 refused355 = refl
 
-refused356 : Refuses (codes "LOGICAL_OP") (fields (negsuc 0 ∷ negsuc 0 ∷ []) [] (pos 5 ∷ pos 5 ∷ []) (negsuc 0 ∷ []) [] (pos 5 ∷ []) 0 0 [] (pos 4 ∷ negsuc 0 ∷ []) [] None) BadParameter (pos 1 ∷ pos 2 ∷ negsuc 0 ∷ [])
+refused356 : Refuses (codes "BITSET") (fields (negsuc 0 ∷ []) [] (pos 5 ∷ []) (negsuc 0 ∷ []) [] (pos 5 ∷ []) 0 0 [] (pos 3 ∷ []) [] (each (false ∷ []) false)) BadParameter (pos 4 ∷ pos 1 ∷ pos 0 ∷ [])
 refused356 = refl
 
-refused357 : Refuses (codes "LOGICAL_OP") (fields (negsuc 0 ∷ negsuc 0 ∷ []) [] (pos 5 ∷ pos 5 ∷ []) (negsuc 0 ∷ []) [] (pos 5 ∷ []) 0 0 [] (pos 4 ∷ pos 2 ∷ []) [] None) BadParameter (pos 1 ∷ pos 2 ∷ pos 2 ∷ [])
+refused357 : Refuses (codes "BITSET") (fields (negsuc 0 ∷ []) [] (pos 5 ∷ []) (negsuc 0 ∷ []) [] (pos 5 ∷ []) 0 0 [] (pos 3 ∷ []) [] (each (false ∷ []) false)) BadParameter (pos 4 ∷ pos 1 ∷ pos 0 ∷ [])
 refused357 = refl
 
-refused358 : Refuses (codes "RELATIONALOP") (fields (negsuc 0 ∷ negsuc 0 ∷ []) [] (pos 5 ∷ pos 5 ∷ []) (negsuc 0 ∷ []) [] (pos 5 ∷ []) 0 0 [] (negsuc 0 ∷ []) [] None) BadParameter (pos 1 ∷ pos 1 ∷ negsuc 0 ∷ [])
+refused358 : Refuses (codes "BITCLEAR") (fields (negsuc 0 ∷ []) [] (pos 5 ∷ []) (negsuc 0 ∷ []) [] (pos 5 ∷ []) 0 0 [] (pos 3 ∷ []) [] (each (true ∷ true ∷ []) false)) BadParameter (pos 4 ∷ pos 0 ∷ pos 2 ∷ [])
 refused358 = refl
 
-refused359 : Refuses (codes "RELATIONALOP") (fields (negsuc 0 ∷ negsuc 0 ∷ []) [] (pos 5 ∷ pos 5 ∷ []) (negsuc 0 ∷ []) [] (pos 5 ∷ []) 0 0 [] (pos 6 ∷ []) [] None) BadParameter (pos 1 ∷ pos 1 ∷ pos 6 ∷ [])
+refused359 : Refuses (codes "BITCLEAR") (fields (negsuc 0 ∷ []) [] (pos 5 ∷ []) (negsuc 0 ∷ []) [] (pos 5 ∷ []) 0 0 [] (pos 3 ∷ []) [] (each [] false)) BadParameter (pos 4 ∷ pos 0 ∷ pos 0 ∷ [])
 refused359 = refl
 
-refused360 : Refuses (codes "SHIFT") (fields (negsuc 0 ∷ []) [] (pos 5 ∷ []) (negsuc 0 ∷ []) [] (pos 5 ∷ []) 0 0 [] (negsuc 31 ∷ pos 0 ∷ []) [] None) BadParameter (pos 1 ∷ pos 1 ∷ negsuc 31 ∷ [])
+refused360 : Refuses (codes "BITCLEAR") (fields (negsuc 0 ∷ []) [] (pos 5 ∷ []) (negsuc 0 ∷ []) [] (pos 5 ∷ []) 0 0 [] (pos 3 ∷ []) [] (each [] false)) BadParameter (pos 4 ∷ pos 0 ∷ pos 0 ∷ [])
 refused360 = refl
 
-refused361 : Refuses (codes "SHIFT") (fields (negsuc 0 ∷ []) [] (pos 5 ∷ []) (negsuc 0 ∷ []) [] (pos 5 ∷ []) 0 0 [] (pos 32 ∷ pos 0 ∷ []) [] None) BadParameter (pos 1 ∷ pos 1 ∷ pos 32 ∷ [])
+refused361 : Refuses (codes "BITCLEAR") (fields (negsuc 0 ∷ []) [] (pos 5 ∷ []) (negsuc 0 ∷ []) [] (pos 5 ∷ []) 0 0 [] (pos 3 ∷ []) [] (each (false ∷ []) false)) BadParameter (pos 4 ∷ pos 1 ∷ pos 0 ∷ [])
 refused361 = refl
 
-refused362 : Refuses (codes "SHIFT") (fields (negsuc 0 ∷ []) [] (pos 5 ∷ []) (negsuc 0 ∷ []) [] (pos 5 ∷ []) 0 0 [] (negsuc 30 ∷ negsuc 0 ∷ []) [] None) BadParameter (pos 1 ∷ pos 2 ∷ negsuc 0 ∷ [])
+refused362 : Refuses (codes "BITCLEAR") (fields (negsuc 0 ∷ []) [] (pos 5 ∷ []) (negsuc 0 ∷ []) [] (pos 5 ∷ []) 0 0 [] (pos 3 ∷ []) [] (each (false ∷ []) false)) BadParameter (pos 4 ∷ pos 1 ∷ pos 0 ∷ [])
 refused362 = refl
 
-refused363 : Refuses (codes "SHIFT") (fields (negsuc 0 ∷ []) [] (pos 5 ∷ []) (negsuc 0 ∷ []) [] (pos 5 ∷ []) 0 0 [] (negsuc 30 ∷ pos 2 ∷ []) [] None) BadParameter (pos 1 ∷ pos 2 ∷ pos 2 ∷ [])
+refused363 : Refuses (codes "EXTRACTBITS") (fields (negsuc 0 ∷ []) [] (pos 5 ∷ []) (negsuc 0 ∷ []) [] (pos 5 ∷ []) 0 0 [] (pos 1 ∷ pos 3 ∷ []) [] (each (true ∷ true ∷ []) false)) BadParameter (pos 4 ∷ pos 0 ∷ pos 2 ∷ [])
 refused363 = refl
 
-refused364 : Refuses (codes "BITSET") (fields (negsuc 0 ∷ []) [] (pos 5 ∷ []) (negsuc 0 ∷ []) [] (pos 5 ∷ []) 0 0 [] (negsuc 0 ∷ []) [] None) BadParameter (pos 1 ∷ pos 1 ∷ negsuc 0 ∷ [])
+refused364 : Refuses (codes "EXTRACTBITS") (fields (negsuc 0 ∷ []) [] (pos 5 ∷ []) (negsuc 0 ∷ []) [] (pos 5 ∷ []) 0 0 [] (pos 1 ∷ pos 3 ∷ []) [] (each [] false)) BadParameter (pos 4 ∷ pos 0 ∷ pos 0 ∷ [])
 refused364 = refl
 
-refused365 : Refuses (codes "BITSET") (fields (negsuc 0 ∷ []) [] (pos 5 ∷ []) (negsuc 0 ∷ []) [] (pos 5 ∷ []) 0 0 [] (pos 32 ∷ []) [] None) BadParameter (pos 1 ∷ pos 1 ∷ pos 32 ∷ [])
+refused365 : Refuses (codes "EXTRACTBITS") (fields (negsuc 0 ∷ []) [] (pos 5 ∷ []) (negsuc 0 ∷ []) [] (pos 5 ∷ []) 0 0 [] (pos 1 ∷ pos 3 ∷ []) [] (each [] false)) BadParameter (pos 4 ∷ pos 0 ∷ pos 0 ∷ [])
 refused365 = refl
 
-refused366 : Refuses (codes "BITCLEAR") (fields (negsuc 0 ∷ []) [] (pos 5 ∷ []) (negsuc 0 ∷ []) [] (pos 5 ∷ []) 0 0 [] (negsuc 0 ∷ []) [] None) BadParameter (pos 1 ∷ pos 1 ∷ negsuc 0 ∷ [])
+refused366 : Refuses (codes "EXTRACTBITS") (fields (negsuc 0 ∷ []) [] (pos 5 ∷ []) (negsuc 0 ∷ []) [] (pos 5 ∷ []) 0 0 [] (pos 1 ∷ pos 3 ∷ []) [] (each (false ∷ []) false)) BadParameter (pos 4 ∷ pos 1 ∷ pos 0 ∷ [])
 refused366 = refl
 
-refused367 : Refuses (codes "BITCLEAR") (fields (negsuc 0 ∷ []) [] (pos 5 ∷ []) (negsuc 0 ∷ []) [] (pos 5 ∷ []) 0 0 [] (pos 32 ∷ []) [] None) BadParameter (pos 1 ∷ pos 1 ∷ pos 32 ∷ [])
+refused367 : Refuses (codes "EXTRACTBITS") (fields (negsuc 0 ∷ []) [] (pos 5 ∷ []) (negsuc 0 ∷ []) [] (pos 5 ∷ []) 0 0 [] (pos 1 ∷ pos 3 ∷ []) [] (each (false ∷ []) false)) BadParameter (pos 4 ∷ pos 1 ∷ pos 0 ∷ [])
 refused367 = refl
 
-refused368 : Refuses (codes "EXTRACTBITS") (fields (negsuc 0 ∷ []) [] (pos 5 ∷ []) (negsuc 0 ∷ []) [] (pos 5 ∷ []) 0 0 [] (negsuc 0 ∷ pos 0 ∷ []) [] None) BadParameter (pos 1 ∷ pos 1 ∷ negsuc 0 ∷ [])
+refused368 : Refuses (codes "SWITCH2_m") (fields (negsuc 0 ∷ negsuc 0 ∷ negsuc 0 ∷ []) [] (pos 5 ∷ pos 5 ∷ pos 5 ∷ []) (negsuc 0 ∷ []) [] (pos 5 ∷ []) 0 0 [] (pos 0 ∷ pos 0 ∷ []) [] (each (true ∷ true ∷ true ∷ true ∷ []) false)) BadParameter (pos 4 ∷ pos 0 ∷ pos 4 ∷ [])
 refused368 = refl
 
-refused369 : Refuses (codes "EXTRACTBITS") (fields (negsuc 0 ∷ []) [] (pos 5 ∷ []) (negsuc 0 ∷ []) [] (pos 5 ∷ []) 0 0 [] (pos 32 ∷ pos 32 ∷ []) [] None) BadParameter (pos 1 ∷ pos 1 ∷ pos 32 ∷ [])
+refused369 : Refuses (codes "SWITCH2_m") (fields (negsuc 0 ∷ negsuc 0 ∷ negsuc 0 ∷ []) [] (pos 5 ∷ pos 5 ∷ pos 5 ∷ []) (negsuc 0 ∷ []) [] (pos 5 ∷ []) 0 0 [] (pos 0 ∷ pos 0 ∷ []) [] (each (true ∷ true ∷ []) false)) BadParameter (pos 4 ∷ pos 0 ∷ pos 2 ∷ [])
 refused369 = refl
 
-refused370 : Refuses (codes "EXTRACTBITS") (fields (negsuc 0 ∷ []) [] (pos 5 ∷ []) (negsuc 0 ∷ []) [] (pos 5 ∷ []) 0 0 [] (pos 31 ∷ pos 32 ∷ []) [] None) BadParameter (pos 1 ∷ pos 2 ∷ pos 32 ∷ [])
+refused370 : Refuses (codes "SWITCH2_m") (fields (negsuc 0 ∷ negsuc 0 ∷ negsuc 0 ∷ []) [] (pos 5 ∷ pos 5 ∷ pos 5 ∷ []) (negsuc 0 ∷ []) [] (pos 5 ∷ []) 0 0 [] (pos 0 ∷ pos 0 ∷ []) [] (each [] false)) BadParameter (pos 4 ∷ pos 0 ∷ pos 0 ∷ [])
 refused370 = refl
 
-refused371 : Refuses (codes "EXTRACTBITS") (fields (negsuc 0 ∷ []) [] (pos 5 ∷ []) (negsuc 0 ∷ []) [] (pos 5 ∷ []) 0 0 [] (pos 4 ∷ pos 3 ∷ []) [] None) BadParameter (pos 1 ∷ pos 2 ∷ pos 3 ∷ [])
+refused371 : Refuses (codes "SWITCH2_m") (fields (negsuc 0 ∷ negsuc 0 ∷ negsuc 0 ∷ []) [] (pos 5 ∷ pos 5 ∷ pos 5 ∷ []) (negsuc 0 ∷ []) [] (pos 5 ∷ []) 0 0 [] (pos 0 ∷ pos 0 ∷ []) [] (each (false ∷ true ∷ true ∷ []) false)) BadParameter (pos 4 ∷ pos 1 ∷ pos 0 ∷ [])
 refused371 = refl
 
-refused372 : Refuses (codes "SWITCH2_m") (fields (negsuc 0 ∷ negsuc 0 ∷ negsuc 0 ∷ []) [] (pos 5 ∷ pos 5 ∷ pos 5 ∷ []) (negsuc 0 ∷ []) [] (pos 5 ∷ []) 0 0 [] (negsuc 0 ∷ pos 0 ∷ []) [] None) BadParameter (pos 1 ∷ pos 1 ∷ negsuc 0 ∷ [])
+refused372 : Refuses (codes "SWITCH2_m") (fields (negsuc 0 ∷ negsuc 0 ∷ negsuc 0 ∷ []) [] (pos 5 ∷ pos 5 ∷ pos 5 ∷ []) (negsuc 0 ∷ []) [] (pos 5 ∷ []) 0 0 [] (pos 0 ∷ pos 0 ∷ []) [] (each (true ∷ false ∷ true ∷ []) false)) BadParameter (pos 4 ∷ pos 2 ∷ pos 0 ∷ [])
 refused372 = refl
 
-refused373 : Refuses (codes "SWITCH2_m") (fields (negsuc 0 ∷ negsuc 0 ∷ negsuc 0 ∷ []) [] (pos 5 ∷ pos 5 ∷ pos 5 ∷ []) (negsuc 0 ∷ []) [] (pos 5 ∷ []) 0 0 [] (pos 3 ∷ pos 0 ∷ []) [] None) BadParameter (pos 1 ∷ pos 1 ∷ pos 3 ∷ [])
+refused373 : Refuses (codes "SWITCH2_m") (fields (negsuc 0 ∷ negsuc 0 ∷ negsuc 0 ∷ []) [] (pos 5 ∷ pos 5 ∷ pos 5 ∷ []) (negsuc 0 ∷ []) [] (pos 5 ∷ []) 0 0 [] (pos 0 ∷ pos 0 ∷ []) [] (each (true ∷ true ∷ false ∷ []) false)) BadParameter (pos 4 ∷ pos 3 ∷ pos 0 ∷ [])
 refused373 = refl
 
-refused374 : Refuses (codes "SWITCH2_m") (fields (negsuc 0 ∷ negsuc 0 ∷ negsuc 0 ∷ []) [] (pos 5 ∷ pos 5 ∷ pos 5 ∷ []) (negsuc 0 ∷ []) [] (pos 5 ∷ []) 0 0 [] (pos 0 ∷ negsuc 2147483648 ∷ []) [] None) BadParameter (pos 1 ∷ pos 2 ∷ negsuc 2147483648 ∷ [])
+refused374 : Refuses (codes "SWITCH2_m") (fields (negsuc 0 ∷ negsuc 0 ∷ negsuc 0 ∷ []) [] (pos 5 ∷ pos 5 ∷ pos 5 ∷ []) (negsuc 0 ∷ []) [] (pos 5 ∷ []) 0 0 [] (pos 0 ∷ pos 0 ∷ []) [] (each (false ∷ false ∷ false ∷ []) false)) BadParameter (pos 4 ∷ pos 1 ∷ pos 0 ∷ [])
 refused374 = refl
 
-refused375 : Refuses (codes "SWITCH2_m") (fields (negsuc 0 ∷ negsuc 0 ∷ negsuc 0 ∷ []) [] (pos 5 ∷ pos 5 ∷ pos 5 ∷ []) (negsuc 0 ∷ []) [] (pos 5 ∷ []) 0 0 [] (pos 0 ∷ pos 4294967296 ∷ []) [] None) BadParameter (pos 1 ∷ pos 2 ∷ pos 4294967296 ∷ [])
+refused375 : Refuses (codes "SELECT_m") (fields (negsuc 0 ∷ negsuc 0 ∷ negsuc 0 ∷ []) [] (pos 5 ∷ pos 5 ∷ pos 5 ∷ []) (negsuc 0 ∷ []) [] (pos 5 ∷ []) 3 0 [] [] [] (each (true ∷ true ∷ true ∷ true ∷ []) false)) BadParameter (pos 4 ∷ pos 0 ∷ pos 4 ∷ [])
 refused375 = refl
 
-refused376 : Refuses (codes "LOGIC") (fields (negsuc 0 ∷ negsuc 0 ∷ []) [] (pos 5 ∷ pos 5 ∷ []) (negsuc 0 ∷ []) [] (pos 5 ∷ []) 0 0 [] (pos 0 ∷ pos 1 ∷ pos 2 ∷ negsuc 0 ∷ []) [] None) BadParameter (pos 1 ∷ pos 3 ∷ pos 2 ∷ [])
+refused376 : Refuses (codes "SELECT_m") (fields (negsuc 0 ∷ negsuc 0 ∷ negsuc 0 ∷ []) [] (pos 5 ∷ pos 5 ∷ pos 5 ∷ []) (negsuc 0 ∷ []) [] (pos 5 ∷ []) 3 0 [] [] [] (each (true ∷ true ∷ []) false)) BadParameter (pos 4 ∷ pos 0 ∷ pos 2 ∷ [])
 refused376 = refl
 
-refused377 : Refuses (codes "LOGIC") (fields (negsuc 0 ∷ negsuc 0 ∷ []) [] (pos 5 ∷ pos 5 ∷ []) (negsuc 0 ∷ []) [] (pos 5 ∷ []) 0 0 [] (negsuc 0 ∷ pos 1 ∷ pos 2 ∷ pos 1 ∷ []) [] None) BadParameter (pos 1 ∷ pos 1 ∷ negsuc 0 ∷ [])
+refused377 : Refuses (codes "SELECT_m") (fields (negsuc 0 ∷ negsuc 0 ∷ negsuc 0 ∷ []) [] (pos 5 ∷ pos 5 ∷ pos 5 ∷ []) (negsuc 0 ∷ []) [] (pos 5 ∷ []) 3 0 [] [] [] (each [] false)) BadParameter (pos 4 ∷ pos 0 ∷ pos 0 ∷ [])
 refused377 = refl
 
-refused378 : Refuses (codes "LOGIC") (fields (negsuc 0 ∷ negsuc 0 ∷ []) [] (pos 5 ∷ pos 5 ∷ []) (negsuc 0 ∷ negsuc 0 ∷ []) [] (pos 5 ∷ pos 5 ∷ []) 0 0 [] (pos 0 ∷ pos 0 ∷ pos 0 ∷ pos 1 ∷ []) [] None) BadParameter (pos 1 ∷ pos 0 ∷ pos 4 ∷ [])
+refused378 : Refuses (codes "SELECT_m") (fields (negsuc 0 ∷ negsuc 0 ∷ negsuc 0 ∷ []) [] (pos 5 ∷ pos 5 ∷ pos 5 ∷ []) (negsuc 0 ∷ []) [] (pos 5 ∷ []) 3 0 [] [] [] (each (false ∷ true ∷ true ∷ []) false)) BadParameter (pos 4 ∷ pos 1 ∷ pos 0 ∷ [])
 refused378 = refl
 
-refused379 : Refuses (codes "Modulo_Count") (fields [] [] [] (negsuc 0 ∷ []) [] (pos 5 ∷ []) 1 0 (pos 0 ∷ []) (pos 0 ∷ []) [] None) BadParameter (pos 1 ∷ pos 1 ∷ pos 0 ∷ [])
+refused379 : Refuses (codes "SELECT_m") (fields (negsuc 0 ∷ negsuc 0 ∷ negsuc 0 ∷ []) [] (pos 5 ∷ pos 5 ∷ pos 5 ∷ []) (negsuc 0 ∷ []) [] (pos 5 ∷ []) 3 0 [] [] [] (each (true ∷ false ∷ true ∷ []) false)) BadParameter (pos 4 ∷ pos 2 ∷ pos 0 ∷ [])
 refused379 = refl
 
-refused380 : Refuses (codes "Modulo_Count") (fields [] [] [] (negsuc 0 ∷ []) [] (pos 5 ∷ []) 1 0 (pos 0 ∷ []) (pos 2147483648 ∷ []) [] None) BadParameter (pos 1 ∷ pos 1 ∷ pos 2147483648 ∷ [])
+refused380 : Refuses (codes "SELECT_m") (fields (negsuc 0 ∷ negsuc 0 ∷ negsuc 0 ∷ []) [] (pos 5 ∷ pos 5 ∷ pos 5 ∷ []) (negsuc 0 ∷ []) [] (pos 5 ∷ []) 3 0 [] [] [] (each (true ∷ true ∷ false ∷ []) false)) BadParameter (pos 4 ∷ pos 3 ∷ pos 0 ∷ [])
 refused380 = refl
 
-refused381 : Refuses (codes "SENSOR") (fields [] [] [] (negsuc 0 ∷ []) [] (pos 5 ∷ []) 1 0 [] (pos 0 ∷ []) [] None) BadParameter (pos 1 ∷ pos 1 ∷ pos 0 ∷ [])
+refused381 : Refuses (codes "SELECT_m") (fields (negsuc 0 ∷ negsuc 0 ∷ negsuc 0 ∷ []) [] (pos 5 ∷ pos 5 ∷ pos 5 ∷ []) (negsuc 0 ∷ []) [] (pos 5 ∷ []) 3 0 [] [] [] (each (false ∷ false ∷ false ∷ []) false)) BadParameter (pos 4 ∷ pos 1 ∷ pos 0 ∷ [])
 refused381 = refl
 
-refused382 : Refuses (codes "SENSOR") (fields [] [] [] (negsuc 0 ∷ []) [] (pos 5 ∷ []) 1 0 [] (pos 256 ∷ []) [] None) BadParameter (pos 1 ∷ pos 1 ∷ pos 256 ∷ [])
+refused382 : Refuses (codes "LOGIC") (fields (negsuc 0 ∷ negsuc 0 ∷ []) [] (pos 5 ∷ pos 5 ∷ []) (negsuc 0 ∷ []) [] (pos 5 ∷ []) 0 0 [] (pos 0 ∷ pos 0 ∷ pos 0 ∷ pos 1 ∷ []) [] (each (true ∷ true ∷ true ∷ []) false)) BadParameter (pos 4 ∷ pos 0 ∷ pos 3 ∷ [])
 refused382 = refl
 
-refused383 : Refuses (codes "EVTDLY_c") (fields [] [] [] [] [] [] 1 1 [] (negsuc 1 ∷ []) (pos 0 ∷ []) None) BadParameter (pos 1 ∷ pos 1 ∷ negsuc 1 ∷ [])
+refused383 : Refuses (codes "LOGIC") (fields (negsuc 0 ∷ negsuc 0 ∷ []) [] (pos 5 ∷ pos 5 ∷ []) (negsuc 0 ∷ []) [] (pos 5 ∷ []) 0 0 [] (pos 0 ∷ pos 0 ∷ pos 0 ∷ pos 1 ∷ []) [] (each (true ∷ []) false)) BadParameter (pos 4 ∷ pos 0 ∷ pos 1 ∷ [])
 refused383 = refl
 
-refused384 : Refuses (codes "EVTDLY_c") (fields [] [] [] [] [] [] 1 1 [] (pos 2147483648 ∷ []) (pos 0 ∷ []) None) BadParameter (pos 1 ∷ pos 1 ∷ pos 2147483648 ∷ [])
+refused384 : Refuses (codes "LOGIC") (fields (negsuc 0 ∷ negsuc 0 ∷ []) [] (pos 5 ∷ pos 5 ∷ []) (negsuc 0 ∷ []) [] (pos 5 ∷ []) 0 0 [] (pos 0 ∷ pos 0 ∷ pos 0 ∷ pos 1 ∷ []) [] (each [] false)) BadParameter (pos 4 ∷ pos 0 ∷ pos 0 ∷ [])
 refused384 = refl
 
-refused385 : Refuses (codes "DOLLAR_m") (fields (negsuc 0 ∷ []) [] (pos 5 ∷ []) (negsuc 0 ∷ []) [] (pos 5 ∷ []) 1 0 [] [] [] None) BadParameter (pos 2 ∷ pos 0 ∷ pos 0 ∷ [])
+refused385 : Refuses (codes "LOGIC") (fields (negsuc 0 ∷ negsuc 0 ∷ []) [] (pos 5 ∷ pos 5 ∷ []) (negsuc 0 ∷ []) [] (pos 5 ∷ []) 0 0 [] (pos 0 ∷ pos 0 ∷ pos 0 ∷ pos 1 ∷ []) [] (each (false ∷ true ∷ []) false)) BadParameter (pos 4 ∷ pos 1 ∷ pos 0 ∷ [])
 refused385 = refl
 
-refused386 : Refuses (codes "GATED_DELAY") (fields (negsuc 0 ∷ negsuc 0 ∷ []) [] (pos 5 ∷ pos 5 ∷ []) (negsuc 0 ∷ []) [] (pos 5 ∷ []) 1 0 [] [] [] None) BadParameter (pos 2 ∷ pos 0 ∷ pos 0 ∷ [])
+refused386 : Refuses (codes "LOGIC") (fields (negsuc 0 ∷ negsuc 0 ∷ []) [] (pos 5 ∷ pos 5 ∷ []) (negsuc 0 ∷ []) [] (pos 5 ∷ []) 0 0 [] (pos 0 ∷ pos 0 ∷ pos 0 ∷ pos 1 ∷ []) [] (each (true ∷ false ∷ []) false)) BadParameter (pos 4 ∷ pos 2 ∷ pos 0 ∷ [])
 refused386 = refl
 
-refused387 : Refuses (codes "REGISTER") (fields (negsuc 0 ∷ []) [] (pos 5 ∷ []) (negsuc 0 ∷ []) [] (pos 5 ∷ []) 1 0 [] [] [] None) BadParameter (pos 2 ∷ pos 0 ∷ pos 0 ∷ [])
+refused387 : Refuses (codes "LOGIC") (fields (negsuc 0 ∷ negsuc 0 ∷ []) [] (pos 5 ∷ pos 5 ∷ []) (negsuc 0 ∷ []) [] (pos 5 ∷ []) 0 0 [] (pos 0 ∷ pos 0 ∷ pos 0 ∷ pos 1 ∷ []) [] (each (false ∷ false ∷ []) false)) BadParameter (pos 4 ∷ pos 1 ∷ pos 0 ∷ [])
 refused387 = refl
 
-refused388 : Refuses (codes "Modulo_Count") (fields [] [] [] (negsuc 0 ∷ []) [] (pos 5 ∷ []) 1 0 [] (pos 10 ∷ []) [] None) BadParameter (pos 2 ∷ pos 0 ∷ pos 0 ∷ [])
+refused388 : Refuses (codes "ANDLOG_f") (fields [] [] [] (negsuc 0 ∷ []) [] (pos 5 ∷ []) 2 0 [] [] [] (each (true ∷ []) false)) BadParameter (pos 4 ∷ pos 0 ∷ pos 1 ∷ [])
 refused388 = refl
 
-refused389 : Refuses (codes "REGISTER") (fields (negsuc 0 ∷ []) [] (pos 5 ∷ []) (negsuc 0 ∷ []) [] (pos 5 ∷ []) 1 0 (many 257 (pos 1)) [] [] None) BadParameter (pos 2 ∷ pos 0 ∷ pos 257 ∷ [])
+refused389 : Refuses (codes "ANDLOG_f") (fields [] [] [] (negsuc 0 ∷ []) [] (pos 5 ∷ []) 2 0 [] [] [] (each (false ∷ []) false)) BadParameter (pos 4 ∷ pos 0 ∷ pos 1 ∷ [])
 refused389 = refl
 
-refused390 : Refuses (codes "Modulo_Count") (fields [] [] [] (negsuc 0 ∷ []) [] (pos 5 ∷ []) 1 0 (pos 0 ∷ pos 0 ∷ []) (pos 10 ∷ []) [] None) BadParameter (pos 2 ∷ pos 0 ∷ pos 2 ∷ [])
+refused390 : Refuses (codes "DOLLAR_m") (fields (negsuc 0 ∷ []) [] (pos 5 ∷ []) (negsuc 0 ∷ []) [] (pos 5 ∷ []) 1 0 (pos 0 ∷ []) [] [] (each (true ∷ true ∷ []) false)) BadParameter (pos 4 ∷ pos 0 ∷ pos 2 ∷ [])
 refused390 = refl
 
-refused391 : Refuses (codes "Modulo_Count") (fields [] [] [] (negsuc 0 ∷ []) [] (pos 5 ∷ []) 1 0 (negsuc 0 ∷ []) (pos 10 ∷ []) [] None) BadParameter (pos 2 ∷ pos 1 ∷ negsuc 0 ∷ [])
+refused391 : Refuses (codes "DOLLAR_m") (fields (negsuc 0 ∷ []) [] (pos 5 ∷ []) (negsuc 0 ∷ []) [] (pos 5 ∷ []) 1 0 (pos 0 ∷ []) [] [] (each [] false)) BadParameter (pos 4 ∷ pos 0 ∷ pos 0 ∷ [])
 refused391 = refl
 
-refused392 : Refuses (codes "Modulo_Count") (fields [] [] [] (negsuc 0 ∷ []) [] (pos 5 ∷ []) 1 0 (pos 10 ∷ []) (pos 10 ∷ []) [] None) BadParameter (pos 2 ∷ pos 1 ∷ pos 10 ∷ [])
+refused392 : Refuses (codes "DOLLAR_m") (fields (negsuc 0 ∷ []) [] (pos 5 ∷ []) (negsuc 0 ∷ []) [] (pos 5 ∷ []) 1 0 (pos 0 ∷ []) [] [] (each [] false)) BadParameter (pos 4 ∷ pos 0 ∷ pos 0 ∷ [])
 refused392 = refl
 
-refused393 : Refuses (codes "EVTDLY_c") (fields [] [] [] [] [] [] 1 1 [] (pos 5 ∷ []) (pos 2147483648 ∷ []) None) BadParameter (pos 3 ∷ pos 1 ∷ pos 2147483648 ∷ [])
+refused393 : Refuses (codes "DOLLAR_m") (fields (negsuc 0 ∷ []) [] (pos 5 ∷ []) (negsuc 0 ∷ []) [] (pos 5 ∷ []) 1 0 (pos 0 ∷ []) [] [] (each (false ∷ false ∷ []) false)) BadParameter (pos 4 ∷ pos 0 ∷ pos 2 ∷ [])
 refused393 = refl
 
-refused394 : Refuses (codes "EVTVARDLY") (fields (negsuc 0 ∷ []) [] (pos 5 ∷ []) [] [] [] 1 1 [] [] (pos 2147483648 ∷ []) None) BadParameter (pos 3 ∷ pos 1 ∷ pos 2147483648 ∷ [])
+refused394 : Refuses (codes "SAMPHOLD_m") (fields (negsuc 0 ∷ []) [] (pos 5 ∷ []) (negsuc 0 ∷ []) [] (pos 5 ∷ []) 1 0 [] [] [] (each (true ∷ true ∷ []) false)) BadParameter (pos 4 ∷ pos 0 ∷ pos 2 ∷ [])
 refused394 = refl
 
-refused395 : Refuses (codes "SUMMATION") (fields (negsuc 0 ∷ negsuc 0 ∷ []) [] (pos 5 ∷ pos 9 ∷ []) (pos 1 ∷ pos 1 ∷ []) [] (pos 0 ∷ pos 0 ∷ []) 0 0 [] (pos 3 ∷ pos 0 ∷ pos 2 ∷ []) [] (Some (false, true))) PortShape (pos 2 ∷ pos 2 ∷ [])
+refused395 : Refuses (codes "SAMPHOLD_m") (fields (negsuc 0 ∷ []) [] (pos 5 ∷ []) (negsuc 0 ∷ []) [] (pos 5 ∷ []) 1 0 [] [] [] (each [] false)) BadParameter (pos 4 ∷ pos 0 ∷ pos 0 ∷ [])
 refused395 = refl
 
-refused396 : Refuses (codes "SUMMATION") (fields (negsuc 0 ∷ negsuc 0 ∷ []) [] (pos 5 ∷ pos 9 ∷ []) (negsuc 0 ∷ []) [] (pos 0 ∷ []) 0 0 [] (pos 3 ∷ pos 0 ∷ pos 2 ∷ []) [] (Some (false, true))) NotInteger (pos 1 ∷ pos 2 ∷ pos 9 ∷ [])
+refused396 : Refuses (codes "SAMPHOLD_m") (fields (negsuc 0 ∷ []) [] (pos 5 ∷ []) (negsuc 0 ∷ []) [] (pos 5 ∷ []) 1 0 [] [] [] (each [] false)) BadParameter (pos 4 ∷ pos 0 ∷ pos 0 ∷ [])
 refused396 = refl
 
-refused397 : Refuses (codes "SUMMATION") (fields (negsuc 0 ∷ negsuc 0 ∷ []) [] (pos 5 ∷ pos 5 ∷ []) (negsuc 0 ∷ []) [] (pos 0 ∷ []) 0 0 [] (pos 3 ∷ pos 0 ∷ pos 2 ∷ []) [] (Some (false, true))) NotInteger (pos 2 ∷ pos 1 ∷ pos 0 ∷ [])
+refused397 : Refuses (codes "SAMPHOLD_m") (fields (negsuc 0 ∷ []) [] (pos 5 ∷ []) (negsuc 0 ∷ []) [] (pos 5 ∷ []) 1 0 [] [] [] (each (false ∷ []) false)) BadParameter (pos 4 ∷ pos 1 ∷ pos 0 ∷ [])
 refused397 = refl
 
-refused398 : Refuses (codes "SUMMATION") (fields (negsuc 0 ∷ negsuc 0 ∷ []) [] (pos 5 ∷ pos 5 ∷ []) (negsuc 0 ∷ []) [] (pos 5 ∷ []) 0 0 [] (pos 3 ∷ pos 0 ∷ pos 2 ∷ []) [] (Some (false, true))) AlwaysActive []
+refused398 : Refuses (codes "SAMPHOLD_m") (fields (negsuc 0 ∷ []) [] (pos 5 ∷ []) (negsuc 0 ∷ []) [] (pos 5 ∷ []) 1 0 [] [] [] (each (false ∷ []) false)) BadParameter (pos 4 ∷ pos 1 ∷ pos 0 ∷ [])
 refused398 = refl
 
-refused399 : Refuses (codes "SUMMATION") (fields (negsuc 0 ∷ negsuc 0 ∷ []) [] (pos 5 ∷ pos 5 ∷ []) (negsuc 0 ∷ []) [] (pos 5 ∷ []) 0 0 [] (pos 3 ∷ pos 0 ∷ pos 2 ∷ []) [] (Some (false, false))) BadParameter (pos 1 ∷ pos 1 ∷ pos 3 ∷ [])
+refused399 : Refuses (codes "REGISTER") (fields (negsuc 0 ∷ []) [] (pos 5 ∷ []) (negsuc 0 ∷ []) [] (pos 5 ∷ []) 1 0 (pos 0 ∷ pos 0 ∷ []) [] [] (each (true ∷ true ∷ []) false)) BadParameter (pos 4 ∷ pos 0 ∷ pos 2 ∷ [])
 refused399 = refl
 
-refused400 : Refuses (codes "SUMMATION") (fields (negsuc 0 ∷ negsuc 0 ∷ []) [] (pos 5 ∷ pos 5 ∷ []) (negsuc 0 ∷ []) [] (pos 5 ∷ []) 0 0 [] (pos 2 ∷ pos 0 ∷ pos 2 ∷ []) [] (Some (false, false))) BadParameter (pos 1 ∷ pos 2 ∷ pos 0 ∷ [])
+refused400 : Refuses (codes "REGISTER") (fields (negsuc 0 ∷ []) [] (pos 5 ∷ []) (negsuc 0 ∷ []) [] (pos 5 ∷ []) 1 0 (pos 0 ∷ pos 0 ∷ []) [] [] (each [] false)) BadParameter (pos 4 ∷ pos 0 ∷ pos 0 ∷ [])
 refused400 = refl
 
-refused401 : Refuses (codes "SUMMATION") (fields (negsuc 0 ∷ negsuc 0 ∷ []) [] (pos 5 ∷ pos 5 ∷ []) (negsuc 0 ∷ []) [] (pos 5 ∷ []) 0 0 [] (pos 2 ∷ negsuc 0 ∷ pos 2 ∷ []) [] (Some (false, false))) BadParameter (pos 1 ∷ pos 3 ∷ pos 2 ∷ [])
+refused401 : Refuses (codes "REGISTER") (fields (negsuc 0 ∷ []) [] (pos 5 ∷ []) (negsuc 0 ∷ []) [] (pos 5 ∷ []) 1 0 (pos 0 ∷ pos 0 ∷ []) [] [] (each [] false)) BadParameter (pos 4 ∷ pos 0 ∷ pos 0 ∷ [])
 refused401 = refl
 
-refused402 : Refuses (codes "SUMMATION") (fields (negsuc 0 ∷ negsuc 0 ∷ []) [] (pos 5 ∷ pos 5 ∷ []) (negsuc 0 ∷ []) [] (pos 5 ∷ []) 0 0 [] (pos 2 ∷ negsuc 0 ∷ pos 1 ∷ []) [] (Some (false, false))) BadParameter (pos 4 ∷ pos 1 ∷ pos 0 ∷ [])
+refused402 : Refuses (codes "REGISTER") (fields (negsuc 0 ∷ []) [] (pos 5 ∷ []) (negsuc 0 ∷ []) [] (pos 5 ∷ []) 1 0 (pos 0 ∷ pos 0 ∷ []) [] [] (each (false ∷ false ∷ []) false)) BadParameter (pos 4 ∷ pos 0 ∷ pos 2 ∷ [])
 refused402 = refl
 
-refused403 : Refuses (codes "Modulo_Count") (fields [] [] [] (negsuc 0 ∷ []) [] (pos 5 ∷ []) 1 0 [] (pos 0 ∷ pos 0 ∷ []) [] None) BadParameter (pos 1 ∷ pos 0 ∷ pos 2 ∷ [])
+refused403 : Refuses (codes "Modulo_Count") (fields [] [] [] (negsuc 0 ∷ []) [] (pos 5 ∷ []) 1 0 (pos 0 ∷ []) (pos 10 ∷ []) [] (each (true ∷ []) false)) BadParameter (pos 4 ∷ pos 0 ∷ pos 1 ∷ [])
 refused403 = refl
 
-refused404 : Refuses (codes "Modulo_Count") (fields [] [] [] (negsuc 0 ∷ []) [] (pos 5 ∷ []) 1 0 [] (pos 0 ∷ []) [] None) BadParameter (pos 1 ∷ pos 1 ∷ pos 0 ∷ [])
+refused404 : Refuses (codes "Modulo_Count") (fields [] [] [] (negsuc 0 ∷ []) [] (pos 5 ∷ []) 1 0 (pos 0 ∷ []) (pos 10 ∷ []) [] (each (false ∷ []) false)) BadParameter (pos 4 ∷ pos 0 ∷ pos 1 ∷ [])
 refused404 = refl
 
-refused405 : Refuses (codes "Modulo_Count") (fields [] [] [] (negsuc 0 ∷ []) [] (pos 5 ∷ []) 1 0 [] (pos 1 ∷ []) [] None) BadParameter (pos 2 ∷ pos 0 ∷ pos 0 ∷ [])
+refused405 : Refuses (codes "GATED_DELAY") (fields (negsuc 0 ∷ negsuc 0 ∷ []) [] (pos 5 ∷ pos 5 ∷ []) (negsuc 0 ∷ []) [] (pos 5 ∷ []) 1 0 (pos 0 ∷ []) [] [] (each (true ∷ true ∷ true ∷ []) false)) BadParameter (pos 4 ∷ pos 0 ∷ pos 3 ∷ [])
 refused405 = refl
 
-refused406 : Refuses (codes "Modulo_Count") (fields [] [] [] (negsuc 0 ∷ []) [] (pos 5 ∷ []) 1 0 (pos 1 ∷ []) (pos 1 ∷ []) [] None) BadParameter (pos 2 ∷ pos 1 ∷ pos 1 ∷ [])
+refused406 : Refuses (codes "GATED_DELAY") (fields (negsuc 0 ∷ negsuc 0 ∷ []) [] (pos 5 ∷ pos 5 ∷ []) (negsuc 0 ∷ []) [] (pos 5 ∷ []) 1 0 (pos 0 ∷ []) [] [] (each (true ∷ []) false)) BadParameter (pos 4 ∷ pos 0 ∷ pos 1 ∷ [])
 refused406 = refl
 
-refused407 : Refuses (codes "GATED_DELAY") (fields (negsuc 0 ∷ negsuc 0 ∷ []) [] (pos 5 ∷ pos 5 ∷ []) (negsuc 0 ∷ []) [] (pos 5 ∷ []) 1 0 [] (pos 0 ∷ []) [] (Some (false, false))) BadParameter (pos 1 ∷ pos 0 ∷ pos 1 ∷ [])
+refused407 : Refuses (codes "GATED_DELAY") (fields (negsuc 0 ∷ negsuc 0 ∷ []) [] (pos 5 ∷ pos 5 ∷ []) (negsuc 0 ∷ []) [] (pos 5 ∷ []) 1 0 (pos 0 ∷ []) [] [] (each [] false)) BadParameter (pos 4 ∷ pos 0 ∷ pos 0 ∷ [])
 refused407 = refl
 
-refused408 : Refuses (codes "GATED_DELAY") (fields (negsuc 0 ∷ negsuc 0 ∷ []) [] (pos 5 ∷ pos 5 ∷ []) (negsuc 0 ∷ []) [] (pos 5 ∷ []) 1 0 [] [] [] (Some (false, false))) BadParameter (pos 2 ∷ pos 0 ∷ pos 0 ∷ [])
+refused408 : Refuses (codes "SENSOR") (fields [] [] [] (negsuc 0 ∷ []) [] (pos 5 ∷ []) 1 0 [] (pos 1 ∷ []) [] (each (true ∷ []) false)) BadParameter (pos 4 ∷ pos 0 ∷ pos 1 ∷ [])
 refused408 = refl
 
-refused409 : Refuses (codes "GATED_DELAY") (fields (negsuc 0 ∷ negsuc 0 ∷ []) [] (pos 5 ∷ pos 5 ∷ []) (negsuc 0 ∷ []) [] (pos 5 ∷ []) 1 0 (pos 0 ∷ []) [] [] (Some (false, false))) BadParameter (pos 4 ∷ pos 1 ∷ pos 0 ∷ [])
+refused409 : Refuses (codes "SENSOR") (fields [] [] [] (negsuc 0 ∷ []) [] (pos 5 ∷ []) 1 0 [] (pos 1 ∷ []) [] (each (false ∷ []) false)) BadParameter (pos 4 ∷ pos 0 ∷ pos 1 ∷ [])
 refused409 = refl
 
-refused410 : Refuses (codes "EVTDLY_c") (fields [] [] [] [] [] [] 1 1 [] (negsuc 1 ∷ []) (pos 2147483648 ∷ []) None) BadParameter (pos 1 ∷ pos 1 ∷ negsuc 1 ∷ [])
+refused410 : Refuses (codes "EVTDLY_c") (fields [] [] [] [] [] [] 1 1 [] (pos 5 ∷ []) (pos 0 ∷ []) (each (true ∷ []) false)) BadParameter (pos 4 ∷ pos 0 ∷ pos 1 ∷ [])
 refused410 = refl
 
-refused411 : Refuses (codes "EVTDLY_c") (fields [] [] [] [] [] [] 1 1 [] (negsuc 0 ∷ []) (pos 2147483648 ∷ []) None) BadParameter (pos 3 ∷ pos 1 ∷ pos 2147483648 ∷ [])
+refused411 : Refuses (codes "EVTDLY_c") (fields [] [] [] [] [] [] 1 1 [] (pos 5 ∷ []) (pos 0 ∷ []) (each (false ∷ []) false)) BadParameter (pos 4 ∷ pos 0 ∷ pos 1 ∷ [])
 refused411 = refl
 
-passes1 : Passes (codes "CONST_m") (fields [] [] [] (negsuc 0 ∷ []) [] (pos 5 ∷ []) 0 0 [] (pos 7 ∷ []) [] None) (block Const (pos 7 ∷ []) [] [] [] ((port (negsuc 0) (pos 1) (pos 5)) ∷ []) 0 0 false)
+refused412 : Refuses (codes "EVTVARDLY") (fields (negsuc 0 ∷ []) [] (pos 5 ∷ []) [] [] [] 1 1 [] [] (negsuc 0 ∷ []) (each (true ∷ true ∷ []) false)) BadParameter (pos 4 ∷ pos 0 ∷ pos 2 ∷ [])
+refused412 = refl
+
+refused413 : Refuses (codes "EVTVARDLY") (fields (negsuc 0 ∷ []) [] (pos 5 ∷ []) [] [] [] 1 1 [] [] (negsuc 0 ∷ []) (each [] false)) BadParameter (pos 4 ∷ pos 0 ∷ pos 0 ∷ [])
+refused413 = refl
+
+refused414 : Refuses (codes "EVTVARDLY") (fields (negsuc 0 ∷ []) [] (pos 5 ∷ []) [] [] [] 1 1 [] [] (negsuc 0 ∷ []) (each [] false)) BadParameter (pos 4 ∷ pos 0 ∷ pos 0 ∷ [])
+refused414 = refl
+
+refused415 : Refuses (codes "EVTVARDLY") (fields (negsuc 0 ∷ []) [] (pos 5 ∷ []) [] [] [] 1 1 [] [] (negsuc 0 ∷ []) (each (false ∷ false ∷ []) false)) BadParameter (pos 4 ∷ pos 0 ∷ pos 2 ∷ [])
+refused415 = refl
+
+refused416 : Refuses (codes "IFTHEL_f") (fields (negsuc 0 ∷ []) [] (pos 5 ∷ []) [] [] [] 0 2 [] [] [] (each (true ∷ true ∷ []) false)) BadParameter (pos 4 ∷ pos 0 ∷ pos 2 ∷ [])
+refused416 = refl
+
+refused417 : Refuses (codes "IFTHEL_f") (fields (negsuc 0 ∷ []) [] (pos 5 ∷ []) [] [] [] 0 2 [] [] [] (each [] false)) BadParameter (pos 4 ∷ pos 0 ∷ pos 0 ∷ [])
+refused417 = refl
+
+refused418 : Refuses (codes "IFTHEL_f") (fields (negsuc 0 ∷ []) [] (pos 5 ∷ []) [] [] [] 0 2 [] [] [] (each [] false)) BadParameter (pos 4 ∷ pos 0 ∷ pos 0 ∷ [])
+refused418 = refl
+
+refused419 : Refuses (codes "IFTHEL_f") (fields (negsuc 0 ∷ []) [] (pos 5 ∷ []) [] [] [] 0 2 [] [] [] (each (false ∷ []) false)) BadParameter (pos 4 ∷ pos 1 ∷ pos 0 ∷ [])
+refused419 = refl
+
+refused420 : Refuses (codes "IFTHEL_f") (fields (negsuc 0 ∷ []) [] (pos 5 ∷ []) [] [] [] 0 2 [] [] [] (each (false ∷ []) false)) BadParameter (pos 4 ∷ pos 1 ∷ pos 0 ∷ [])
+refused420 = refl
+
+refused421 : Refuses (codes "ESELECT_f") (fields (negsuc 0 ∷ []) [] (pos 5 ∷ []) [] [] [] 0 3 [] [] [] (each (true ∷ true ∷ []) false)) BadParameter (pos 4 ∷ pos 0 ∷ pos 2 ∷ [])
+refused421 = refl
+
+refused422 : Refuses (codes "ESELECT_f") (fields (negsuc 0 ∷ []) [] (pos 5 ∷ []) [] [] [] 0 3 [] [] [] (each [] false)) BadParameter (pos 4 ∷ pos 0 ∷ pos 0 ∷ [])
+refused422 = refl
+
+refused423 : Refuses (codes "ESELECT_f") (fields (negsuc 0 ∷ []) [] (pos 5 ∷ []) [] [] [] 0 3 [] [] [] (each [] false)) BadParameter (pos 4 ∷ pos 0 ∷ pos 0 ∷ [])
+refused423 = refl
+
+refused424 : Refuses (codes "ESELECT_f") (fields (negsuc 0 ∷ []) [] (pos 5 ∷ []) [] [] [] 0 3 [] [] [] (each (false ∷ []) false)) BadParameter (pos 4 ∷ pos 1 ∷ pos 0 ∷ [])
+refused424 = refl
+
+refused425 : Refuses (codes "ESELECT_f") (fields (negsuc 0 ∷ []) [] (pos 5 ∷ []) [] [] [] 0 3 [] [] [] (each (false ∷ []) false)) BadParameter (pos 4 ∷ pos 1 ∷ pos 0 ∷ [])
+refused425 = refl
+
+refused426 : Refuses (codes "HALT_f") (fields [] [] [] [] [] [] 1 0 [] [] [] (each (true ∷ []) false)) BadParameter (pos 4 ∷ pos 0 ∷ pos 1 ∷ [])
+refused426 = refl
+
+refused427 : Refuses (codes "HALT_f") (fields [] [] [] [] [] [] 1 0 [] [] [] (each (false ∷ []) false)) BadParameter (pos 4 ∷ pos 0 ∷ pos 1 ∷ [])
+refused427 = refl
+
+refused428 : Refuses (codes "GATED_DELAY") (fields (negsuc 0 ∷ negsuc 0 ∷ []) [] (pos 5 ∷ pos 5 ∷ []) (negsuc 0 ∷ []) [] (pos 5 ∷ []) 1 0 (pos 0 ∷ []) [] [] (each (true ∷ false ∷ []) false)) BadParameter (pos 4 ∷ pos 2 ∷ pos 0 ∷ [])
+refused428 = refl
+
+refused429 : Refuses (codes "GATED_DELAY") (fields (negsuc 0 ∷ negsuc 0 ∷ []) [] (pos 5 ∷ pos 5 ∷ []) (negsuc 0 ∷ []) [] (pos 5 ∷ []) 1 0 (pos 0 ∷ []) [] [] (each (false ∷ false ∷ []) false)) BadParameter (pos 4 ∷ pos 2 ∷ pos 0 ∷ [])
+refused429 = refl
+
+refused430 : Refuses (codes "GATED_DELAY") (fields (negsuc 0 ∷ negsuc 0 ∷ []) [] (pos 5 ∷ pos 5 ∷ []) (negsuc 0 ∷ []) [] (pos 5 ∷ []) 1 0 (pos 0 ∷ []) [] [] (each (false ∷ []) false)) BadParameter (pos 4 ∷ pos 0 ∷ pos 1 ∷ [])
+refused430 = refl
+
+refused431 : Refuses (codes "GATED_DELAY") (fields (negsuc 0 ∷ negsuc 0 ∷ []) [] (pos 5 ∷ pos 5 ∷ []) (negsuc 0 ∷ []) [] (pos 5 ∷ []) 1 0 (pos 0 ∷ []) [] [] (each (false ∷ true ∷ false ∷ []) false)) BadParameter (pos 4 ∷ pos 0 ∷ pos 3 ∷ [])
+refused431 = refl
+
+refused432 : Refuses (codes "SUMMATION") (fields (negsuc 0 ∷ negsuc 0 ∷ negsuc 0 ∷ negsuc 0 ∷ []) [] (pos 5 ∷ pos 5 ∷ pos 5 ∷ pos 5 ∷ []) (negsuc 0 ∷ []) [] (pos 5 ∷ []) 0 0 [] (pos 0 ∷ pos 1 ∷ pos 1 ∷ pos 1 ∷ pos 1 ∷ []) [] (each (true ∷ false ∷ true ∷ false ∷ []) false)) BadParameter (pos 4 ∷ pos 2 ∷ pos 0 ∷ [])
+refused432 = refl
+
+refused433 : Refuses (codes "SWITCH2_m") (fields (negsuc 0 ∷ negsuc 0 ∷ negsuc 0 ∷ []) [] (pos 5 ∷ pos 5 ∷ pos 5 ∷ []) (negsuc 0 ∷ []) [] (pos 5 ∷ []) 0 0 [] (pos 0 ∷ pos 0 ∷ []) [] (each (true ∷ false ∷ false ∷ []) false)) BadParameter (pos 4 ∷ pos 2 ∷ pos 0 ∷ [])
+refused433 = refl
+
+refused434 : Refuses (codes "LOGICAL_OP") (fields (negsuc 0 ∷ negsuc 0 ∷ negsuc 0 ∷ []) [] (pos 5 ∷ pos 5 ∷ pos 5 ∷ []) (negsuc 0 ∷ []) [] (pos 5 ∷ []) 0 0 [] (pos 0 ∷ pos 0 ∷ []) [] (each (true ∷ true ∷ []) false)) BadParameter (pos 4 ∷ pos 0 ∷ pos 2 ∷ [])
+refused434 = refl
+
+refused435 : Refuses (codes "SUMMATION") (fields (many 64 (negsuc 0)) [] (many 64 (pos 5)) (negsuc 0 ∷ []) [] (pos 5 ∷ []) 0 0 [] (pos 2 ∷ pos 1 ∷ pos 1 ∷ pos 1 ∷ pos 1 ∷ pos 1 ∷ pos 1 ∷ pos 1 ∷ pos 1 ∷ pos 1 ∷ pos 1 ∷ pos 1 ∷ pos 1 ∷ pos 1 ∷ pos 1 ∷ pos 1 ∷ pos 1 ∷ pos 1 ∷ pos 1 ∷ pos 1 ∷ pos 1 ∷ pos 1 ∷ pos 1 ∷ pos 1 ∷ pos 1 ∷ pos 1 ∷ pos 1 ∷ pos 1 ∷ pos 1 ∷ pos 1 ∷ pos 1 ∷ pos 1 ∷ pos 1 ∷ pos 1 ∷ pos 1 ∷ pos 1 ∷ pos 1 ∷ pos 1 ∷ pos 1 ∷ pos 1 ∷ pos 1 ∷ pos 1 ∷ pos 1 ∷ pos 1 ∷ pos 1 ∷ pos 1 ∷ pos 1 ∷ pos 1 ∷ pos 1 ∷ pos 1 ∷ pos 1 ∷ pos 1 ∷ pos 1 ∷ pos 1 ∷ pos 1 ∷ pos 1 ∷ pos 1 ∷ pos 1 ∷ pos 1 ∷ pos 1 ∷ pos 1 ∷ pos 1 ∷ pos 1 ∷ pos 1 ∷ pos 1 ∷ []) [] (each (true ∷ true ∷ true ∷ true ∷ true ∷ true ∷ true ∷ true ∷ true ∷ true ∷ true ∷ true ∷ true ∷ true ∷ true ∷ true ∷ true ∷ true ∷ true ∷ true ∷ true ∷ true ∷ true ∷ true ∷ true ∷ true ∷ true ∷ true ∷ true ∷ true ∷ true ∷ true ∷ true ∷ true ∷ true ∷ true ∷ true ∷ true ∷ true ∷ true ∷ true ∷ true ∷ true ∷ true ∷ true ∷ true ∷ true ∷ true ∷ true ∷ true ∷ true ∷ true ∷ true ∷ true ∷ true ∷ true ∷ true ∷ true ∷ true ∷ true ∷ true ∷ true ∷ true ∷ false ∷ []) false)) BadParameter (pos 4 ∷ pos 64 ∷ pos 0 ∷ [])
+refused435 = refl
+
+refused436 : Refuses (codes "CONST_m") (fields [] [] [] (negsuc 0 ∷ []) [] (pos 5 ∷ []) 0 0 [] [] [] None) BadParameter (pos 1 ∷ pos 0 ∷ pos 0 ∷ [])
+refused436 = refl
+
+refused437 : Refuses (codes "SUMMATION") (fields (negsuc 0 ∷ negsuc 0 ∷ []) [] (pos 5 ∷ pos 5 ∷ []) (negsuc 0 ∷ []) [] (pos 5 ∷ []) 0 0 [] (pos 0 ∷ pos 1 ∷ negsuc 0 ∷ pos 1 ∷ []) [] None) BadParameter (pos 1 ∷ pos 0 ∷ pos 4 ∷ [])
+refused437 = refl
+
+refused438 : Refuses (codes "SUMMATION") (fields (negsuc 0 ∷ negsuc 0 ∷ []) [] (pos 5 ∷ pos 5 ∷ []) (negsuc 0 ∷ []) [] (pos 5 ∷ []) 0 0 [] (pos 0 ∷ pos 1 ∷ []) [] None) BadParameter (pos 1 ∷ pos 0 ∷ pos 2 ∷ [])
+refused438 = refl
+
+refused439 : Refuses (codes "GAINBLK") (fields (negsuc 0 ∷ []) [] (pos 5 ∷ []) (negsuc 0 ∷ []) [] (pos 5 ∷ []) 0 0 [] (pos 0 ∷ pos 3 ∷ pos 1 ∷ []) [] None) BadParameter (pos 1 ∷ pos 0 ∷ pos 3 ∷ [])
+refused439 = refl
+
+refused440 : Refuses (codes "GAINBLK") (fields (negsuc 0 ∷ []) [] (pos 5 ∷ []) (negsuc 0 ∷ []) [] (pos 5 ∷ []) 0 0 [] (pos 0 ∷ []) [] None) BadParameter (pos 1 ∷ pos 0 ∷ pos 1 ∷ [])
+refused440 = refl
+
+refused441 : Refuses (codes "PRODUCT") (fields (negsuc 0 ∷ negsuc 0 ∷ []) [] (pos 5 ∷ pos 5 ∷ []) (negsuc 0 ∷ []) [] (pos 5 ∷ []) 0 0 [] (pos 0 ∷ pos 1 ∷ pos 1 ∷ []) [] None) BadParameter (pos 1 ∷ pos 0 ∷ pos 3 ∷ [])
+refused441 = refl
+
+refused442 : Refuses (codes "PRODUCT") (fields (negsuc 0 ∷ negsuc 0 ∷ []) [] (pos 5 ∷ pos 5 ∷ []) (negsuc 0 ∷ []) [] (pos 5 ∷ []) 0 0 [] (pos 0 ∷ []) [] None) BadParameter (pos 1 ∷ pos 0 ∷ pos 1 ∷ [])
+refused442 = refl
+
+refused443 : Refuses (codes "ABS_VALUE") (fields (negsuc 0 ∷ []) [] (pos 5 ∷ []) (negsuc 0 ∷ []) [] (pos 5 ∷ []) 0 0 [] (pos 0 ∷ pos 1 ∷ []) [] None) BadParameter (pos 1 ∷ pos 0 ∷ pos 2 ∷ [])
+refused443 = refl
+
+refused444 : Refuses (codes "ABS_VALUE") (fields (negsuc 0 ∷ []) [] (pos 5 ∷ []) (negsuc 0 ∷ []) [] (pos 5 ∷ []) 0 0 [] [] [] None) BadParameter (pos 1 ∷ pos 0 ∷ pos 0 ∷ [])
+refused444 = refl
+
+refused445 : Refuses (codes "SIGNUM") (fields (negsuc 0 ∷ []) [] (pos 5 ∷ []) (negsuc 0 ∷ []) [] (pos 5 ∷ []) 0 0 [] (pos 1 ∷ []) [] None) BadParameter (pos 1 ∷ pos 0 ∷ pos 1 ∷ [])
+refused445 = refl
+
+refused446 : Refuses (codes "MAXMIN") (fields (negsuc 0 ∷ negsuc 0 ∷ []) [] (pos 5 ∷ pos 5 ∷ []) (negsuc 0 ∷ []) [] (pos 5 ∷ []) 0 0 [] (pos 1 ∷ pos 1 ∷ []) [] None) BadParameter (pos 1 ∷ pos 0 ∷ pos 2 ∷ [])
+refused446 = refl
+
+refused447 : Refuses (codes "MAXMIN") (fields (negsuc 0 ∷ negsuc 0 ∷ []) [] (pos 5 ∷ pos 5 ∷ []) (negsuc 0 ∷ []) [] (pos 5 ∷ []) 0 0 [] [] [] None) BadParameter (pos 1 ∷ pos 0 ∷ pos 0 ∷ [])
+refused447 = refl
+
+refused448 : Refuses (codes "SATURATION") (fields (negsuc 0 ∷ []) [] (pos 5 ∷ []) (negsuc 0 ∷ []) [] (pos 5 ∷ []) 0 0 [] (negsuc 4 ∷ pos 5 ∷ pos 1 ∷ []) [] None) BadParameter (pos 1 ∷ pos 0 ∷ pos 3 ∷ [])
+refused448 = refl
+
+refused449 : Refuses (codes "SATURATION") (fields (negsuc 0 ∷ []) [] (pos 5 ∷ []) (negsuc 0 ∷ []) [] (pos 5 ∷ []) 0 0 [] (negsuc 4 ∷ []) [] None) BadParameter (pos 1 ∷ pos 0 ∷ pos 1 ∷ [])
+refused449 = refl
+
+refused450 : Refuses (codes "DEADBAND") (fields (negsuc 0 ∷ []) [] (pos 5 ∷ []) (negsuc 0 ∷ []) [] (pos 5 ∷ []) 0 0 [] (pos 0 ∷ negsuc 4 ∷ pos 5 ∷ pos 1 ∷ []) [] None) BadParameter (pos 1 ∷ pos 0 ∷ pos 4 ∷ [])
+refused450 = refl
+
+refused451 : Refuses (codes "DEADBAND") (fields (negsuc 0 ∷ []) [] (pos 5 ∷ []) (negsuc 0 ∷ []) [] (pos 5 ∷ []) 0 0 [] (pos 0 ∷ negsuc 4 ∷ []) [] None) BadParameter (pos 1 ∷ pos 0 ∷ pos 2 ∷ [])
+refused451 = refl
+
+refused452 : Refuses (codes "CONVERT") (fields (negsuc 0 ∷ []) [] (pos 5 ∷ []) (negsuc 0 ∷ []) [] (pos 5 ∷ []) 0 0 [] (pos 0 ∷ pos 1 ∷ []) [] None) BadParameter (pos 1 ∷ pos 0 ∷ pos 2 ∷ [])
+refused452 = refl
+
+refused453 : Refuses (codes "CONVERT") (fields (negsuc 0 ∷ []) [] (pos 5 ∷ []) (negsuc 0 ∷ []) [] (pos 5 ∷ []) 0 0 [] [] [] None) BadParameter (pos 1 ∷ pos 0 ∷ pos 0 ∷ [])
+refused453 = refl
+
+refused454 : Refuses (codes "MUX") (fields (negsuc 0 ∷ negsuc 0 ∷ []) [] (pos 5 ∷ pos 5 ∷ []) (negsuc 0 ∷ []) [] (pos 5 ∷ []) 0 0 [] (pos 1 ∷ []) [] None) BadParameter (pos 1 ∷ pos 0 ∷ pos 1 ∷ [])
+refused454 = refl
+
+refused455 : Refuses (codes "DEMUX") (fields (negsuc 0 ∷ []) [] (pos 5 ∷ []) (negsuc 0 ∷ negsuc 0 ∷ []) [] (pos 5 ∷ pos 5 ∷ []) 0 0 [] (pos 1 ∷ []) [] None) BadParameter (pos 1 ∷ pos 0 ∷ pos 1 ∷ [])
+refused455 = refl
+
+refused456 : Refuses (codes "EXTRACTOR") (fields (negsuc 0 ∷ []) [] (pos 5 ∷ []) (negsuc 0 ∷ []) [] (pos 5 ∷ []) 0 0 [] [] [] None) BadParameter (pos 1 ∷ pos 0 ∷ pos 0 ∷ [])
+refused456 = refl
+
+refused457 : Refuses (codes "LOGICAL_OP") (fields (negsuc 0 ∷ negsuc 0 ∷ []) [] (pos 5 ∷ pos 5 ∷ []) (negsuc 0 ∷ []) [] (pos 5 ∷ []) 0 0 [] (pos 0 ∷ pos 0 ∷ pos 1 ∷ []) [] None) BadParameter (pos 1 ∷ pos 0 ∷ pos 3 ∷ [])
+refused457 = refl
+
+refused458 : Refuses (codes "LOGICAL_OP") (fields (negsuc 0 ∷ negsuc 0 ∷ []) [] (pos 5 ∷ pos 5 ∷ []) (negsuc 0 ∷ []) [] (pos 5 ∷ []) 0 0 [] (pos 0 ∷ []) [] None) BadParameter (pos 1 ∷ pos 0 ∷ pos 1 ∷ [])
+refused458 = refl
+
+refused459 : Refuses (codes "RELATIONALOP") (fields (negsuc 0 ∷ negsuc 0 ∷ []) [] (pos 5 ∷ pos 5 ∷ []) (negsuc 0 ∷ []) [] (pos 5 ∷ []) 0 0 [] (pos 0 ∷ pos 1 ∷ []) [] None) BadParameter (pos 1 ∷ pos 0 ∷ pos 2 ∷ [])
+refused459 = refl
+
+refused460 : Refuses (codes "RELATIONALOP") (fields (negsuc 0 ∷ negsuc 0 ∷ []) [] (pos 5 ∷ pos 5 ∷ []) (negsuc 0 ∷ []) [] (pos 5 ∷ []) 0 0 [] [] [] None) BadParameter (pos 1 ∷ pos 0 ∷ pos 0 ∷ [])
+refused460 = refl
+
+refused461 : Refuses (codes "SHIFT") (fields (negsuc 0 ∷ []) [] (pos 5 ∷ []) (negsuc 0 ∷ []) [] (pos 5 ∷ []) 0 0 [] (pos 3 ∷ pos 0 ∷ pos 1 ∷ []) [] None) BadParameter (pos 1 ∷ pos 0 ∷ pos 3 ∷ [])
+refused461 = refl
+
+refused462 : Refuses (codes "SHIFT") (fields (negsuc 0 ∷ []) [] (pos 5 ∷ []) (negsuc 0 ∷ []) [] (pos 5 ∷ []) 0 0 [] (pos 3 ∷ []) [] None) BadParameter (pos 1 ∷ pos 0 ∷ pos 1 ∷ [])
+refused462 = refl
+
+refused463 : Refuses (codes "BITSET") (fields (negsuc 0 ∷ []) [] (pos 5 ∷ []) (negsuc 0 ∷ []) [] (pos 5 ∷ []) 0 0 [] (pos 3 ∷ pos 1 ∷ []) [] None) BadParameter (pos 1 ∷ pos 0 ∷ pos 2 ∷ [])
+refused463 = refl
+
+refused464 : Refuses (codes "BITSET") (fields (negsuc 0 ∷ []) [] (pos 5 ∷ []) (negsuc 0 ∷ []) [] (pos 5 ∷ []) 0 0 [] [] [] None) BadParameter (pos 1 ∷ pos 0 ∷ pos 0 ∷ [])
+refused464 = refl
+
+refused465 : Refuses (codes "BITCLEAR") (fields (negsuc 0 ∷ []) [] (pos 5 ∷ []) (negsuc 0 ∷ []) [] (pos 5 ∷ []) 0 0 [] (pos 3 ∷ pos 1 ∷ []) [] None) BadParameter (pos 1 ∷ pos 0 ∷ pos 2 ∷ [])
+refused465 = refl
+
+refused466 : Refuses (codes "BITCLEAR") (fields (negsuc 0 ∷ []) [] (pos 5 ∷ []) (negsuc 0 ∷ []) [] (pos 5 ∷ []) 0 0 [] [] [] None) BadParameter (pos 1 ∷ pos 0 ∷ pos 0 ∷ [])
+refused466 = refl
+
+refused467 : Refuses (codes "EXTRACTBITS") (fields (negsuc 0 ∷ []) [] (pos 5 ∷ []) (negsuc 0 ∷ []) [] (pos 5 ∷ []) 0 0 [] (pos 1 ∷ pos 3 ∷ pos 1 ∷ []) [] None) BadParameter (pos 1 ∷ pos 0 ∷ pos 3 ∷ [])
+refused467 = refl
+
+refused468 : Refuses (codes "EXTRACTBITS") (fields (negsuc 0 ∷ []) [] (pos 5 ∷ []) (negsuc 0 ∷ []) [] (pos 5 ∷ []) 0 0 [] (pos 1 ∷ []) [] None) BadParameter (pos 1 ∷ pos 0 ∷ pos 1 ∷ [])
+refused468 = refl
+
+refused469 : Refuses (codes "SWITCH2_m") (fields (negsuc 0 ∷ negsuc 0 ∷ negsuc 0 ∷ []) [] (pos 5 ∷ pos 5 ∷ pos 5 ∷ []) (negsuc 0 ∷ []) [] (pos 5 ∷ []) 0 0 [] (pos 0 ∷ pos 0 ∷ pos 1 ∷ []) [] None) BadParameter (pos 1 ∷ pos 0 ∷ pos 3 ∷ [])
+refused469 = refl
+
+refused470 : Refuses (codes "SWITCH2_m") (fields (negsuc 0 ∷ negsuc 0 ∷ negsuc 0 ∷ []) [] (pos 5 ∷ pos 5 ∷ pos 5 ∷ []) (negsuc 0 ∷ []) [] (pos 5 ∷ []) 0 0 [] (pos 0 ∷ []) [] None) BadParameter (pos 1 ∷ pos 0 ∷ pos 1 ∷ [])
+refused470 = refl
+
+refused471 : Refuses (codes "SELECT_m") (fields (negsuc 0 ∷ negsuc 0 ∷ negsuc 0 ∷ []) [] (pos 5 ∷ pos 5 ∷ pos 5 ∷ []) (negsuc 0 ∷ []) [] (pos 5 ∷ []) 3 0 [] (pos 1 ∷ []) [] None) BadParameter (pos 1 ∷ pos 0 ∷ pos 1 ∷ [])
+refused471 = refl
+
+refused472 : Refuses (codes "LOGIC") (fields (negsuc 0 ∷ negsuc 0 ∷ []) [] (pos 5 ∷ pos 5 ∷ []) (negsuc 0 ∷ []) [] (pos 5 ∷ []) 0 0 [] (pos 0 ∷ pos 0 ∷ pos 0 ∷ pos 1 ∷ pos 1 ∷ []) [] None) BadParameter (pos 1 ∷ pos 0 ∷ pos 5 ∷ [])
+refused472 = refl
+
+refused473 : Refuses (codes "LOGIC") (fields (negsuc 0 ∷ negsuc 0 ∷ []) [] (pos 5 ∷ pos 5 ∷ []) (negsuc 0 ∷ []) [] (pos 5 ∷ []) 0 0 [] (pos 0 ∷ pos 0 ∷ pos 0 ∷ []) [] None) BadParameter (pos 1 ∷ pos 0 ∷ pos 3 ∷ [])
+refused473 = refl
+
+refused474 : Refuses (codes "ANDLOG_f") (fields [] [] [] (negsuc 0 ∷ []) [] (pos 5 ∷ []) 2 0 [] (pos 1 ∷ []) [] None) BadParameter (pos 1 ∷ pos 0 ∷ pos 1 ∷ [])
+refused474 = refl
+
+refused475 : Refuses (codes "DOLLAR_m") (fields (negsuc 0 ∷ []) [] (pos 5 ∷ []) (negsuc 0 ∷ []) [] (pos 5 ∷ []) 1 0 (pos 0 ∷ []) (pos 1 ∷ []) [] None) BadParameter (pos 1 ∷ pos 0 ∷ pos 1 ∷ [])
+refused475 = refl
+
+refused476 : Refuses (codes "SAMPHOLD_m") (fields (negsuc 0 ∷ []) [] (pos 5 ∷ []) (negsuc 0 ∷ []) [] (pos 5 ∷ []) 1 0 [] (pos 1 ∷ []) [] None) BadParameter (pos 1 ∷ pos 0 ∷ pos 1 ∷ [])
+refused476 = refl
+
+refused477 : Refuses (codes "REGISTER") (fields (negsuc 0 ∷ []) [] (pos 5 ∷ []) (negsuc 0 ∷ []) [] (pos 5 ∷ []) 1 0 (pos 0 ∷ pos 0 ∷ []) (pos 1 ∷ []) [] None) BadParameter (pos 1 ∷ pos 0 ∷ pos 1 ∷ [])
+refused477 = refl
+
+refused478 : Refuses (codes "Modulo_Count") (fields [] [] [] (negsuc 0 ∷ []) [] (pos 5 ∷ []) 1 0 (pos 0 ∷ []) (pos 10 ∷ pos 1 ∷ []) [] None) BadParameter (pos 1 ∷ pos 0 ∷ pos 2 ∷ [])
+refused478 = refl
+
+refused479 : Refuses (codes "Modulo_Count") (fields [] [] [] (negsuc 0 ∷ []) [] (pos 5 ∷ []) 1 0 (pos 0 ∷ []) [] [] None) BadParameter (pos 1 ∷ pos 0 ∷ pos 0 ∷ [])
+refused479 = refl
+
+refused480 : Refuses (codes "GATED_DELAY") (fields (negsuc 0 ∷ negsuc 0 ∷ []) [] (pos 5 ∷ pos 5 ∷ []) (negsuc 0 ∷ []) [] (pos 5 ∷ []) 1 0 (pos 0 ∷ []) (pos 1 ∷ []) [] None) BadParameter (pos 1 ∷ pos 0 ∷ pos 1 ∷ [])
+refused480 = refl
+
+refused481 : Refuses (codes "SENSOR") (fields [] [] [] (negsuc 0 ∷ []) [] (pos 5 ∷ []) 1 0 [] (pos 1 ∷ pos 1 ∷ []) [] None) BadParameter (pos 1 ∷ pos 0 ∷ pos 2 ∷ [])
+refused481 = refl
+
+refused482 : Refuses (codes "SENSOR") (fields [] [] [] (negsuc 0 ∷ []) [] (pos 5 ∷ []) 1 0 [] [] [] None) BadParameter (pos 1 ∷ pos 0 ∷ pos 0 ∷ [])
+refused482 = refl
+
+refused483 : Refuses (codes "EVTDLY_c") (fields [] [] [] [] [] [] 1 1 [] (pos 5 ∷ pos 1 ∷ []) (pos 0 ∷ []) None) BadParameter (pos 1 ∷ pos 0 ∷ pos 2 ∷ [])
+refused483 = refl
+
+refused484 : Refuses (codes "EVTDLY_c") (fields [] [] [] [] [] [] 1 1 [] [] (pos 0 ∷ []) None) BadParameter (pos 1 ∷ pos 0 ∷ pos 0 ∷ [])
+refused484 = refl
+
+refused485 : Refuses (codes "EVTVARDLY") (fields (negsuc 0 ∷ []) [] (pos 5 ∷ []) [] [] [] 1 1 [] (pos 1 ∷ []) (negsuc 0 ∷ []) None) BadParameter (pos 1 ∷ pos 0 ∷ pos 1 ∷ [])
+refused485 = refl
+
+refused486 : Refuses (codes "IFTHEL_f") (fields (negsuc 0 ∷ []) [] (pos 5 ∷ []) [] [] [] 0 2 [] (pos 1 ∷ []) [] None) BadParameter (pos 1 ∷ pos 0 ∷ pos 1 ∷ [])
+refused486 = refl
+
+refused487 : Refuses (codes "ESELECT_f") (fields (negsuc 0 ∷ []) [] (pos 5 ∷ []) [] [] [] 0 3 [] (pos 1 ∷ []) [] None) BadParameter (pos 1 ∷ pos 0 ∷ pos 1 ∷ [])
+refused487 = refl
+
+refused488 : Refuses (codes "HALT_f") (fields [] [] [] [] [] [] 1 0 [] (pos 1 ∷ []) [] None) BadParameter (pos 1 ∷ pos 0 ∷ pos 1 ∷ [])
+refused488 = refl
+
+refused489 : Refuses (codes "EXTRACTOR") (fields (negsuc 0 ∷ []) [] (pos 5 ∷ []) (negsuc 0 ∷ []) [] (pos 5 ∷ []) 0 0 [] (many 257 (pos 1)) [] None) BadParameter (pos 1 ∷ pos 0 ∷ pos 257 ∷ [])
+refused489 = refl
+
+refused490 : Refuses (codes "SUMMATION") (fields (negsuc 0 ∷ negsuc 0 ∷ []) [] (pos 5 ∷ pos 5 ∷ []) (negsuc 0 ∷ []) [] (pos 5 ∷ []) 0 0 [] (negsuc 0 ∷ pos 1 ∷ negsuc 0 ∷ []) [] None) BadParameter (pos 1 ∷ pos 1 ∷ negsuc 0 ∷ [])
+refused490 = refl
+
+refused491 : Refuses (codes "SUMMATION") (fields (negsuc 0 ∷ negsuc 0 ∷ []) [] (pos 5 ∷ pos 5 ∷ []) (negsuc 0 ∷ []) [] (pos 5 ∷ []) 0 0 [] (pos 3 ∷ pos 1 ∷ negsuc 0 ∷ []) [] None) BadParameter (pos 1 ∷ pos 1 ∷ pos 3 ∷ [])
+refused491 = refl
+
+refused492 : Refuses (codes "SUMMATION") (fields (negsuc 0 ∷ negsuc 0 ∷ []) [] (pos 5 ∷ pos 5 ∷ []) (negsuc 0 ∷ []) [] (pos 5 ∷ []) 0 0 [] (pos 0 ∷ pos 0 ∷ pos 1 ∷ []) [] None) BadParameter (pos 1 ∷ pos 2 ∷ pos 0 ∷ [])
+refused492 = refl
+
+refused493 : Refuses (codes "SUMMATION") (fields (negsuc 0 ∷ negsuc 0 ∷ []) [] (pos 5 ∷ pos 5 ∷ []) (negsuc 0 ∷ []) [] (pos 5 ∷ []) 0 0 [] (pos 0 ∷ pos 2 ∷ pos 1 ∷ []) [] None) BadParameter (pos 1 ∷ pos 2 ∷ pos 2 ∷ [])
+refused493 = refl
+
+refused494 : Refuses (codes "SUMMATION") (fields (negsuc 0 ∷ negsuc 0 ∷ []) [] (pos 5 ∷ pos 5 ∷ []) (negsuc 0 ∷ []) [] (pos 5 ∷ []) 0 0 [] (pos 0 ∷ negsuc 1 ∷ pos 1 ∷ []) [] None) BadParameter (pos 1 ∷ pos 2 ∷ negsuc 1 ∷ [])
+refused494 = refl
+
+refused495 : Refuses (codes "SUMMATION") (fields (negsuc 0 ∷ negsuc 0 ∷ []) [] (pos 5 ∷ pos 5 ∷ []) (negsuc 0 ∷ []) [] (pos 5 ∷ []) 0 0 [] (pos 0 ∷ pos 1 ∷ pos 0 ∷ []) [] None) BadParameter (pos 1 ∷ pos 3 ∷ pos 0 ∷ [])
+refused495 = refl
+
+refused496 : Refuses (codes "SUMMATION") (fields (negsuc 0 ∷ negsuc 0 ∷ []) [] (pos 5 ∷ pos 5 ∷ []) (negsuc 0 ∷ []) [] (pos 5 ∷ []) 0 0 [] (pos 0 ∷ pos 1 ∷ pos 2 ∷ []) [] None) BadParameter (pos 1 ∷ pos 3 ∷ pos 2 ∷ [])
+refused496 = refl
+
+refused497 : Refuses (codes "SUMMATION") (fields (negsuc 0 ∷ negsuc 0 ∷ []) [] (pos 5 ∷ pos 5 ∷ []) (negsuc 0 ∷ []) [] (pos 5 ∷ []) 0 0 [] (pos 0 ∷ pos 1 ∷ negsuc 1 ∷ []) [] None) BadParameter (pos 1 ∷ pos 3 ∷ negsuc 1 ∷ [])
+refused497 = refl
+
+refused498 : Refuses (codes "GAINBLK") (fields (negsuc 0 ∷ []) [] (pos 5 ∷ []) (negsuc 0 ∷ []) [] (pos 5 ∷ []) 0 0 [] (negsuc 0 ∷ pos 3 ∷ []) [] None) BadParameter (pos 1 ∷ pos 1 ∷ negsuc 0 ∷ [])
+refused498 = refl
+
+refused499 : Refuses (codes "GAINBLK") (fields (negsuc 0 ∷ []) [] (pos 5 ∷ []) (negsuc 0 ∷ []) [] (pos 5 ∷ []) 0 0 [] (pos 3 ∷ pos 3 ∷ []) [] None) BadParameter (pos 1 ∷ pos 1 ∷ pos 3 ∷ [])
+refused499 = refl
+
+refused500 : Refuses (codes "PRODUCT") (fields (negsuc 0 ∷ negsuc 0 ∷ []) [] (pos 5 ∷ pos 5 ∷ []) (negsuc 0 ∷ []) [] (pos 5 ∷ []) 0 0 [] (negsuc 0 ∷ pos 1 ∷ []) [] None) BadParameter (pos 1 ∷ pos 1 ∷ negsuc 0 ∷ [])
+refused500 = refl
+
+refused501 : Refuses (codes "PRODUCT") (fields (negsuc 0 ∷ negsuc 0 ∷ []) [] (pos 5 ∷ pos 5 ∷ []) (negsuc 0 ∷ []) [] (pos 5 ∷ []) 0 0 [] (pos 3 ∷ pos 1 ∷ []) [] None) BadParameter (pos 1 ∷ pos 1 ∷ pos 3 ∷ [])
+refused501 = refl
+
+refused502 : Refuses (codes "PRODUCT") (fields (negsuc 0 ∷ negsuc 0 ∷ []) [] (pos 5 ∷ pos 5 ∷ []) (negsuc 0 ∷ []) [] (pos 5 ∷ []) 0 0 [] (pos 0 ∷ pos 0 ∷ []) [] None) BadParameter (pos 1 ∷ pos 2 ∷ pos 0 ∷ [])
+refused502 = refl
+
+refused503 : Refuses (codes "PRODUCT") (fields (negsuc 0 ∷ negsuc 0 ∷ []) [] (pos 5 ∷ pos 5 ∷ []) (negsuc 0 ∷ []) [] (pos 5 ∷ []) 0 0 [] (pos 0 ∷ pos 2 ∷ []) [] None) BadParameter (pos 1 ∷ pos 2 ∷ pos 2 ∷ [])
+refused503 = refl
+
+refused504 : Refuses (codes "PRODUCT") (fields (negsuc 0 ∷ negsuc 0 ∷ []) [] (pos 5 ∷ pos 5 ∷ []) (negsuc 0 ∷ []) [] (pos 5 ∷ []) 0 0 [] (pos 0 ∷ negsuc 1 ∷ []) [] None) BadParameter (pos 1 ∷ pos 2 ∷ negsuc 1 ∷ [])
+refused504 = refl
+
+refused505 : Refuses (codes "ABS_VALUE") (fields (negsuc 0 ∷ []) [] (pos 5 ∷ []) (negsuc 0 ∷ []) [] (pos 5 ∷ []) 0 0 [] (negsuc 0 ∷ []) [] None) BadParameter (pos 1 ∷ pos 1 ∷ negsuc 0 ∷ [])
+refused505 = refl
+
+refused506 : Refuses (codes "ABS_VALUE") (fields (negsuc 0 ∷ []) [] (pos 5 ∷ []) (negsuc 0 ∷ []) [] (pos 5 ∷ []) 0 0 [] (pos 3 ∷ []) [] None) BadParameter (pos 1 ∷ pos 1 ∷ pos 3 ∷ [])
+refused506 = refl
+
+refused507 : Refuses (codes "MAXMIN") (fields (negsuc 0 ∷ negsuc 0 ∷ []) [] (pos 5 ∷ pos 5 ∷ []) (negsuc 0 ∷ []) [] (pos 5 ∷ []) 0 0 [] (pos 0 ∷ []) [] None) BadParameter (pos 1 ∷ pos 1 ∷ pos 0 ∷ [])
+refused507 = refl
+
+refused508 : Refuses (codes "MAXMIN") (fields (negsuc 0 ∷ negsuc 0 ∷ []) [] (pos 5 ∷ pos 5 ∷ []) (negsuc 0 ∷ []) [] (pos 5 ∷ []) 0 0 [] (pos 3 ∷ []) [] None) BadParameter (pos 1 ∷ pos 1 ∷ pos 3 ∷ [])
+refused508 = refl
+
+refused509 : Refuses (codes "SATURATION") (fields (negsuc 0 ∷ []) [] (pos 5 ∷ []) (negsuc 0 ∷ []) [] (pos 5 ∷ []) 0 0 [] (pos 5 ∷ pos 4 ∷ []) [] None) BadParameter (pos 1 ∷ pos 2 ∷ pos 4 ∷ [])
+refused509 = refl
+
+refused510 : Refuses (codes "DEADBAND") (fields (negsuc 0 ∷ []) [] (pos 5 ∷ []) (negsuc 0 ∷ []) [] (pos 5 ∷ []) 0 0 [] (negsuc 0 ∷ negsuc 4 ∷ pos 5 ∷ []) [] None) BadParameter (pos 1 ∷ pos 1 ∷ negsuc 0 ∷ [])
+refused510 = refl
+
+refused511 : Refuses (codes "DEADBAND") (fields (negsuc 0 ∷ []) [] (pos 5 ∷ []) (negsuc 0 ∷ []) [] (pos 5 ∷ []) 0 0 [] (pos 3 ∷ negsuc 4 ∷ pos 5 ∷ []) [] None) BadParameter (pos 1 ∷ pos 1 ∷ pos 3 ∷ [])
+refused511 = refl
+
+refused512 : Refuses (codes "DEADBAND") (fields (negsuc 0 ∷ []) [] (pos 5 ∷ []) (negsuc 0 ∷ []) [] (pos 5 ∷ []) 0 0 [] (pos 0 ∷ pos 5 ∷ pos 4 ∷ []) [] None) BadParameter (pos 1 ∷ pos 3 ∷ pos 4 ∷ [])
+refused512 = refl
+
+refused513 : Refuses (codes "DEADBAND") (fields (negsuc 0 ∷ []) [] (pos 5 ∷ []) (negsuc 0 ∷ []) [] (pos 5 ∷ []) 0 0 [] (pos 3 ∷ pos 5 ∷ pos 4 ∷ []) [] None) BadParameter (pos 1 ∷ pos 1 ∷ pos 3 ∷ [])
+refused513 = refl
+
+refused514 : Refuses (codes "CONVERT") (fields (negsuc 0 ∷ []) [] (pos 5 ∷ []) (negsuc 0 ∷ []) [] (pos 5 ∷ []) 0 0 [] (negsuc 0 ∷ []) [] None) BadParameter (pos 1 ∷ pos 1 ∷ negsuc 0 ∷ [])
+refused514 = refl
+
+refused515 : Refuses (codes "CONVERT") (fields (negsuc 0 ∷ []) [] (pos 5 ∷ []) (negsuc 0 ∷ []) [] (pos 5 ∷ []) 0 0 [] (pos 3 ∷ []) [] None) BadParameter (pos 1 ∷ pos 1 ∷ pos 3 ∷ [])
+refused515 = refl
+
+refused516 : Refuses (codes "EXTRACTOR") (fields (negsuc 0 ∷ []) [] (pos 5 ∷ []) (negsuc 0 ∷ []) [] (pos 5 ∷ []) 0 0 [] (pos 1 ∷ pos 0 ∷ negsuc 0 ∷ []) [] None) BadParameter (pos 1 ∷ pos 2 ∷ pos 0 ∷ [])
+refused516 = refl
+
+refused517 : Refuses (codes "EXTRACTOR") (fields (negsuc 0 ∷ []) [] (pos 5 ∷ []) (negsuc 0 ∷ []) [] (pos 5 ∷ []) 0 0 [] (negsuc 2 ∷ []) [] None) BadParameter (pos 1 ∷ pos 1 ∷ negsuc 2 ∷ [])
+refused517 = refl
+
+refused518 : Refuses (codes "LOGICAL_OP") (fields (negsuc 0 ∷ negsuc 0 ∷ []) [] (pos 5 ∷ pos 5 ∷ []) (negsuc 0 ∷ []) [] (pos 5 ∷ []) 0 0 [] (negsuc 0 ∷ pos 0 ∷ []) [] None) BadParameter (pos 1 ∷ pos 1 ∷ negsuc 0 ∷ [])
+refused518 = refl
+
+refused519 : Refuses (codes "LOGICAL_OP") (fields (negsuc 0 ∷ negsuc 0 ∷ []) [] (pos 5 ∷ pos 5 ∷ []) (negsuc 0 ∷ []) [] (pos 5 ∷ []) 0 0 [] (pos 5 ∷ pos 0 ∷ []) [] None) BadParameter (pos 1 ∷ pos 1 ∷ pos 5 ∷ [])
+refused519 = refl
+
+refused520 : Refuses (codes "LOGICAL_OP") (fields (negsuc 0 ∷ negsuc 0 ∷ []) [] (pos 5 ∷ pos 5 ∷ []) (negsuc 0 ∷ []) [] (pos 5 ∷ []) 0 0 [] (pos 6 ∷ pos 2 ∷ []) [] None) BadParameter (pos 1 ∷ pos 1 ∷ pos 6 ∷ [])
+refused520 = refl
+
+refused521 : Refuses (codes "LOGICAL_OP") (fields (negsuc 0 ∷ []) [] (pos 5 ∷ []) (negsuc 0 ∷ []) [] (pos 5 ∷ []) 0 0 [] (pos 4 ∷ pos 1 ∷ []) [] None) BadParameter (pos 1 ∷ pos 1 ∷ pos 4 ∷ [])
+refused521 = refl
+
+refused522 : Refuses (codes "LOGICAL_OP") (fields (negsuc 0 ∷ []) [] (pos 5 ∷ []) (negsuc 0 ∷ []) [] (pos 5 ∷ []) 0 0 [] (pos 6 ∷ pos 1 ∷ []) [] None) BadParameter (pos 1 ∷ pos 1 ∷ pos 6 ∷ [])
+refused522 = refl
+
+refused523 : Refuses (codes "LOGICAL_OP") (fields (negsuc 0 ∷ negsuc 0 ∷ []) [] (pos 5 ∷ pos 5 ∷ []) (negsuc 0 ∷ []) [] (pos 5 ∷ []) 0 0 [] (pos 4 ∷ negsuc 0 ∷ []) [] None) BadParameter (pos 1 ∷ pos 2 ∷ negsuc 0 ∷ [])
+refused523 = refl
+
+refused524 : Refuses (codes "LOGICAL_OP") (fields (negsuc 0 ∷ negsuc 0 ∷ []) [] (pos 5 ∷ pos 5 ∷ []) (negsuc 0 ∷ []) [] (pos 5 ∷ []) 0 0 [] (pos 4 ∷ pos 2 ∷ []) [] None) BadParameter (pos 1 ∷ pos 2 ∷ pos 2 ∷ [])
+refused524 = refl
+
+refused525 : Refuses (codes "RELATIONALOP") (fields (negsuc 0 ∷ negsuc 0 ∷ []) [] (pos 5 ∷ pos 5 ∷ []) (negsuc 0 ∷ []) [] (pos 5 ∷ []) 0 0 [] (negsuc 0 ∷ []) [] None) BadParameter (pos 1 ∷ pos 1 ∷ negsuc 0 ∷ [])
+refused525 = refl
+
+refused526 : Refuses (codes "RELATIONALOP") (fields (negsuc 0 ∷ negsuc 0 ∷ []) [] (pos 5 ∷ pos 5 ∷ []) (negsuc 0 ∷ []) [] (pos 5 ∷ []) 0 0 [] (pos 6 ∷ []) [] None) BadParameter (pos 1 ∷ pos 1 ∷ pos 6 ∷ [])
+refused526 = refl
+
+refused527 : Refuses (codes "SHIFT") (fields (negsuc 0 ∷ []) [] (pos 5 ∷ []) (negsuc 0 ∷ []) [] (pos 5 ∷ []) 0 0 [] (negsuc 31 ∷ pos 0 ∷ []) [] None) BadParameter (pos 1 ∷ pos 1 ∷ negsuc 31 ∷ [])
+refused527 = refl
+
+refused528 : Refuses (codes "SHIFT") (fields (negsuc 0 ∷ []) [] (pos 5 ∷ []) (negsuc 0 ∷ []) [] (pos 5 ∷ []) 0 0 [] (pos 32 ∷ pos 0 ∷ []) [] None) BadParameter (pos 1 ∷ pos 1 ∷ pos 32 ∷ [])
+refused528 = refl
+
+refused529 : Refuses (codes "SHIFT") (fields (negsuc 0 ∷ []) [] (pos 5 ∷ []) (negsuc 0 ∷ []) [] (pos 5 ∷ []) 0 0 [] (negsuc 30 ∷ negsuc 0 ∷ []) [] None) BadParameter (pos 1 ∷ pos 2 ∷ negsuc 0 ∷ [])
+refused529 = refl
+
+refused530 : Refuses (codes "SHIFT") (fields (negsuc 0 ∷ []) [] (pos 5 ∷ []) (negsuc 0 ∷ []) [] (pos 5 ∷ []) 0 0 [] (negsuc 30 ∷ pos 2 ∷ []) [] None) BadParameter (pos 1 ∷ pos 2 ∷ pos 2 ∷ [])
+refused530 = refl
+
+refused531 : Refuses (codes "BITSET") (fields (negsuc 0 ∷ []) [] (pos 5 ∷ []) (negsuc 0 ∷ []) [] (pos 5 ∷ []) 0 0 [] (negsuc 0 ∷ []) [] None) BadParameter (pos 1 ∷ pos 1 ∷ negsuc 0 ∷ [])
+refused531 = refl
+
+refused532 : Refuses (codes "BITSET") (fields (negsuc 0 ∷ []) [] (pos 5 ∷ []) (negsuc 0 ∷ []) [] (pos 5 ∷ []) 0 0 [] (pos 32 ∷ []) [] None) BadParameter (pos 1 ∷ pos 1 ∷ pos 32 ∷ [])
+refused532 = refl
+
+refused533 : Refuses (codes "BITCLEAR") (fields (negsuc 0 ∷ []) [] (pos 5 ∷ []) (negsuc 0 ∷ []) [] (pos 5 ∷ []) 0 0 [] (negsuc 0 ∷ []) [] None) BadParameter (pos 1 ∷ pos 1 ∷ negsuc 0 ∷ [])
+refused533 = refl
+
+refused534 : Refuses (codes "BITCLEAR") (fields (negsuc 0 ∷ []) [] (pos 5 ∷ []) (negsuc 0 ∷ []) [] (pos 5 ∷ []) 0 0 [] (pos 32 ∷ []) [] None) BadParameter (pos 1 ∷ pos 1 ∷ pos 32 ∷ [])
+refused534 = refl
+
+refused535 : Refuses (codes "EXTRACTBITS") (fields (negsuc 0 ∷ []) [] (pos 5 ∷ []) (negsuc 0 ∷ []) [] (pos 5 ∷ []) 0 0 [] (negsuc 0 ∷ pos 0 ∷ []) [] None) BadParameter (pos 1 ∷ pos 1 ∷ negsuc 0 ∷ [])
+refused535 = refl
+
+refused536 : Refuses (codes "EXTRACTBITS") (fields (negsuc 0 ∷ []) [] (pos 5 ∷ []) (negsuc 0 ∷ []) [] (pos 5 ∷ []) 0 0 [] (pos 32 ∷ pos 32 ∷ []) [] None) BadParameter (pos 1 ∷ pos 1 ∷ pos 32 ∷ [])
+refused536 = refl
+
+refused537 : Refuses (codes "EXTRACTBITS") (fields (negsuc 0 ∷ []) [] (pos 5 ∷ []) (negsuc 0 ∷ []) [] (pos 5 ∷ []) 0 0 [] (pos 31 ∷ pos 32 ∷ []) [] None) BadParameter (pos 1 ∷ pos 2 ∷ pos 32 ∷ [])
+refused537 = refl
+
+refused538 : Refuses (codes "EXTRACTBITS") (fields (negsuc 0 ∷ []) [] (pos 5 ∷ []) (negsuc 0 ∷ []) [] (pos 5 ∷ []) 0 0 [] (pos 4 ∷ pos 3 ∷ []) [] None) BadParameter (pos 1 ∷ pos 2 ∷ pos 3 ∷ [])
+refused538 = refl
+
+refused539 : Refuses (codes "SWITCH2_m") (fields (negsuc 0 ∷ negsuc 0 ∷ negsuc 0 ∷ []) [] (pos 5 ∷ pos 5 ∷ pos 5 ∷ []) (negsuc 0 ∷ []) [] (pos 5 ∷ []) 0 0 [] (negsuc 0 ∷ pos 0 ∷ []) [] None) BadParameter (pos 1 ∷ pos 1 ∷ negsuc 0 ∷ [])
+refused539 = refl
+
+refused540 : Refuses (codes "SWITCH2_m") (fields (negsuc 0 ∷ negsuc 0 ∷ negsuc 0 ∷ []) [] (pos 5 ∷ pos 5 ∷ pos 5 ∷ []) (negsuc 0 ∷ []) [] (pos 5 ∷ []) 0 0 [] (pos 3 ∷ pos 0 ∷ []) [] None) BadParameter (pos 1 ∷ pos 1 ∷ pos 3 ∷ [])
+refused540 = refl
+
+refused541 : Refuses (codes "SWITCH2_m") (fields (negsuc 0 ∷ negsuc 0 ∷ negsuc 0 ∷ []) [] (pos 5 ∷ pos 5 ∷ pos 5 ∷ []) (negsuc 0 ∷ []) [] (pos 5 ∷ []) 0 0 [] (pos 0 ∷ negsuc 2147483648 ∷ []) [] None) BadParameter (pos 1 ∷ pos 2 ∷ negsuc 2147483648 ∷ [])
+refused541 = refl
+
+refused542 : Refuses (codes "SWITCH2_m") (fields (negsuc 0 ∷ negsuc 0 ∷ negsuc 0 ∷ []) [] (pos 5 ∷ pos 5 ∷ pos 5 ∷ []) (negsuc 0 ∷ []) [] (pos 5 ∷ []) 0 0 [] (pos 0 ∷ pos 4294967296 ∷ []) [] None) BadParameter (pos 1 ∷ pos 2 ∷ pos 4294967296 ∷ [])
+refused542 = refl
+
+refused543 : Refuses (codes "LOGIC") (fields (negsuc 0 ∷ negsuc 0 ∷ []) [] (pos 5 ∷ pos 5 ∷ []) (negsuc 0 ∷ []) [] (pos 5 ∷ []) 0 0 [] (pos 0 ∷ pos 1 ∷ pos 2 ∷ negsuc 0 ∷ []) [] None) BadParameter (pos 1 ∷ pos 3 ∷ pos 2 ∷ [])
+refused543 = refl
+
+refused544 : Refuses (codes "LOGIC") (fields (negsuc 0 ∷ negsuc 0 ∷ []) [] (pos 5 ∷ pos 5 ∷ []) (negsuc 0 ∷ []) [] (pos 5 ∷ []) 0 0 [] (negsuc 0 ∷ pos 1 ∷ pos 2 ∷ pos 1 ∷ []) [] None) BadParameter (pos 1 ∷ pos 1 ∷ negsuc 0 ∷ [])
+refused544 = refl
+
+refused545 : Refuses (codes "LOGIC") (fields (negsuc 0 ∷ negsuc 0 ∷ []) [] (pos 5 ∷ pos 5 ∷ []) (negsuc 0 ∷ negsuc 0 ∷ []) [] (pos 5 ∷ pos 5 ∷ []) 0 0 [] (pos 0 ∷ pos 0 ∷ pos 0 ∷ pos 1 ∷ []) [] None) BadParameter (pos 1 ∷ pos 0 ∷ pos 4 ∷ [])
+refused545 = refl
+
+refused546 : Refuses (codes "Modulo_Count") (fields [] [] [] (negsuc 0 ∷ []) [] (pos 5 ∷ []) 1 0 (pos 0 ∷ []) (pos 0 ∷ []) [] None) BadParameter (pos 1 ∷ pos 1 ∷ pos 0 ∷ [])
+refused546 = refl
+
+refused547 : Refuses (codes "Modulo_Count") (fields [] [] [] (negsuc 0 ∷ []) [] (pos 5 ∷ []) 1 0 (pos 0 ∷ []) (pos 2147483648 ∷ []) [] None) BadParameter (pos 1 ∷ pos 1 ∷ pos 2147483648 ∷ [])
+refused547 = refl
+
+refused548 : Refuses (codes "SENSOR") (fields [] [] [] (negsuc 0 ∷ []) [] (pos 5 ∷ []) 1 0 [] (pos 0 ∷ []) [] None) BadParameter (pos 1 ∷ pos 1 ∷ pos 0 ∷ [])
+refused548 = refl
+
+refused549 : Refuses (codes "SENSOR") (fields [] [] [] (negsuc 0 ∷ []) [] (pos 5 ∷ []) 1 0 [] (pos 256 ∷ []) [] None) BadParameter (pos 1 ∷ pos 1 ∷ pos 256 ∷ [])
+refused549 = refl
+
+refused550 : Refuses (codes "EVTDLY_c") (fields [] [] [] [] [] [] 1 1 [] (negsuc 1 ∷ []) (pos 0 ∷ []) None) BadParameter (pos 1 ∷ pos 1 ∷ negsuc 1 ∷ [])
+refused550 = refl
+
+refused551 : Refuses (codes "EVTDLY_c") (fields [] [] [] [] [] [] 1 1 [] (pos 2147483648 ∷ []) (pos 0 ∷ []) None) BadParameter (pos 1 ∷ pos 1 ∷ pos 2147483648 ∷ [])
+refused551 = refl
+
+refused552 : Refuses (codes "DOLLAR_m") (fields (negsuc 0 ∷ []) [] (pos 5 ∷ []) (negsuc 0 ∷ []) [] (pos 5 ∷ []) 1 0 [] [] [] None) BadParameter (pos 2 ∷ pos 0 ∷ pos 0 ∷ [])
+refused552 = refl
+
+refused553 : Refuses (codes "GATED_DELAY") (fields (negsuc 0 ∷ negsuc 0 ∷ []) [] (pos 5 ∷ pos 5 ∷ []) (negsuc 0 ∷ []) [] (pos 5 ∷ []) 1 0 [] [] [] None) BadParameter (pos 2 ∷ pos 0 ∷ pos 0 ∷ [])
+refused553 = refl
+
+refused554 : Refuses (codes "REGISTER") (fields (negsuc 0 ∷ []) [] (pos 5 ∷ []) (negsuc 0 ∷ []) [] (pos 5 ∷ []) 1 0 [] [] [] None) BadParameter (pos 2 ∷ pos 0 ∷ pos 0 ∷ [])
+refused554 = refl
+
+refused555 : Refuses (codes "Modulo_Count") (fields [] [] [] (negsuc 0 ∷ []) [] (pos 5 ∷ []) 1 0 [] (pos 10 ∷ []) [] None) BadParameter (pos 2 ∷ pos 0 ∷ pos 0 ∷ [])
+refused555 = refl
+
+refused556 : Refuses (codes "REGISTER") (fields (negsuc 0 ∷ []) [] (pos 5 ∷ []) (negsuc 0 ∷ []) [] (pos 5 ∷ []) 1 0 (many 257 (pos 1)) [] [] None) BadParameter (pos 2 ∷ pos 0 ∷ pos 257 ∷ [])
+refused556 = refl
+
+refused557 : Refuses (codes "Modulo_Count") (fields [] [] [] (negsuc 0 ∷ []) [] (pos 5 ∷ []) 1 0 (pos 0 ∷ pos 0 ∷ []) (pos 10 ∷ []) [] None) BadParameter (pos 2 ∷ pos 0 ∷ pos 2 ∷ [])
+refused557 = refl
+
+refused558 : Refuses (codes "Modulo_Count") (fields [] [] [] (negsuc 0 ∷ []) [] (pos 5 ∷ []) 1 0 (negsuc 0 ∷ []) (pos 10 ∷ []) [] None) BadParameter (pos 2 ∷ pos 1 ∷ negsuc 0 ∷ [])
+refused558 = refl
+
+refused559 : Refuses (codes "Modulo_Count") (fields [] [] [] (negsuc 0 ∷ []) [] (pos 5 ∷ []) 1 0 (pos 10 ∷ []) (pos 10 ∷ []) [] None) BadParameter (pos 2 ∷ pos 1 ∷ pos 10 ∷ [])
+refused559 = refl
+
+refused560 : Refuses (codes "EVTDLY_c") (fields [] [] [] [] [] [] 1 1 [] (pos 5 ∷ []) (pos 2147483648 ∷ []) None) BadParameter (pos 3 ∷ pos 1 ∷ pos 2147483648 ∷ [])
+refused560 = refl
+
+refused561 : Refuses (codes "EVTVARDLY") (fields (negsuc 0 ∷ []) [] (pos 5 ∷ []) [] [] [] 1 1 [] [] (pos 2147483648 ∷ []) None) BadParameter (pos 3 ∷ pos 1 ∷ pos 2147483648 ∷ [])
+refused561 = refl
+
+refused562 : Refuses (codes "SUMMATION") (fields (negsuc 0 ∷ negsuc 0 ∷ []) [] (pos 5 ∷ pos 9 ∷ []) (pos 1 ∷ pos 1 ∷ []) [] (pos 0 ∷ pos 0 ∷ []) 0 0 [] (pos 3 ∷ pos 0 ∷ pos 2 ∷ []) [] (all false true)) PortShape (pos 2 ∷ pos 2 ∷ [])
+refused562 = refl
+
+refused563 : Refuses (codes "SUMMATION") (fields (negsuc 0 ∷ negsuc 0 ∷ []) [] (pos 5 ∷ pos 9 ∷ []) (negsuc 0 ∷ []) [] (pos 0 ∷ []) 0 0 [] (pos 3 ∷ pos 0 ∷ pos 2 ∷ []) [] (all false true)) NotInteger (pos 1 ∷ pos 2 ∷ pos 9 ∷ [])
+refused563 = refl
+
+refused564 : Refuses (codes "SUMMATION") (fields (negsuc 0 ∷ negsuc 0 ∷ []) [] (pos 5 ∷ pos 5 ∷ []) (negsuc 0 ∷ []) [] (pos 0 ∷ []) 0 0 [] (pos 3 ∷ pos 0 ∷ pos 2 ∷ []) [] (all false true)) NotInteger (pos 2 ∷ pos 1 ∷ pos 0 ∷ [])
+refused564 = refl
+
+refused565 : Refuses (codes "SUMMATION") (fields (negsuc 0 ∷ negsuc 0 ∷ []) [] (pos 5 ∷ pos 5 ∷ []) (negsuc 0 ∷ []) [] (pos 5 ∷ []) 0 0 [] (pos 3 ∷ pos 0 ∷ pos 2 ∷ []) [] (all false true)) AlwaysActive []
+refused565 = refl
+
+refused566 : Refuses (codes "SUMMATION") (fields (negsuc 0 ∷ negsuc 0 ∷ []) [] (pos 5 ∷ pos 5 ∷ []) (negsuc 0 ∷ []) [] (pos 5 ∷ []) 0 0 [] (pos 3 ∷ pos 0 ∷ pos 2 ∷ []) [] (all false false)) BadParameter (pos 1 ∷ pos 1 ∷ pos 3 ∷ [])
+refused566 = refl
+
+refused567 : Refuses (codes "SUMMATION") (fields (negsuc 0 ∷ negsuc 0 ∷ []) [] (pos 5 ∷ pos 5 ∷ []) (negsuc 0 ∷ []) [] (pos 5 ∷ []) 0 0 [] (pos 2 ∷ pos 0 ∷ pos 2 ∷ []) [] (all false false)) BadParameter (pos 1 ∷ pos 2 ∷ pos 0 ∷ [])
+refused567 = refl
+
+refused568 : Refuses (codes "SUMMATION") (fields (negsuc 0 ∷ negsuc 0 ∷ []) [] (pos 5 ∷ pos 5 ∷ []) (negsuc 0 ∷ []) [] (pos 5 ∷ []) 0 0 [] (pos 2 ∷ negsuc 0 ∷ pos 2 ∷ []) [] (all false false)) BadParameter (pos 1 ∷ pos 3 ∷ pos 2 ∷ [])
+refused568 = refl
+
+refused569 : Refuses (codes "SUMMATION") (fields (negsuc 0 ∷ negsuc 0 ∷ []) [] (pos 5 ∷ pos 5 ∷ []) (negsuc 0 ∷ []) [] (pos 5 ∷ []) 0 0 [] (pos 2 ∷ negsuc 0 ∷ pos 1 ∷ []) [] (all false false)) BadParameter (pos 4 ∷ pos 1 ∷ pos 0 ∷ [])
+refused569 = refl
+
+refused570 : Refuses (codes "Modulo_Count") (fields [] [] [] (negsuc 0 ∷ []) [] (pos 5 ∷ []) 1 0 [] (pos 0 ∷ pos 0 ∷ []) [] None) BadParameter (pos 1 ∷ pos 0 ∷ pos 2 ∷ [])
+refused570 = refl
+
+refused571 : Refuses (codes "Modulo_Count") (fields [] [] [] (negsuc 0 ∷ []) [] (pos 5 ∷ []) 1 0 [] (pos 0 ∷ []) [] None) BadParameter (pos 1 ∷ pos 1 ∷ pos 0 ∷ [])
+refused571 = refl
+
+refused572 : Refuses (codes "Modulo_Count") (fields [] [] [] (negsuc 0 ∷ []) [] (pos 5 ∷ []) 1 0 [] (pos 1 ∷ []) [] None) BadParameter (pos 2 ∷ pos 0 ∷ pos 0 ∷ [])
+refused572 = refl
+
+refused573 : Refuses (codes "Modulo_Count") (fields [] [] [] (negsuc 0 ∷ []) [] (pos 5 ∷ []) 1 0 (pos 1 ∷ []) (pos 1 ∷ []) [] None) BadParameter (pos 2 ∷ pos 1 ∷ pos 1 ∷ [])
+refused573 = refl
+
+refused574 : Refuses (codes "GATED_DELAY") (fields (negsuc 0 ∷ negsuc 0 ∷ []) [] (pos 5 ∷ pos 5 ∷ []) (negsuc 0 ∷ []) [] (pos 5 ∷ []) 1 0 [] (pos 0 ∷ []) [] (all false false)) BadParameter (pos 1 ∷ pos 0 ∷ pos 1 ∷ [])
+refused574 = refl
+
+refused575 : Refuses (codes "GATED_DELAY") (fields (negsuc 0 ∷ negsuc 0 ∷ []) [] (pos 5 ∷ pos 5 ∷ []) (negsuc 0 ∷ []) [] (pos 5 ∷ []) 1 0 [] [] [] (all false false)) BadParameter (pos 2 ∷ pos 0 ∷ pos 0 ∷ [])
+refused575 = refl
+
+refused576 : Refuses (codes "GATED_DELAY") (fields (negsuc 0 ∷ negsuc 0 ∷ []) [] (pos 5 ∷ pos 5 ∷ []) (negsuc 0 ∷ []) [] (pos 5 ∷ []) 1 0 (pos 0 ∷ []) [] [] (all false false)) BadParameter (pos 4 ∷ pos 1 ∷ pos 0 ∷ [])
+refused576 = refl
+
+refused577 : Refuses (codes "GATED_DELAY") (fields (negsuc 0 ∷ negsuc 0 ∷ []) [] (pos 5 ∷ pos 5 ∷ []) (negsuc 0 ∷ []) [] (pos 5 ∷ []) 1 0 [] [] [] (each (true ∷ []) false)) BadParameter (pos 2 ∷ pos 0 ∷ pos 0 ∷ [])
+refused577 = refl
+
+refused578 : Refuses (codes "EVTDLY_c") (fields [] [] [] [] [] [] 1 1 [] (pos 5 ∷ []) (pos 2147483648 ∷ []) (each (false ∷ []) false)) BadParameter (pos 3 ∷ pos 1 ∷ pos 2147483648 ∷ [])
+refused578 = refl
+
+refused579 : Refuses (codes "EVTDLY_c") (fields [] [] [] [] [] [] 1 1 [] (pos 5 ∷ []) (pos 0 ∷ []) (each (false ∷ []) false)) BadParameter (pos 4 ∷ pos 0 ∷ pos 1 ∷ [])
+refused579 = refl
+
+refused580 : Refuses (codes "EVTVARDLY") (fields (negsuc 0 ∷ []) [] (pos 5 ∷ []) [] [] [] 1 1 [] [] (negsuc 0 ∷ []) (each (true ∷ true ∷ []) false)) BadParameter (pos 4 ∷ pos 0 ∷ pos 2 ∷ [])
+refused580 = refl
+
+refused581 : Refuses (codes "EVTDLY_c") (fields [] [] [] [] [] [] 1 1 [] (negsuc 1 ∷ []) (pos 2147483648 ∷ []) None) BadParameter (pos 1 ∷ pos 1 ∷ negsuc 1 ∷ [])
+refused581 = refl
+
+refused582 : Refuses (codes "EVTDLY_c") (fields [] [] [] [] [] [] 1 1 [] (negsuc 0 ∷ []) (pos 2147483648 ∷ []) None) BadParameter (pos 3 ∷ pos 1 ∷ pos 2147483648 ∷ [])
+refused582 = refl
+
+passes1 : Passes (codes "CONST_m") (fields [] [] [] (negsuc 0 ∷ []) [] (pos 5 ∷ []) 0 0 [] (pos 7 ∷ []) [] None) (block Const (pos 7 ∷ []) [] [] [] ((port (negsuc 0) (pos 1) (pos 5)) ∷ []) 0 0 [])
 passes1 = refl
 
-passes2 : Passes (codes "CONST_m") (fields [] [] [] (negsuc 0 ∷ []) [] (pos 5 ∷ []) 0 0 [] (pos 7 ∷ []) [] None) (block Const (pos 7 ∷ []) [] [] [] ((port (negsuc 0) (pos 1) (pos 5)) ∷ []) 0 0 false)
+passes2 : Passes (codes "CONST_m") (fields [] [] [] (negsuc 0 ∷ []) [] (pos 5 ∷ []) 0 0 [] (pos 7 ∷ []) [] None) (block Const (pos 7 ∷ []) [] [] [] ((port (negsuc 0) (pos 1) (pos 5)) ∷ []) 0 0 [])
 passes2 = refl
 
-passes3 : Passes (codes "SUMMATION") (fields (negsuc 0 ∷ negsuc 0 ∷ []) [] (pos 5 ∷ pos 5 ∷ []) (negsuc 0 ∷ []) [] (pos 5 ∷ []) 0 0 [] (pos 0 ∷ pos 1 ∷ negsuc 0 ∷ []) [] None) (block Summation (pos 0 ∷ pos 1 ∷ negsuc 0 ∷ []) [] [] ((port (negsuc 0) (pos 1) (pos 5)) ∷ (port (negsuc 0) (pos 1) (pos 5)) ∷ []) ((port (negsuc 0) (pos 1) (pos 5)) ∷ []) 0 0 true)
+passes3 : Passes (codes "SUMMATION") (fields (negsuc 0 ∷ negsuc 0 ∷ []) [] (pos 5 ∷ pos 5 ∷ []) (negsuc 0 ∷ []) [] (pos 5 ∷ []) 0 0 [] (pos 0 ∷ pos 1 ∷ negsuc 0 ∷ []) [] None) (block Summation (pos 0 ∷ pos 1 ∷ negsuc 0 ∷ []) [] [] ((port (negsuc 0) (pos 1) (pos 5)) ∷ (port (negsuc 0) (pos 1) (pos 5)) ∷ []) ((port (negsuc 0) (pos 1) (pos 5)) ∷ []) 0 0 (true ∷ true ∷ []))
 passes3 = refl
 
-passes4 : Passes (codes "SUMMATION") (fields (negsuc 0 ∷ negsuc 0 ∷ []) [] (pos 5 ∷ pos 5 ∷ []) (negsuc 0 ∷ []) [] (pos 5 ∷ []) 1 0 [] (pos 0 ∷ pos 1 ∷ negsuc 0 ∷ []) [] None) (block Summation (pos 0 ∷ pos 1 ∷ negsuc 0 ∷ []) [] [] ((port (negsuc 0) (pos 1) (pos 5)) ∷ (port (negsuc 0) (pos 1) (pos 5)) ∷ []) ((port (negsuc 0) (pos 1) (pos 5)) ∷ []) 1 0 true)
+passes4 : Passes (codes "SUMMATION") (fields (negsuc 0 ∷ negsuc 0 ∷ []) [] (pos 5 ∷ pos 5 ∷ []) (negsuc 0 ∷ []) [] (pos 5 ∷ []) 1 0 [] (pos 0 ∷ pos 1 ∷ negsuc 0 ∷ []) [] None) (block Summation (pos 0 ∷ pos 1 ∷ negsuc 0 ∷ []) [] [] ((port (negsuc 0) (pos 1) (pos 5)) ∷ (port (negsuc 0) (pos 1) (pos 5)) ∷ []) ((port (negsuc 0) (pos 1) (pos 5)) ∷ []) 1 0 (true ∷ true ∷ []))
 passes4 = refl
 
-passes5 : Passes (codes "SUMMATION") (fields (negsuc 0 ∷ negsuc 0 ∷ []) [] (pos 5 ∷ pos 5 ∷ []) (negsuc 0 ∷ []) [] (pos 5 ∷ []) 0 0 [] (pos 0 ∷ pos 1 ∷ negsuc 0 ∷ []) [] None) (block Summation (pos 0 ∷ pos 1 ∷ negsuc 0 ∷ []) [] [] ((port (negsuc 0) (pos 1) (pos 5)) ∷ (port (negsuc 0) (pos 1) (pos 5)) ∷ []) ((port (negsuc 0) (pos 1) (pos 5)) ∷ []) 0 0 true)
+passes5 : Passes (codes "SUMMATION") (fields (negsuc 0 ∷ negsuc 0 ∷ []) [] (pos 5 ∷ pos 5 ∷ []) (negsuc 0 ∷ []) [] (pos 5 ∷ []) 0 0 [] (pos 0 ∷ pos 1 ∷ negsuc 0 ∷ []) [] None) (block Summation (pos 0 ∷ pos 1 ∷ negsuc 0 ∷ []) [] [] ((port (negsuc 0) (pos 1) (pos 5)) ∷ (port (negsuc 0) (pos 1) (pos 5)) ∷ []) ((port (negsuc 0) (pos 1) (pos 5)) ∷ []) 0 0 (true ∷ true ∷ []))
 passes5 = refl
 
-passes6 : Passes (codes "GAINBLK") (fields (negsuc 0 ∷ []) [] (pos 5 ∷ []) (negsuc 0 ∷ []) [] (pos 5 ∷ []) 0 0 [] (pos 0 ∷ pos 3 ∷ []) [] None) (block GainBlk (pos 0 ∷ pos 3 ∷ []) [] [] ((port (negsuc 0) (pos 1) (pos 5)) ∷ []) ((port (negsuc 0) (pos 1) (pos 5)) ∷ []) 0 0 true)
+passes6 : Passes (codes "GAINBLK") (fields (negsuc 0 ∷ []) [] (pos 5 ∷ []) (negsuc 0 ∷ []) [] (pos 5 ∷ []) 0 0 [] (pos 0 ∷ pos 3 ∷ []) [] None) (block GainBlk (pos 0 ∷ pos 3 ∷ []) [] [] ((port (negsuc 0) (pos 1) (pos 5)) ∷ []) ((port (negsuc 0) (pos 1) (pos 5)) ∷ []) 0 0 (true ∷ []))
 passes6 = refl
 
-passes7 : Passes (codes "GAINBLK") (fields (negsuc 0 ∷ []) [] (pos 5 ∷ []) (negsuc 0 ∷ []) [] (pos 5 ∷ []) 1 0 [] (pos 0 ∷ pos 3 ∷ []) [] None) (block GainBlk (pos 0 ∷ pos 3 ∷ []) [] [] ((port (negsuc 0) (pos 1) (pos 5)) ∷ []) ((port (negsuc 0) (pos 1) (pos 5)) ∷ []) 1 0 true)
+passes7 : Passes (codes "GAINBLK") (fields (negsuc 0 ∷ []) [] (pos 5 ∷ []) (negsuc 0 ∷ []) [] (pos 5 ∷ []) 1 0 [] (pos 0 ∷ pos 3 ∷ []) [] None) (block GainBlk (pos 0 ∷ pos 3 ∷ []) [] [] ((port (negsuc 0) (pos 1) (pos 5)) ∷ []) ((port (negsuc 0) (pos 1) (pos 5)) ∷ []) 1 0 (true ∷ []))
 passes7 = refl
 
-passes8 : Passes (codes "GAINBLK") (fields (negsuc 0 ∷ []) [] (pos 5 ∷ []) (negsuc 0 ∷ []) [] (pos 5 ∷ []) 0 0 [] (pos 0 ∷ pos 3 ∷ []) [] None) (block GainBlk (pos 0 ∷ pos 3 ∷ []) [] [] ((port (negsuc 0) (pos 1) (pos 5)) ∷ []) ((port (negsuc 0) (pos 1) (pos 5)) ∷ []) 0 0 true)
+passes8 : Passes (codes "GAINBLK") (fields (negsuc 0 ∷ []) [] (pos 5 ∷ []) (negsuc 0 ∷ []) [] (pos 5 ∷ []) 0 0 [] (pos 0 ∷ pos 3 ∷ []) [] None) (block GainBlk (pos 0 ∷ pos 3 ∷ []) [] [] ((port (negsuc 0) (pos 1) (pos 5)) ∷ []) ((port (negsuc 0) (pos 1) (pos 5)) ∷ []) 0 0 (true ∷ []))
 passes8 = refl
 
-passes9 : Passes (codes "PRODUCT") (fields (negsuc 0 ∷ negsuc 0 ∷ []) [] (pos 5 ∷ pos 5 ∷ []) (negsuc 0 ∷ []) [] (pos 5 ∷ []) 0 0 [] (pos 0 ∷ pos 1 ∷ []) [] None) (block Product (pos 0 ∷ pos 1 ∷ []) [] [] ((port (negsuc 0) (pos 1) (pos 5)) ∷ (port (negsuc 0) (pos 1) (pos 5)) ∷ []) ((port (negsuc 0) (pos 1) (pos 5)) ∷ []) 0 0 true)
+passes9 : Passes (codes "PRODUCT") (fields (negsuc 0 ∷ negsuc 0 ∷ []) [] (pos 5 ∷ pos 5 ∷ []) (negsuc 0 ∷ []) [] (pos 5 ∷ []) 0 0 [] (pos 0 ∷ pos 1 ∷ []) [] None) (block Product (pos 0 ∷ pos 1 ∷ []) [] [] ((port (negsuc 0) (pos 1) (pos 5)) ∷ (port (negsuc 0) (pos 1) (pos 5)) ∷ []) ((port (negsuc 0) (pos 1) (pos 5)) ∷ []) 0 0 (true ∷ true ∷ []))
 passes9 = refl
 
-passes10 : Passes (codes "PRODUCT") (fields (negsuc 0 ∷ negsuc 0 ∷ []) [] (pos 5 ∷ pos 5 ∷ []) (negsuc 0 ∷ []) [] (pos 5 ∷ []) 1 0 [] (pos 0 ∷ pos 1 ∷ []) [] None) (block Product (pos 0 ∷ pos 1 ∷ []) [] [] ((port (negsuc 0) (pos 1) (pos 5)) ∷ (port (negsuc 0) (pos 1) (pos 5)) ∷ []) ((port (negsuc 0) (pos 1) (pos 5)) ∷ []) 1 0 true)
+passes10 : Passes (codes "PRODUCT") (fields (negsuc 0 ∷ negsuc 0 ∷ []) [] (pos 5 ∷ pos 5 ∷ []) (negsuc 0 ∷ []) [] (pos 5 ∷ []) 1 0 [] (pos 0 ∷ pos 1 ∷ []) [] None) (block Product (pos 0 ∷ pos 1 ∷ []) [] [] ((port (negsuc 0) (pos 1) (pos 5)) ∷ (port (negsuc 0) (pos 1) (pos 5)) ∷ []) ((port (negsuc 0) (pos 1) (pos 5)) ∷ []) 1 0 (true ∷ true ∷ []))
 passes10 = refl
 
-passes11 : Passes (codes "PRODUCT") (fields (negsuc 0 ∷ negsuc 0 ∷ []) [] (pos 5 ∷ pos 5 ∷ []) (negsuc 0 ∷ []) [] (pos 5 ∷ []) 0 0 [] (pos 0 ∷ pos 1 ∷ []) [] None) (block Product (pos 0 ∷ pos 1 ∷ []) [] [] ((port (negsuc 0) (pos 1) (pos 5)) ∷ (port (negsuc 0) (pos 1) (pos 5)) ∷ []) ((port (negsuc 0) (pos 1) (pos 5)) ∷ []) 0 0 true)
+passes11 : Passes (codes "PRODUCT") (fields (negsuc 0 ∷ negsuc 0 ∷ []) [] (pos 5 ∷ pos 5 ∷ []) (negsuc 0 ∷ []) [] (pos 5 ∷ []) 0 0 [] (pos 0 ∷ pos 1 ∷ []) [] None) (block Product (pos 0 ∷ pos 1 ∷ []) [] [] ((port (negsuc 0) (pos 1) (pos 5)) ∷ (port (negsuc 0) (pos 1) (pos 5)) ∷ []) ((port (negsuc 0) (pos 1) (pos 5)) ∷ []) 0 0 (true ∷ true ∷ []))
 passes11 = refl
 
-passes12 : Passes (codes "ABS_VALUE") (fields (negsuc 0 ∷ []) [] (pos 5 ∷ []) (negsuc 0 ∷ []) [] (pos 5 ∷ []) 0 0 [] (pos 0 ∷ []) [] None) (block AbsValue (pos 0 ∷ []) [] [] ((port (negsuc 0) (pos 1) (pos 5)) ∷ []) ((port (negsuc 0) (pos 1) (pos 5)) ∷ []) 0 0 true)
+passes12 : Passes (codes "ABS_VALUE") (fields (negsuc 0 ∷ []) [] (pos 5 ∷ []) (negsuc 0 ∷ []) [] (pos 5 ∷ []) 0 0 [] (pos 0 ∷ []) [] None) (block AbsValue (pos 0 ∷ []) [] [] ((port (negsuc 0) (pos 1) (pos 5)) ∷ []) ((port (negsuc 0) (pos 1) (pos 5)) ∷ []) 0 0 (true ∷ []))
 passes12 = refl
 
-passes13 : Passes (codes "ABS_VALUE") (fields (negsuc 0 ∷ []) [] (pos 5 ∷ []) (negsuc 0 ∷ []) [] (pos 5 ∷ []) 1 0 [] (pos 0 ∷ []) [] None) (block AbsValue (pos 0 ∷ []) [] [] ((port (negsuc 0) (pos 1) (pos 5)) ∷ []) ((port (negsuc 0) (pos 1) (pos 5)) ∷ []) 1 0 true)
+passes13 : Passes (codes "ABS_VALUE") (fields (negsuc 0 ∷ []) [] (pos 5 ∷ []) (negsuc 0 ∷ []) [] (pos 5 ∷ []) 1 0 [] (pos 0 ∷ []) [] None) (block AbsValue (pos 0 ∷ []) [] [] ((port (negsuc 0) (pos 1) (pos 5)) ∷ []) ((port (negsuc 0) (pos 1) (pos 5)) ∷ []) 1 0 (true ∷ []))
 passes13 = refl
 
-passes14 : Passes (codes "ABS_VALUE") (fields (negsuc 0 ∷ []) [] (pos 5 ∷ []) (negsuc 0 ∷ []) [] (pos 5 ∷ []) 0 0 [] (pos 0 ∷ []) [] None) (block AbsValue (pos 0 ∷ []) [] [] ((port (negsuc 0) (pos 1) (pos 5)) ∷ []) ((port (negsuc 0) (pos 1) (pos 5)) ∷ []) 0 0 true)
+passes14 : Passes (codes "ABS_VALUE") (fields (negsuc 0 ∷ []) [] (pos 5 ∷ []) (negsuc 0 ∷ []) [] (pos 5 ∷ []) 0 0 [] (pos 0 ∷ []) [] None) (block AbsValue (pos 0 ∷ []) [] [] ((port (negsuc 0) (pos 1) (pos 5)) ∷ []) ((port (negsuc 0) (pos 1) (pos 5)) ∷ []) 0 0 (true ∷ []))
 passes14 = refl
 
-passes15 : Passes (codes "SIGNUM") (fields (negsuc 0 ∷ []) [] (pos 5 ∷ []) (negsuc 0 ∷ []) [] (pos 5 ∷ []) 0 0 [] [] [] None) (block Signum [] [] [] ((port (negsuc 0) (pos 1) (pos 5)) ∷ []) ((port (negsuc 0) (pos 1) (pos 5)) ∷ []) 0 0 true)
+passes15 : Passes (codes "SIGNUM") (fields (negsuc 0 ∷ []) [] (pos 5 ∷ []) (negsuc 0 ∷ []) [] (pos 5 ∷ []) 0 0 [] [] [] None) (block Signum [] [] [] ((port (negsuc 0) (pos 1) (pos 5)) ∷ []) ((port (negsuc 0) (pos 1) (pos 5)) ∷ []) 0 0 (true ∷ []))
 passes15 = refl
 
-passes16 : Passes (codes "SIGNUM") (fields (negsuc 0 ∷ []) [] (pos 5 ∷ []) (negsuc 0 ∷ []) [] (pos 5 ∷ []) 1 0 [] [] [] None) (block Signum [] [] [] ((port (negsuc 0) (pos 1) (pos 5)) ∷ []) ((port (negsuc 0) (pos 1) (pos 5)) ∷ []) 1 0 true)
+passes16 : Passes (codes "SIGNUM") (fields (negsuc 0 ∷ []) [] (pos 5 ∷ []) (negsuc 0 ∷ []) [] (pos 5 ∷ []) 1 0 [] [] [] None) (block Signum [] [] [] ((port (negsuc 0) (pos 1) (pos 5)) ∷ []) ((port (negsuc 0) (pos 1) (pos 5)) ∷ []) 1 0 (true ∷ []))
 passes16 = refl
 
-passes17 : Passes (codes "SIGNUM") (fields (negsuc 0 ∷ []) [] (pos 5 ∷ []) (negsuc 0 ∷ []) [] (pos 5 ∷ []) 0 0 [] [] [] None) (block Signum [] [] [] ((port (negsuc 0) (pos 1) (pos 5)) ∷ []) ((port (negsuc 0) (pos 1) (pos 5)) ∷ []) 0 0 true)
+passes17 : Passes (codes "SIGNUM") (fields (negsuc 0 ∷ []) [] (pos 5 ∷ []) (negsuc 0 ∷ []) [] (pos 5 ∷ []) 0 0 [] [] [] None) (block Signum [] [] [] ((port (negsuc 0) (pos 1) (pos 5)) ∷ []) ((port (negsuc 0) (pos 1) (pos 5)) ∷ []) 0 0 (true ∷ []))
 passes17 = refl
 
-passes18 : Passes (codes "MAXMIN") (fields (negsuc 0 ∷ negsuc 0 ∷ []) [] (pos 5 ∷ pos 5 ∷ []) (negsuc 0 ∷ []) [] (pos 5 ∷ []) 0 0 [] (pos 1 ∷ []) [] None) (block MaxMin (pos 1 ∷ []) [] [] ((port (negsuc 0) (pos 1) (pos 5)) ∷ (port (negsuc 0) (pos 1) (pos 5)) ∷ []) ((port (negsuc 0) (pos 1) (pos 5)) ∷ []) 0 0 true)
+passes18 : Passes (codes "MAXMIN") (fields (negsuc 0 ∷ negsuc 0 ∷ []) [] (pos 5 ∷ pos 5 ∷ []) (negsuc 0 ∷ []) [] (pos 5 ∷ []) 0 0 [] (pos 1 ∷ []) [] None) (block MaxMin (pos 1 ∷ []) [] [] ((port (negsuc 0) (pos 1) (pos 5)) ∷ (port (negsuc 0) (pos 1) (pos 5)) ∷ []) ((port (negsuc 0) (pos 1) (pos 5)) ∷ []) 0 0 (true ∷ true ∷ []))
 passes18 = refl
 
-passes19 : Passes (codes "MAXMIN") (fields (negsuc 0 ∷ negsuc 0 ∷ []) [] (pos 5 ∷ pos 5 ∷ []) (negsuc 0 ∷ []) [] (pos 5 ∷ []) 1 0 [] (pos 1 ∷ []) [] None) (block MaxMin (pos 1 ∷ []) [] [] ((port (negsuc 0) (pos 1) (pos 5)) ∷ (port (negsuc 0) (pos 1) (pos 5)) ∷ []) ((port (negsuc 0) (pos 1) (pos 5)) ∷ []) 1 0 true)
+passes19 : Passes (codes "MAXMIN") (fields (negsuc 0 ∷ negsuc 0 ∷ []) [] (pos 5 ∷ pos 5 ∷ []) (negsuc 0 ∷ []) [] (pos 5 ∷ []) 1 0 [] (pos 1 ∷ []) [] None) (block MaxMin (pos 1 ∷ []) [] [] ((port (negsuc 0) (pos 1) (pos 5)) ∷ (port (negsuc 0) (pos 1) (pos 5)) ∷ []) ((port (negsuc 0) (pos 1) (pos 5)) ∷ []) 1 0 (true ∷ true ∷ []))
 passes19 = refl
 
-passes20 : Passes (codes "MAXMIN") (fields (negsuc 0 ∷ negsuc 0 ∷ []) [] (pos 5 ∷ pos 5 ∷ []) (negsuc 0 ∷ []) [] (pos 5 ∷ []) 0 0 [] (pos 1 ∷ []) [] None) (block MaxMin (pos 1 ∷ []) [] [] ((port (negsuc 0) (pos 1) (pos 5)) ∷ (port (negsuc 0) (pos 1) (pos 5)) ∷ []) ((port (negsuc 0) (pos 1) (pos 5)) ∷ []) 0 0 true)
+passes20 : Passes (codes "MAXMIN") (fields (negsuc 0 ∷ negsuc 0 ∷ []) [] (pos 5 ∷ pos 5 ∷ []) (negsuc 0 ∷ []) [] (pos 5 ∷ []) 0 0 [] (pos 1 ∷ []) [] None) (block MaxMin (pos 1 ∷ []) [] [] ((port (negsuc 0) (pos 1) (pos 5)) ∷ (port (negsuc 0) (pos 1) (pos 5)) ∷ []) ((port (negsuc 0) (pos 1) (pos 5)) ∷ []) 0 0 (true ∷ true ∷ []))
 passes20 = refl
 
-passes21 : Passes (codes "SATURATION") (fields (negsuc 0 ∷ []) [] (pos 5 ∷ []) (negsuc 0 ∷ []) [] (pos 5 ∷ []) 0 0 [] (negsuc 4 ∷ pos 5 ∷ []) [] None) (block Saturation (negsuc 4 ∷ pos 5 ∷ []) [] [] ((port (negsuc 0) (pos 1) (pos 5)) ∷ []) ((port (negsuc 0) (pos 1) (pos 5)) ∷ []) 0 0 true)
+passes21 : Passes (codes "SATURATION") (fields (negsuc 0 ∷ []) [] (pos 5 ∷ []) (negsuc 0 ∷ []) [] (pos 5 ∷ []) 0 0 [] (negsuc 4 ∷ pos 5 ∷ []) [] None) (block Saturation (negsuc 4 ∷ pos 5 ∷ []) [] [] ((port (negsuc 0) (pos 1) (pos 5)) ∷ []) ((port (negsuc 0) (pos 1) (pos 5)) ∷ []) 0 0 (true ∷ []))
 passes21 = refl
 
-passes22 : Passes (codes "SATURATION") (fields (negsuc 0 ∷ []) [] (pos 5 ∷ []) (negsuc 0 ∷ []) [] (pos 5 ∷ []) 1 0 [] (negsuc 4 ∷ pos 5 ∷ []) [] None) (block Saturation (negsuc 4 ∷ pos 5 ∷ []) [] [] ((port (negsuc 0) (pos 1) (pos 5)) ∷ []) ((port (negsuc 0) (pos 1) (pos 5)) ∷ []) 1 0 true)
+passes22 : Passes (codes "SATURATION") (fields (negsuc 0 ∷ []) [] (pos 5 ∷ []) (negsuc 0 ∷ []) [] (pos 5 ∷ []) 1 0 [] (negsuc 4 ∷ pos 5 ∷ []) [] None) (block Saturation (negsuc 4 ∷ pos 5 ∷ []) [] [] ((port (negsuc 0) (pos 1) (pos 5)) ∷ []) ((port (negsuc 0) (pos 1) (pos 5)) ∷ []) 1 0 (true ∷ []))
 passes22 = refl
 
-passes23 : Passes (codes "SATURATION") (fields (negsuc 0 ∷ []) [] (pos 5 ∷ []) (negsuc 0 ∷ []) [] (pos 5 ∷ []) 0 0 [] (negsuc 4 ∷ pos 5 ∷ []) [] None) (block Saturation (negsuc 4 ∷ pos 5 ∷ []) [] [] ((port (negsuc 0) (pos 1) (pos 5)) ∷ []) ((port (negsuc 0) (pos 1) (pos 5)) ∷ []) 0 0 true)
+passes23 : Passes (codes "SATURATION") (fields (negsuc 0 ∷ []) [] (pos 5 ∷ []) (negsuc 0 ∷ []) [] (pos 5 ∷ []) 0 0 [] (negsuc 4 ∷ pos 5 ∷ []) [] None) (block Saturation (negsuc 4 ∷ pos 5 ∷ []) [] [] ((port (negsuc 0) (pos 1) (pos 5)) ∷ []) ((port (negsuc 0) (pos 1) (pos 5)) ∷ []) 0 0 (true ∷ []))
 passes23 = refl
 
-passes24 : Passes (codes "DEADBAND") (fields (negsuc 0 ∷ []) [] (pos 5 ∷ []) (negsuc 0 ∷ []) [] (pos 5 ∷ []) 0 0 [] (pos 0 ∷ negsuc 4 ∷ pos 5 ∷ []) [] None) (block DeadBand (pos 0 ∷ negsuc 4 ∷ pos 5 ∷ []) [] [] ((port (negsuc 0) (pos 1) (pos 5)) ∷ []) ((port (negsuc 0) (pos 1) (pos 5)) ∷ []) 0 0 true)
+passes24 : Passes (codes "DEADBAND") (fields (negsuc 0 ∷ []) [] (pos 5 ∷ []) (negsuc 0 ∷ []) [] (pos 5 ∷ []) 0 0 [] (pos 0 ∷ negsuc 4 ∷ pos 5 ∷ []) [] None) (block DeadBand (pos 0 ∷ negsuc 4 ∷ pos 5 ∷ []) [] [] ((port (negsuc 0) (pos 1) (pos 5)) ∷ []) ((port (negsuc 0) (pos 1) (pos 5)) ∷ []) 0 0 (true ∷ []))
 passes24 = refl
 
-passes25 : Passes (codes "DEADBAND") (fields (negsuc 0 ∷ []) [] (pos 5 ∷ []) (negsuc 0 ∷ []) [] (pos 5 ∷ []) 1 0 [] (pos 0 ∷ negsuc 4 ∷ pos 5 ∷ []) [] None) (block DeadBand (pos 0 ∷ negsuc 4 ∷ pos 5 ∷ []) [] [] ((port (negsuc 0) (pos 1) (pos 5)) ∷ []) ((port (negsuc 0) (pos 1) (pos 5)) ∷ []) 1 0 true)
+passes25 : Passes (codes "DEADBAND") (fields (negsuc 0 ∷ []) [] (pos 5 ∷ []) (negsuc 0 ∷ []) [] (pos 5 ∷ []) 1 0 [] (pos 0 ∷ negsuc 4 ∷ pos 5 ∷ []) [] None) (block DeadBand (pos 0 ∷ negsuc 4 ∷ pos 5 ∷ []) [] [] ((port (negsuc 0) (pos 1) (pos 5)) ∷ []) ((port (negsuc 0) (pos 1) (pos 5)) ∷ []) 1 0 (true ∷ []))
 passes25 = refl
 
-passes26 : Passes (codes "DEADBAND") (fields (negsuc 0 ∷ []) [] (pos 5 ∷ []) (negsuc 0 ∷ []) [] (pos 5 ∷ []) 0 0 [] (pos 0 ∷ negsuc 4 ∷ pos 5 ∷ []) [] None) (block DeadBand (pos 0 ∷ negsuc 4 ∷ pos 5 ∷ []) [] [] ((port (negsuc 0) (pos 1) (pos 5)) ∷ []) ((port (negsuc 0) (pos 1) (pos 5)) ∷ []) 0 0 true)
+passes26 : Passes (codes "DEADBAND") (fields (negsuc 0 ∷ []) [] (pos 5 ∷ []) (negsuc 0 ∷ []) [] (pos 5 ∷ []) 0 0 [] (pos 0 ∷ negsuc 4 ∷ pos 5 ∷ []) [] None) (block DeadBand (pos 0 ∷ negsuc 4 ∷ pos 5 ∷ []) [] [] ((port (negsuc 0) (pos 1) (pos 5)) ∷ []) ((port (negsuc 0) (pos 1) (pos 5)) ∷ []) 0 0 (true ∷ []))
 passes26 = refl
 
-passes27 : Passes (codes "CONVERT") (fields (negsuc 0 ∷ []) [] (pos 5 ∷ []) (negsuc 0 ∷ []) [] (pos 5 ∷ []) 0 0 [] (pos 0 ∷ []) [] None) (block Convert (pos 0 ∷ []) [] [] ((port (negsuc 0) (pos 1) (pos 5)) ∷ []) ((port (negsuc 0) (pos 1) (pos 5)) ∷ []) 0 0 true)
+passes27 : Passes (codes "CONVERT") (fields (negsuc 0 ∷ []) [] (pos 5 ∷ []) (negsuc 0 ∷ []) [] (pos 5 ∷ []) 0 0 [] (pos 0 ∷ []) [] None) (block Convert (pos 0 ∷ []) [] [] ((port (negsuc 0) (pos 1) (pos 5)) ∷ []) ((port (negsuc 0) (pos 1) (pos 5)) ∷ []) 0 0 (true ∷ []))
 passes27 = refl
 
-passes28 : Passes (codes "CONVERT") (fields (negsuc 0 ∷ []) [] (pos 5 ∷ []) (negsuc 0 ∷ []) [] (pos 5 ∷ []) 1 0 [] (pos 0 ∷ []) [] None) (block Convert (pos 0 ∷ []) [] [] ((port (negsuc 0) (pos 1) (pos 5)) ∷ []) ((port (negsuc 0) (pos 1) (pos 5)) ∷ []) 1 0 true)
+passes28 : Passes (codes "CONVERT") (fields (negsuc 0 ∷ []) [] (pos 5 ∷ []) (negsuc 0 ∷ []) [] (pos 5 ∷ []) 1 0 [] (pos 0 ∷ []) [] None) (block Convert (pos 0 ∷ []) [] [] ((port (negsuc 0) (pos 1) (pos 5)) ∷ []) ((port (negsuc 0) (pos 1) (pos 5)) ∷ []) 1 0 (true ∷ []))
 passes28 = refl
 
-passes29 : Passes (codes "CONVERT") (fields (negsuc 0 ∷ []) [] (pos 5 ∷ []) (negsuc 0 ∷ []) [] (pos 5 ∷ []) 0 0 [] (pos 0 ∷ []) [] None) (block Convert (pos 0 ∷ []) [] [] ((port (negsuc 0) (pos 1) (pos 5)) ∷ []) ((port (negsuc 0) (pos 1) (pos 5)) ∷ []) 0 0 true)
+passes29 : Passes (codes "CONVERT") (fields (negsuc 0 ∷ []) [] (pos 5 ∷ []) (negsuc 0 ∷ []) [] (pos 5 ∷ []) 0 0 [] (pos 0 ∷ []) [] None) (block Convert (pos 0 ∷ []) [] [] ((port (negsuc 0) (pos 1) (pos 5)) ∷ []) ((port (negsuc 0) (pos 1) (pos 5)) ∷ []) 0 0 (true ∷ []))
 passes29 = refl
 
-passes30 : Passes (codes "MUX") (fields (negsuc 0 ∷ negsuc 0 ∷ []) [] (pos 5 ∷ pos 5 ∷ []) (negsuc 0 ∷ []) [] (pos 5 ∷ []) 0 0 [] [] [] None) (block Mux [] [] [] ((port (negsuc 0) (pos 1) (pos 5)) ∷ (port (negsuc 0) (pos 1) (pos 5)) ∷ []) ((port (negsuc 0) (pos 1) (pos 5)) ∷ []) 0 0 true)
+passes30 : Passes (codes "MUX") (fields (negsuc 0 ∷ negsuc 0 ∷ []) [] (pos 5 ∷ pos 5 ∷ []) (negsuc 0 ∷ []) [] (pos 5 ∷ []) 0 0 [] [] [] None) (block Mux [] [] [] ((port (negsuc 0) (pos 1) (pos 5)) ∷ (port (negsuc 0) (pos 1) (pos 5)) ∷ []) ((port (negsuc 0) (pos 1) (pos 5)) ∷ []) 0 0 (true ∷ true ∷ []))
 passes30 = refl
 
-passes31 : Passes (codes "MUX") (fields (negsuc 0 ∷ negsuc 0 ∷ []) [] (pos 5 ∷ pos 5 ∷ []) (negsuc 0 ∷ []) [] (pos 5 ∷ []) 1 0 [] [] [] None) (block Mux [] [] [] ((port (negsuc 0) (pos 1) (pos 5)) ∷ (port (negsuc 0) (pos 1) (pos 5)) ∷ []) ((port (negsuc 0) (pos 1) (pos 5)) ∷ []) 1 0 true)
+passes31 : Passes (codes "MUX") (fields (negsuc 0 ∷ negsuc 0 ∷ []) [] (pos 5 ∷ pos 5 ∷ []) (negsuc 0 ∷ []) [] (pos 5 ∷ []) 1 0 [] [] [] None) (block Mux [] [] [] ((port (negsuc 0) (pos 1) (pos 5)) ∷ (port (negsuc 0) (pos 1) (pos 5)) ∷ []) ((port (negsuc 0) (pos 1) (pos 5)) ∷ []) 1 0 (true ∷ true ∷ []))
 passes31 = refl
 
-passes32 : Passes (codes "MUX") (fields (negsuc 0 ∷ negsuc 0 ∷ []) [] (pos 5 ∷ pos 5 ∷ []) (negsuc 0 ∷ []) [] (pos 5 ∷ []) 0 0 [] [] [] None) (block Mux [] [] [] ((port (negsuc 0) (pos 1) (pos 5)) ∷ (port (negsuc 0) (pos 1) (pos 5)) ∷ []) ((port (negsuc 0) (pos 1) (pos 5)) ∷ []) 0 0 true)
+passes32 : Passes (codes "MUX") (fields (negsuc 0 ∷ negsuc 0 ∷ []) [] (pos 5 ∷ pos 5 ∷ []) (negsuc 0 ∷ []) [] (pos 5 ∷ []) 0 0 [] [] [] None) (block Mux [] [] [] ((port (negsuc 0) (pos 1) (pos 5)) ∷ (port (negsuc 0) (pos 1) (pos 5)) ∷ []) ((port (negsuc 0) (pos 1) (pos 5)) ∷ []) 0 0 (true ∷ true ∷ []))
 passes32 = refl
 
-passes33 : Passes (codes "DEMUX") (fields (negsuc 0 ∷ []) [] (pos 5 ∷ []) (negsuc 0 ∷ negsuc 0 ∷ []) [] (pos 5 ∷ pos 5 ∷ []) 0 0 [] [] [] None) (block Demux [] [] [] ((port (negsuc 0) (pos 1) (pos 5)) ∷ []) ((port (negsuc 0) (pos 1) (pos 5)) ∷ (port (negsuc 0) (pos 1) (pos 5)) ∷ []) 0 0 true)
+passes33 : Passes (codes "DEMUX") (fields (negsuc 0 ∷ []) [] (pos 5 ∷ []) (negsuc 0 ∷ negsuc 0 ∷ []) [] (pos 5 ∷ pos 5 ∷ []) 0 0 [] [] [] None) (block Demux [] [] [] ((port (negsuc 0) (pos 1) (pos 5)) ∷ []) ((port (negsuc 0) (pos 1) (pos 5)) ∷ (port (negsuc 0) (pos 1) (pos 5)) ∷ []) 0 0 (true ∷ []))
 passes33 = refl
 
-passes34 : Passes (codes "DEMUX") (fields (negsuc 0 ∷ []) [] (pos 5 ∷ []) (negsuc 0 ∷ negsuc 0 ∷ []) [] (pos 5 ∷ pos 5 ∷ []) 1 0 [] [] [] None) (block Demux [] [] [] ((port (negsuc 0) (pos 1) (pos 5)) ∷ []) ((port (negsuc 0) (pos 1) (pos 5)) ∷ (port (negsuc 0) (pos 1) (pos 5)) ∷ []) 1 0 true)
+passes34 : Passes (codes "DEMUX") (fields (negsuc 0 ∷ []) [] (pos 5 ∷ []) (negsuc 0 ∷ negsuc 0 ∷ []) [] (pos 5 ∷ pos 5 ∷ []) 1 0 [] [] [] None) (block Demux [] [] [] ((port (negsuc 0) (pos 1) (pos 5)) ∷ []) ((port (negsuc 0) (pos 1) (pos 5)) ∷ (port (negsuc 0) (pos 1) (pos 5)) ∷ []) 1 0 (true ∷ []))
 passes34 = refl
 
-passes35 : Passes (codes "DEMUX") (fields (negsuc 0 ∷ []) [] (pos 5 ∷ []) (negsuc 0 ∷ negsuc 0 ∷ []) [] (pos 5 ∷ pos 5 ∷ []) 0 0 [] [] [] None) (block Demux [] [] [] ((port (negsuc 0) (pos 1) (pos 5)) ∷ []) ((port (negsuc 0) (pos 1) (pos 5)) ∷ (port (negsuc 0) (pos 1) (pos 5)) ∷ []) 0 0 true)
+passes35 : Passes (codes "DEMUX") (fields (negsuc 0 ∷ []) [] (pos 5 ∷ []) (negsuc 0 ∷ negsuc 0 ∷ []) [] (pos 5 ∷ pos 5 ∷ []) 0 0 [] [] [] None) (block Demux [] [] [] ((port (negsuc 0) (pos 1) (pos 5)) ∷ []) ((port (negsuc 0) (pos 1) (pos 5)) ∷ (port (negsuc 0) (pos 1) (pos 5)) ∷ []) 0 0 (true ∷ []))
 passes35 = refl
 
-passes36 : Passes (codes "EXTRACTOR") (fields (negsuc 0 ∷ []) [] (pos 5 ∷ []) (negsuc 0 ∷ []) [] (pos 5 ∷ []) 0 0 [] (pos 2 ∷ pos 1 ∷ []) [] None) (block Extractor (pos 2 ∷ pos 1 ∷ []) [] [] ((port (negsuc 0) (pos 1) (pos 5)) ∷ []) ((port (negsuc 0) (pos 1) (pos 5)) ∷ []) 0 0 true)
+passes36 : Passes (codes "EXTRACTOR") (fields (negsuc 0 ∷ []) [] (pos 5 ∷ []) (negsuc 0 ∷ []) [] (pos 5 ∷ []) 0 0 [] (pos 2 ∷ pos 1 ∷ []) [] None) (block Extractor (pos 2 ∷ pos 1 ∷ []) [] [] ((port (negsuc 0) (pos 1) (pos 5)) ∷ []) ((port (negsuc 0) (pos 1) (pos 5)) ∷ []) 0 0 (true ∷ []))
 passes36 = refl
 
-passes37 : Passes (codes "EXTRACTOR") (fields (negsuc 0 ∷ []) [] (pos 5 ∷ []) (negsuc 0 ∷ []) [] (pos 5 ∷ []) 1 0 [] (pos 2 ∷ pos 1 ∷ []) [] None) (block Extractor (pos 2 ∷ pos 1 ∷ []) [] [] ((port (negsuc 0) (pos 1) (pos 5)) ∷ []) ((port (negsuc 0) (pos 1) (pos 5)) ∷ []) 1 0 true)
+passes37 : Passes (codes "EXTRACTOR") (fields (negsuc 0 ∷ []) [] (pos 5 ∷ []) (negsuc 0 ∷ []) [] (pos 5 ∷ []) 1 0 [] (pos 2 ∷ pos 1 ∷ []) [] None) (block Extractor (pos 2 ∷ pos 1 ∷ []) [] [] ((port (negsuc 0) (pos 1) (pos 5)) ∷ []) ((port (negsuc 0) (pos 1) (pos 5)) ∷ []) 1 0 (true ∷ []))
 passes37 = refl
 
-passes38 : Passes (codes "EXTRACTOR") (fields (negsuc 0 ∷ []) [] (pos 5 ∷ []) (negsuc 0 ∷ []) [] (pos 5 ∷ []) 0 0 [] (pos 2 ∷ pos 1 ∷ []) [] None) (block Extractor (pos 2 ∷ pos 1 ∷ []) [] [] ((port (negsuc 0) (pos 1) (pos 5)) ∷ []) ((port (negsuc 0) (pos 1) (pos 5)) ∷ []) 0 0 true)
+passes38 : Passes (codes "EXTRACTOR") (fields (negsuc 0 ∷ []) [] (pos 5 ∷ []) (negsuc 0 ∷ []) [] (pos 5 ∷ []) 0 0 [] (pos 2 ∷ pos 1 ∷ []) [] None) (block Extractor (pos 2 ∷ pos 1 ∷ []) [] [] ((port (negsuc 0) (pos 1) (pos 5)) ∷ []) ((port (negsuc 0) (pos 1) (pos 5)) ∷ []) 0 0 (true ∷ []))
 passes38 = refl
 
-passes39 : Passes (codes "LOGICAL_OP") (fields (negsuc 0 ∷ negsuc 0 ∷ []) [] (pos 5 ∷ pos 5 ∷ []) (negsuc 0 ∷ []) [] (pos 5 ∷ []) 0 0 [] (pos 0 ∷ pos 0 ∷ []) [] None) (block LogicalOp (pos 0 ∷ pos 0 ∷ []) [] [] ((port (negsuc 0) (pos 1) (pos 5)) ∷ (port (negsuc 0) (pos 1) (pos 5)) ∷ []) ((port (negsuc 0) (pos 1) (pos 5)) ∷ []) 0 0 true)
+passes39 : Passes (codes "LOGICAL_OP") (fields (negsuc 0 ∷ negsuc 0 ∷ []) [] (pos 5 ∷ pos 5 ∷ []) (negsuc 0 ∷ []) [] (pos 5 ∷ []) 0 0 [] (pos 0 ∷ pos 0 ∷ []) [] None) (block LogicalOp (pos 0 ∷ pos 0 ∷ []) [] [] ((port (negsuc 0) (pos 1) (pos 5)) ∷ (port (negsuc 0) (pos 1) (pos 5)) ∷ []) ((port (negsuc 0) (pos 1) (pos 5)) ∷ []) 0 0 (true ∷ true ∷ []))
 passes39 = refl
 
-passes40 : Passes (codes "LOGICAL_OP") (fields (negsuc 0 ∷ negsuc 0 ∷ []) [] (pos 5 ∷ pos 5 ∷ []) (negsuc 0 ∷ []) [] (pos 5 ∷ []) 1 0 [] (pos 0 ∷ pos 0 ∷ []) [] None) (block LogicalOp (pos 0 ∷ pos 0 ∷ []) [] [] ((port (negsuc 0) (pos 1) (pos 5)) ∷ (port (negsuc 0) (pos 1) (pos 5)) ∷ []) ((port (negsuc 0) (pos 1) (pos 5)) ∷ []) 1 0 true)
+passes40 : Passes (codes "LOGICAL_OP") (fields (negsuc 0 ∷ negsuc 0 ∷ []) [] (pos 5 ∷ pos 5 ∷ []) (negsuc 0 ∷ []) [] (pos 5 ∷ []) 1 0 [] (pos 0 ∷ pos 0 ∷ []) [] None) (block LogicalOp (pos 0 ∷ pos 0 ∷ []) [] [] ((port (negsuc 0) (pos 1) (pos 5)) ∷ (port (negsuc 0) (pos 1) (pos 5)) ∷ []) ((port (negsuc 0) (pos 1) (pos 5)) ∷ []) 1 0 (true ∷ true ∷ []))
 passes40 = refl
 
-passes41 : Passes (codes "LOGICAL_OP") (fields (negsuc 0 ∷ negsuc 0 ∷ []) [] (pos 5 ∷ pos 5 ∷ []) (negsuc 0 ∷ []) [] (pos 5 ∷ []) 0 0 [] (pos 0 ∷ pos 0 ∷ []) [] None) (block LogicalOp (pos 0 ∷ pos 0 ∷ []) [] [] ((port (negsuc 0) (pos 1) (pos 5)) ∷ (port (negsuc 0) (pos 1) (pos 5)) ∷ []) ((port (negsuc 0) (pos 1) (pos 5)) ∷ []) 0 0 true)
+passes41 : Passes (codes "LOGICAL_OP") (fields (negsuc 0 ∷ negsuc 0 ∷ []) [] (pos 5 ∷ pos 5 ∷ []) (negsuc 0 ∷ []) [] (pos 5 ∷ []) 0 0 [] (pos 0 ∷ pos 0 ∷ []) [] None) (block LogicalOp (pos 0 ∷ pos 0 ∷ []) [] [] ((port (negsuc 0) (pos 1) (pos 5)) ∷ (port (negsuc 0) (pos 1) (pos 5)) ∷ []) ((port (negsuc 0) (pos 1) (pos 5)) ∷ []) 0 0 (true ∷ true ∷ []))
 passes41 = refl
 
-passes42 : Passes (codes "RELATIONALOP") (fields (negsuc 0 ∷ negsuc 0 ∷ []) [] (pos 5 ∷ pos 5 ∷ []) (negsuc 0 ∷ []) [] (pos 5 ∷ []) 0 0 [] (pos 0 ∷ []) [] None) (block RelationalOp (pos 0 ∷ []) [] [] ((port (negsuc 0) (pos 1) (pos 5)) ∷ (port (negsuc 0) (pos 1) (pos 5)) ∷ []) ((port (negsuc 0) (pos 1) (pos 5)) ∷ []) 0 0 true)
+passes42 : Passes (codes "RELATIONALOP") (fields (negsuc 0 ∷ negsuc 0 ∷ []) [] (pos 5 ∷ pos 5 ∷ []) (negsuc 0 ∷ []) [] (pos 5 ∷ []) 0 0 [] (pos 0 ∷ []) [] None) (block RelationalOp (pos 0 ∷ []) [] [] ((port (negsuc 0) (pos 1) (pos 5)) ∷ (port (negsuc 0) (pos 1) (pos 5)) ∷ []) ((port (negsuc 0) (pos 1) (pos 5)) ∷ []) 0 0 (true ∷ true ∷ []))
 passes42 = refl
 
-passes43 : Passes (codes "RELATIONALOP") (fields (negsuc 0 ∷ negsuc 0 ∷ []) [] (pos 5 ∷ pos 5 ∷ []) (negsuc 0 ∷ []) [] (pos 5 ∷ []) 1 0 [] (pos 0 ∷ []) [] None) (block RelationalOp (pos 0 ∷ []) [] [] ((port (negsuc 0) (pos 1) (pos 5)) ∷ (port (negsuc 0) (pos 1) (pos 5)) ∷ []) ((port (negsuc 0) (pos 1) (pos 5)) ∷ []) 1 0 true)
+passes43 : Passes (codes "RELATIONALOP") (fields (negsuc 0 ∷ negsuc 0 ∷ []) [] (pos 5 ∷ pos 5 ∷ []) (negsuc 0 ∷ []) [] (pos 5 ∷ []) 1 0 [] (pos 0 ∷ []) [] None) (block RelationalOp (pos 0 ∷ []) [] [] ((port (negsuc 0) (pos 1) (pos 5)) ∷ (port (negsuc 0) (pos 1) (pos 5)) ∷ []) ((port (negsuc 0) (pos 1) (pos 5)) ∷ []) 1 0 (true ∷ true ∷ []))
 passes43 = refl
 
-passes44 : Passes (codes "RELATIONALOP") (fields (negsuc 0 ∷ negsuc 0 ∷ []) [] (pos 5 ∷ pos 5 ∷ []) (negsuc 0 ∷ []) [] (pos 5 ∷ []) 0 0 [] (pos 0 ∷ []) [] None) (block RelationalOp (pos 0 ∷ []) [] [] ((port (negsuc 0) (pos 1) (pos 5)) ∷ (port (negsuc 0) (pos 1) (pos 5)) ∷ []) ((port (negsuc 0) (pos 1) (pos 5)) ∷ []) 0 0 true)
+passes44 : Passes (codes "RELATIONALOP") (fields (negsuc 0 ∷ negsuc 0 ∷ []) [] (pos 5 ∷ pos 5 ∷ []) (negsuc 0 ∷ []) [] (pos 5 ∷ []) 0 0 [] (pos 0 ∷ []) [] None) (block RelationalOp (pos 0 ∷ []) [] [] ((port (negsuc 0) (pos 1) (pos 5)) ∷ (port (negsuc 0) (pos 1) (pos 5)) ∷ []) ((port (negsuc 0) (pos 1) (pos 5)) ∷ []) 0 0 (true ∷ true ∷ []))
 passes44 = refl
 
-passes45 : Passes (codes "SHIFT") (fields (negsuc 0 ∷ []) [] (pos 5 ∷ []) (negsuc 0 ∷ []) [] (pos 5 ∷ []) 0 0 [] (pos 3 ∷ pos 0 ∷ []) [] None) (block Shift (pos 3 ∷ pos 0 ∷ []) [] [] ((port (negsuc 0) (pos 1) (pos 5)) ∷ []) ((port (negsuc 0) (pos 1) (pos 5)) ∷ []) 0 0 true)
+passes45 : Passes (codes "SHIFT") (fields (negsuc 0 ∷ []) [] (pos 5 ∷ []) (negsuc 0 ∷ []) [] (pos 5 ∷ []) 0 0 [] (pos 3 ∷ pos 0 ∷ []) [] None) (block Shift (pos 3 ∷ pos 0 ∷ []) [] [] ((port (negsuc 0) (pos 1) (pos 5)) ∷ []) ((port (negsuc 0) (pos 1) (pos 5)) ∷ []) 0 0 (true ∷ []))
 passes45 = refl
 
-passes46 : Passes (codes "SHIFT") (fields (negsuc 0 ∷ []) [] (pos 5 ∷ []) (negsuc 0 ∷ []) [] (pos 5 ∷ []) 1 0 [] (pos 3 ∷ pos 0 ∷ []) [] None) (block Shift (pos 3 ∷ pos 0 ∷ []) [] [] ((port (negsuc 0) (pos 1) (pos 5)) ∷ []) ((port (negsuc 0) (pos 1) (pos 5)) ∷ []) 1 0 true)
+passes46 : Passes (codes "SHIFT") (fields (negsuc 0 ∷ []) [] (pos 5 ∷ []) (negsuc 0 ∷ []) [] (pos 5 ∷ []) 1 0 [] (pos 3 ∷ pos 0 ∷ []) [] None) (block Shift (pos 3 ∷ pos 0 ∷ []) [] [] ((port (negsuc 0) (pos 1) (pos 5)) ∷ []) ((port (negsuc 0) (pos 1) (pos 5)) ∷ []) 1 0 (true ∷ []))
 passes46 = refl
 
-passes47 : Passes (codes "SHIFT") (fields (negsuc 0 ∷ []) [] (pos 5 ∷ []) (negsuc 0 ∷ []) [] (pos 5 ∷ []) 0 0 [] (pos 3 ∷ pos 0 ∷ []) [] None) (block Shift (pos 3 ∷ pos 0 ∷ []) [] [] ((port (negsuc 0) (pos 1) (pos 5)) ∷ []) ((port (negsuc 0) (pos 1) (pos 5)) ∷ []) 0 0 true)
+passes47 : Passes (codes "SHIFT") (fields (negsuc 0 ∷ []) [] (pos 5 ∷ []) (negsuc 0 ∷ []) [] (pos 5 ∷ []) 0 0 [] (pos 3 ∷ pos 0 ∷ []) [] None) (block Shift (pos 3 ∷ pos 0 ∷ []) [] [] ((port (negsuc 0) (pos 1) (pos 5)) ∷ []) ((port (negsuc 0) (pos 1) (pos 5)) ∷ []) 0 0 (true ∷ []))
 passes47 = refl
 
-passes48 : Passes (codes "BITSET") (fields (negsuc 0 ∷ []) [] (pos 5 ∷ []) (negsuc 0 ∷ []) [] (pos 5 ∷ []) 0 0 [] (pos 3 ∷ []) [] None) (block BitSet (pos 3 ∷ []) [] [] ((port (negsuc 0) (pos 1) (pos 5)) ∷ []) ((port (negsuc 0) (pos 1) (pos 5)) ∷ []) 0 0 true)
+passes48 : Passes (codes "BITSET") (fields (negsuc 0 ∷ []) [] (pos 5 ∷ []) (negsuc 0 ∷ []) [] (pos 5 ∷ []) 0 0 [] (pos 3 ∷ []) [] None) (block BitSet (pos 3 ∷ []) [] [] ((port (negsuc 0) (pos 1) (pos 5)) ∷ []) ((port (negsuc 0) (pos 1) (pos 5)) ∷ []) 0 0 (true ∷ []))
 passes48 = refl
 
-passes49 : Passes (codes "BITSET") (fields (negsuc 0 ∷ []) [] (pos 5 ∷ []) (negsuc 0 ∷ []) [] (pos 5 ∷ []) 1 0 [] (pos 3 ∷ []) [] None) (block BitSet (pos 3 ∷ []) [] [] ((port (negsuc 0) (pos 1) (pos 5)) ∷ []) ((port (negsuc 0) (pos 1) (pos 5)) ∷ []) 1 0 true)
+passes49 : Passes (codes "BITSET") (fields (negsuc 0 ∷ []) [] (pos 5 ∷ []) (negsuc 0 ∷ []) [] (pos 5 ∷ []) 1 0 [] (pos 3 ∷ []) [] None) (block BitSet (pos 3 ∷ []) [] [] ((port (negsuc 0) (pos 1) (pos 5)) ∷ []) ((port (negsuc 0) (pos 1) (pos 5)) ∷ []) 1 0 (true ∷ []))
 passes49 = refl
 
-passes50 : Passes (codes "BITSET") (fields (negsuc 0 ∷ []) [] (pos 5 ∷ []) (negsuc 0 ∷ []) [] (pos 5 ∷ []) 0 0 [] (pos 3 ∷ []) [] None) (block BitSet (pos 3 ∷ []) [] [] ((port (negsuc 0) (pos 1) (pos 5)) ∷ []) ((port (negsuc 0) (pos 1) (pos 5)) ∷ []) 0 0 true)
+passes50 : Passes (codes "BITSET") (fields (negsuc 0 ∷ []) [] (pos 5 ∷ []) (negsuc 0 ∷ []) [] (pos 5 ∷ []) 0 0 [] (pos 3 ∷ []) [] None) (block BitSet (pos 3 ∷ []) [] [] ((port (negsuc 0) (pos 1) (pos 5)) ∷ []) ((port (negsuc 0) (pos 1) (pos 5)) ∷ []) 0 0 (true ∷ []))
 passes50 = refl
 
-passes51 : Passes (codes "BITCLEAR") (fields (negsuc 0 ∷ []) [] (pos 5 ∷ []) (negsuc 0 ∷ []) [] (pos 5 ∷ []) 0 0 [] (pos 3 ∷ []) [] None) (block BitClear (pos 3 ∷ []) [] [] ((port (negsuc 0) (pos 1) (pos 5)) ∷ []) ((port (negsuc 0) (pos 1) (pos 5)) ∷ []) 0 0 true)
+passes51 : Passes (codes "BITCLEAR") (fields (negsuc 0 ∷ []) [] (pos 5 ∷ []) (negsuc 0 ∷ []) [] (pos 5 ∷ []) 0 0 [] (pos 3 ∷ []) [] None) (block BitClear (pos 3 ∷ []) [] [] ((port (negsuc 0) (pos 1) (pos 5)) ∷ []) ((port (negsuc 0) (pos 1) (pos 5)) ∷ []) 0 0 (true ∷ []))
 passes51 = refl
 
-passes52 : Passes (codes "BITCLEAR") (fields (negsuc 0 ∷ []) [] (pos 5 ∷ []) (negsuc 0 ∷ []) [] (pos 5 ∷ []) 1 0 [] (pos 3 ∷ []) [] None) (block BitClear (pos 3 ∷ []) [] [] ((port (negsuc 0) (pos 1) (pos 5)) ∷ []) ((port (negsuc 0) (pos 1) (pos 5)) ∷ []) 1 0 true)
+passes52 : Passes (codes "BITCLEAR") (fields (negsuc 0 ∷ []) [] (pos 5 ∷ []) (negsuc 0 ∷ []) [] (pos 5 ∷ []) 1 0 [] (pos 3 ∷ []) [] None) (block BitClear (pos 3 ∷ []) [] [] ((port (negsuc 0) (pos 1) (pos 5)) ∷ []) ((port (negsuc 0) (pos 1) (pos 5)) ∷ []) 1 0 (true ∷ []))
 passes52 = refl
 
-passes53 : Passes (codes "BITCLEAR") (fields (negsuc 0 ∷ []) [] (pos 5 ∷ []) (negsuc 0 ∷ []) [] (pos 5 ∷ []) 0 0 [] (pos 3 ∷ []) [] None) (block BitClear (pos 3 ∷ []) [] [] ((port (negsuc 0) (pos 1) (pos 5)) ∷ []) ((port (negsuc 0) (pos 1) (pos 5)) ∷ []) 0 0 true)
+passes53 : Passes (codes "BITCLEAR") (fields (negsuc 0 ∷ []) [] (pos 5 ∷ []) (negsuc 0 ∷ []) [] (pos 5 ∷ []) 0 0 [] (pos 3 ∷ []) [] None) (block BitClear (pos 3 ∷ []) [] [] ((port (negsuc 0) (pos 1) (pos 5)) ∷ []) ((port (negsuc 0) (pos 1) (pos 5)) ∷ []) 0 0 (true ∷ []))
 passes53 = refl
 
-passes54 : Passes (codes "EXTRACTBITS") (fields (negsuc 0 ∷ []) [] (pos 5 ∷ []) (negsuc 0 ∷ []) [] (pos 5 ∷ []) 0 0 [] (pos 1 ∷ pos 3 ∷ []) [] None) (block ExtractBits (pos 1 ∷ pos 3 ∷ []) [] [] ((port (negsuc 0) (pos 1) (pos 5)) ∷ []) ((port (negsuc 0) (pos 1) (pos 5)) ∷ []) 0 0 true)
+passes54 : Passes (codes "EXTRACTBITS") (fields (negsuc 0 ∷ []) [] (pos 5 ∷ []) (negsuc 0 ∷ []) [] (pos 5 ∷ []) 0 0 [] (pos 1 ∷ pos 3 ∷ []) [] None) (block ExtractBits (pos 1 ∷ pos 3 ∷ []) [] [] ((port (negsuc 0) (pos 1) (pos 5)) ∷ []) ((port (negsuc 0) (pos 1) (pos 5)) ∷ []) 0 0 (true ∷ []))
 passes54 = refl
 
-passes55 : Passes (codes "EXTRACTBITS") (fields (negsuc 0 ∷ []) [] (pos 5 ∷ []) (negsuc 0 ∷ []) [] (pos 5 ∷ []) 1 0 [] (pos 1 ∷ pos 3 ∷ []) [] None) (block ExtractBits (pos 1 ∷ pos 3 ∷ []) [] [] ((port (negsuc 0) (pos 1) (pos 5)) ∷ []) ((port (negsuc 0) (pos 1) (pos 5)) ∷ []) 1 0 true)
+passes55 : Passes (codes "EXTRACTBITS") (fields (negsuc 0 ∷ []) [] (pos 5 ∷ []) (negsuc 0 ∷ []) [] (pos 5 ∷ []) 1 0 [] (pos 1 ∷ pos 3 ∷ []) [] None) (block ExtractBits (pos 1 ∷ pos 3 ∷ []) [] [] ((port (negsuc 0) (pos 1) (pos 5)) ∷ []) ((port (negsuc 0) (pos 1) (pos 5)) ∷ []) 1 0 (true ∷ []))
 passes55 = refl
 
-passes56 : Passes (codes "EXTRACTBITS") (fields (negsuc 0 ∷ []) [] (pos 5 ∷ []) (negsuc 0 ∷ []) [] (pos 5 ∷ []) 0 0 [] (pos 1 ∷ pos 3 ∷ []) [] None) (block ExtractBits (pos 1 ∷ pos 3 ∷ []) [] [] ((port (negsuc 0) (pos 1) (pos 5)) ∷ []) ((port (negsuc 0) (pos 1) (pos 5)) ∷ []) 0 0 true)
+passes56 : Passes (codes "EXTRACTBITS") (fields (negsuc 0 ∷ []) [] (pos 5 ∷ []) (negsuc 0 ∷ []) [] (pos 5 ∷ []) 0 0 [] (pos 1 ∷ pos 3 ∷ []) [] None) (block ExtractBits (pos 1 ∷ pos 3 ∷ []) [] [] ((port (negsuc 0) (pos 1) (pos 5)) ∷ []) ((port (negsuc 0) (pos 1) (pos 5)) ∷ []) 0 0 (true ∷ []))
 passes56 = refl
 
-passes57 : Passes (codes "SWITCH2_m") (fields (negsuc 0 ∷ negsuc 0 ∷ negsuc 0 ∷ []) [] (pos 5 ∷ pos 5 ∷ pos 5 ∷ []) (negsuc 0 ∷ []) [] (pos 5 ∷ []) 0 0 [] (pos 0 ∷ pos 0 ∷ []) [] None) (block Switch2 (pos 0 ∷ pos 0 ∷ []) [] [] ((port (negsuc 0) (pos 1) (pos 5)) ∷ (port (negsuc 0) (pos 1) (pos 5)) ∷ (port (negsuc 0) (pos 1) (pos 5)) ∷ []) ((port (negsuc 0) (pos 1) (pos 5)) ∷ []) 0 0 true)
+passes57 : Passes (codes "SWITCH2_m") (fields (negsuc 0 ∷ negsuc 0 ∷ negsuc 0 ∷ []) [] (pos 5 ∷ pos 5 ∷ pos 5 ∷ []) (negsuc 0 ∷ []) [] (pos 5 ∷ []) 0 0 [] (pos 0 ∷ pos 0 ∷ []) [] None) (block Switch2 (pos 0 ∷ pos 0 ∷ []) [] [] ((port (negsuc 0) (pos 1) (pos 5)) ∷ (port (negsuc 0) (pos 1) (pos 5)) ∷ (port (negsuc 0) (pos 1) (pos 5)) ∷ []) ((port (negsuc 0) (pos 1) (pos 5)) ∷ []) 0 0 (true ∷ true ∷ true ∷ []))
 passes57 = refl
 
-passes58 : Passes (codes "SWITCH2_m") (fields (negsuc 0 ∷ negsuc 0 ∷ negsuc 0 ∷ []) [] (pos 5 ∷ pos 5 ∷ pos 5 ∷ []) (negsuc 0 ∷ []) [] (pos 5 ∷ []) 1 0 [] (pos 0 ∷ pos 0 ∷ []) [] None) (block Switch2 (pos 0 ∷ pos 0 ∷ []) [] [] ((port (negsuc 0) (pos 1) (pos 5)) ∷ (port (negsuc 0) (pos 1) (pos 5)) ∷ (port (negsuc 0) (pos 1) (pos 5)) ∷ []) ((port (negsuc 0) (pos 1) (pos 5)) ∷ []) 1 0 true)
+passes58 : Passes (codes "SWITCH2_m") (fields (negsuc 0 ∷ negsuc 0 ∷ negsuc 0 ∷ []) [] (pos 5 ∷ pos 5 ∷ pos 5 ∷ []) (negsuc 0 ∷ []) [] (pos 5 ∷ []) 1 0 [] (pos 0 ∷ pos 0 ∷ []) [] None) (block Switch2 (pos 0 ∷ pos 0 ∷ []) [] [] ((port (negsuc 0) (pos 1) (pos 5)) ∷ (port (negsuc 0) (pos 1) (pos 5)) ∷ (port (negsuc 0) (pos 1) (pos 5)) ∷ []) ((port (negsuc 0) (pos 1) (pos 5)) ∷ []) 1 0 (true ∷ true ∷ true ∷ []))
 passes58 = refl
 
-passes59 : Passes (codes "SWITCH2_m") (fields (negsuc 0 ∷ negsuc 0 ∷ negsuc 0 ∷ []) [] (pos 5 ∷ pos 5 ∷ pos 5 ∷ []) (negsuc 0 ∷ []) [] (pos 5 ∷ []) 0 0 [] (pos 0 ∷ pos 0 ∷ []) [] None) (block Switch2 (pos 0 ∷ pos 0 ∷ []) [] [] ((port (negsuc 0) (pos 1) (pos 5)) ∷ (port (negsuc 0) (pos 1) (pos 5)) ∷ (port (negsuc 0) (pos 1) (pos 5)) ∷ []) ((port (negsuc 0) (pos 1) (pos 5)) ∷ []) 0 0 true)
+passes59 : Passes (codes "SWITCH2_m") (fields (negsuc 0 ∷ negsuc 0 ∷ negsuc 0 ∷ []) [] (pos 5 ∷ pos 5 ∷ pos 5 ∷ []) (negsuc 0 ∷ []) [] (pos 5 ∷ []) 0 0 [] (pos 0 ∷ pos 0 ∷ []) [] None) (block Switch2 (pos 0 ∷ pos 0 ∷ []) [] [] ((port (negsuc 0) (pos 1) (pos 5)) ∷ (port (negsuc 0) (pos 1) (pos 5)) ∷ (port (negsuc 0) (pos 1) (pos 5)) ∷ []) ((port (negsuc 0) (pos 1) (pos 5)) ∷ []) 0 0 (true ∷ true ∷ true ∷ []))
 passes59 = refl
 
-passes60 : Passes (codes "SELECT_m") (fields (negsuc 0 ∷ negsuc 0 ∷ negsuc 0 ∷ []) [] (pos 5 ∷ pos 5 ∷ pos 5 ∷ []) (negsuc 0 ∷ []) [] (pos 5 ∷ []) 3 0 [] [] [] None) (block Select [] [] [] ((port (negsuc 0) (pos 1) (pos 5)) ∷ (port (negsuc 0) (pos 1) (pos 5)) ∷ (port (negsuc 0) (pos 1) (pos 5)) ∷ []) ((port (negsuc 0) (pos 1) (pos 5)) ∷ []) 3 0 true)
+passes60 : Passes (codes "SELECT_m") (fields (negsuc 0 ∷ negsuc 0 ∷ negsuc 0 ∷ []) [] (pos 5 ∷ pos 5 ∷ pos 5 ∷ []) (negsuc 0 ∷ []) [] (pos 5 ∷ []) 3 0 [] [] [] None) (block Select [] [] [] ((port (negsuc 0) (pos 1) (pos 5)) ∷ (port (negsuc 0) (pos 1) (pos 5)) ∷ (port (negsuc 0) (pos 1) (pos 5)) ∷ []) ((port (negsuc 0) (pos 1) (pos 5)) ∷ []) 3 0 (true ∷ true ∷ true ∷ []))
 passes60 = refl
 
-passes61 : Passes (codes "SELECT_m") (fields (negsuc 0 ∷ negsuc 0 ∷ negsuc 0 ∷ []) [] (pos 5 ∷ pos 5 ∷ pos 5 ∷ []) (negsuc 0 ∷ []) [] (pos 5 ∷ []) 3 0 [] [] [] None) (block Select [] [] [] ((port (negsuc 0) (pos 1) (pos 5)) ∷ (port (negsuc 0) (pos 1) (pos 5)) ∷ (port (negsuc 0) (pos 1) (pos 5)) ∷ []) ((port (negsuc 0) (pos 1) (pos 5)) ∷ []) 3 0 true)
+passes61 : Passes (codes "SELECT_m") (fields (negsuc 0 ∷ negsuc 0 ∷ negsuc 0 ∷ []) [] (pos 5 ∷ pos 5 ∷ pos 5 ∷ []) (negsuc 0 ∷ []) [] (pos 5 ∷ []) 3 0 [] [] [] None) (block Select [] [] [] ((port (negsuc 0) (pos 1) (pos 5)) ∷ (port (negsuc 0) (pos 1) (pos 5)) ∷ (port (negsuc 0) (pos 1) (pos 5)) ∷ []) ((port (negsuc 0) (pos 1) (pos 5)) ∷ []) 3 0 (true ∷ true ∷ true ∷ []))
 passes61 = refl
 
-passes62 : Passes (codes "LOGIC") (fields (negsuc 0 ∷ negsuc 0 ∷ []) [] (pos 5 ∷ pos 5 ∷ []) (negsuc 0 ∷ []) [] (pos 5 ∷ []) 0 0 [] (pos 0 ∷ pos 0 ∷ pos 0 ∷ pos 1 ∷ []) [] None) (block Logic (pos 0 ∷ pos 0 ∷ pos 0 ∷ pos 1 ∷ []) [] [] ((port (negsuc 0) (pos 1) (pos 5)) ∷ (port (negsuc 0) (pos 1) (pos 5)) ∷ []) ((port (negsuc 0) (pos 1) (pos 5)) ∷ []) 0 0 true)
+passes62 : Passes (codes "LOGIC") (fields (negsuc 0 ∷ negsuc 0 ∷ []) [] (pos 5 ∷ pos 5 ∷ []) (negsuc 0 ∷ []) [] (pos 5 ∷ []) 0 0 [] (pos 0 ∷ pos 0 ∷ pos 0 ∷ pos 1 ∷ []) [] None) (block Logic (pos 0 ∷ pos 0 ∷ pos 0 ∷ pos 1 ∷ []) [] [] ((port (negsuc 0) (pos 1) (pos 5)) ∷ (port (negsuc 0) (pos 1) (pos 5)) ∷ []) ((port (negsuc 0) (pos 1) (pos 5)) ∷ []) 0 0 (true ∷ true ∷ []))
 passes62 = refl
 
-passes63 : Passes (codes "LOGIC") (fields (negsuc 0 ∷ negsuc 0 ∷ []) [] (pos 5 ∷ pos 5 ∷ []) (negsuc 0 ∷ []) [] (pos 5 ∷ []) 1 0 [] (pos 0 ∷ pos 0 ∷ pos 0 ∷ pos 1 ∷ []) [] None) (block Logic (pos 0 ∷ pos 0 ∷ pos 0 ∷ pos 1 ∷ []) [] [] ((port (negsuc 0) (pos 1) (pos 5)) ∷ (port (negsuc 0) (pos 1) (pos 5)) ∷ []) ((port (negsuc 0) (pos 1) (pos 5)) ∷ []) 1 0 true)
+passes63 : Passes (codes "LOGIC") (fields (negsuc 0 ∷ negsuc 0 ∷ []) [] (pos 5 ∷ pos 5 ∷ []) (negsuc 0 ∷ []) [] (pos 5 ∷ []) 1 0 [] (pos 0 ∷ pos 0 ∷ pos 0 ∷ pos 1 ∷ []) [] None) (block Logic (pos 0 ∷ pos 0 ∷ pos 0 ∷ pos 1 ∷ []) [] [] ((port (negsuc 0) (pos 1) (pos 5)) ∷ (port (negsuc 0) (pos 1) (pos 5)) ∷ []) ((port (negsuc 0) (pos 1) (pos 5)) ∷ []) 1 0 (true ∷ true ∷ []))
 passes63 = refl
 
-passes64 : Passes (codes "LOGIC") (fields (negsuc 0 ∷ negsuc 0 ∷ []) [] (pos 5 ∷ pos 5 ∷ []) (negsuc 0 ∷ []) [] (pos 5 ∷ []) 0 0 [] (pos 0 ∷ pos 0 ∷ pos 0 ∷ pos 1 ∷ []) [] None) (block Logic (pos 0 ∷ pos 0 ∷ pos 0 ∷ pos 1 ∷ []) [] [] ((port (negsuc 0) (pos 1) (pos 5)) ∷ (port (negsuc 0) (pos 1) (pos 5)) ∷ []) ((port (negsuc 0) (pos 1) (pos 5)) ∷ []) 0 0 true)
+passes64 : Passes (codes "LOGIC") (fields (negsuc 0 ∷ negsuc 0 ∷ []) [] (pos 5 ∷ pos 5 ∷ []) (negsuc 0 ∷ []) [] (pos 5 ∷ []) 0 0 [] (pos 0 ∷ pos 0 ∷ pos 0 ∷ pos 1 ∷ []) [] None) (block Logic (pos 0 ∷ pos 0 ∷ pos 0 ∷ pos 1 ∷ []) [] [] ((port (negsuc 0) (pos 1) (pos 5)) ∷ (port (negsuc 0) (pos 1) (pos 5)) ∷ []) ((port (negsuc 0) (pos 1) (pos 5)) ∷ []) 0 0 (true ∷ true ∷ []))
 passes64 = refl
 
-passes65 : Passes (codes "ANDLOG_f") (fields [] [] [] (negsuc 0 ∷ []) [] (pos 5 ∷ []) 2 0 [] [] [] None) (block AndLog [] [] [] [] ((port (negsuc 0) (pos 1) (pos 5)) ∷ []) 2 0 false)
+passes65 : Passes (codes "ANDLOG_f") (fields [] [] [] (negsuc 0 ∷ []) [] (pos 5 ∷ []) 2 0 [] [] [] None) (block AndLog [] [] [] [] ((port (negsuc 0) (pos 1) (pos 5)) ∷ []) 2 0 [])
 passes65 = refl
 
-passes66 : Passes (codes "ANDLOG_f") (fields [] [] [] (negsuc 0 ∷ []) [] (pos 5 ∷ []) 2 0 [] [] [] None) (block AndLog [] [] [] [] ((port (negsuc 0) (pos 1) (pos 5)) ∷ []) 2 0 false)
+passes66 : Passes (codes "ANDLOG_f") (fields [] [] [] (negsuc 0 ∷ []) [] (pos 5 ∷ []) 2 0 [] [] [] None) (block AndLog [] [] [] [] ((port (negsuc 0) (pos 1) (pos 5)) ∷ []) 2 0 [])
 passes66 = refl
 
-passes67 : Passes (codes "DOLLAR_m") (fields (negsuc 0 ∷ []) [] (pos 5 ∷ []) (negsuc 0 ∷ []) [] (pos 5 ∷ []) 0 0 (pos 0 ∷ []) [] [] None) (block Dollar [] (pos 0 ∷ []) [] ((port (negsuc 0) (pos 1) (pos 5)) ∷ []) ((port (negsuc 0) (pos 1) (pos 5)) ∷ []) 0 0 false)
+passes67 : Passes (codes "DOLLAR_m") (fields (negsuc 0 ∷ []) [] (pos 5 ∷ []) (negsuc 0 ∷ []) [] (pos 5 ∷ []) 0 0 (pos 0 ∷ []) [] [] None) (block Dollar [] (pos 0 ∷ []) [] ((port (negsuc 0) (pos 1) (pos 5)) ∷ []) ((port (negsuc 0) (pos 1) (pos 5)) ∷ []) 0 0 (false ∷ []))
 passes67 = refl
 
-passes68 : Passes (codes "DOLLAR_m") (fields (negsuc 0 ∷ []) [] (pos 5 ∷ []) (negsuc 0 ∷ []) [] (pos 5 ∷ []) 1 0 (pos 0 ∷ []) [] [] None) (block Dollar [] (pos 0 ∷ []) [] ((port (negsuc 0) (pos 1) (pos 5)) ∷ []) ((port (negsuc 0) (pos 1) (pos 5)) ∷ []) 1 0 false)
+passes68 : Passes (codes "DOLLAR_m") (fields (negsuc 0 ∷ []) [] (pos 5 ∷ []) (negsuc 0 ∷ []) [] (pos 5 ∷ []) 1 0 (pos 0 ∷ []) [] [] None) (block Dollar [] (pos 0 ∷ []) [] ((port (negsuc 0) (pos 1) (pos 5)) ∷ []) ((port (negsuc 0) (pos 1) (pos 5)) ∷ []) 1 0 (false ∷ []))
 passes68 = refl
 
-passes69 : Passes (codes "DOLLAR_m") (fields (negsuc 0 ∷ []) [] (pos 5 ∷ []) (negsuc 0 ∷ []) [] (pos 5 ∷ []) 1 0 (pos 0 ∷ []) [] [] None) (block Dollar [] (pos 0 ∷ []) [] ((port (negsuc 0) (pos 1) (pos 5)) ∷ []) ((port (negsuc 0) (pos 1) (pos 5)) ∷ []) 1 0 false)
+passes69 : Passes (codes "DOLLAR_m") (fields (negsuc 0 ∷ []) [] (pos 5 ∷ []) (negsuc 0 ∷ []) [] (pos 5 ∷ []) 1 0 (pos 0 ∷ []) [] [] None) (block Dollar [] (pos 0 ∷ []) [] ((port (negsuc 0) (pos 1) (pos 5)) ∷ []) ((port (negsuc 0) (pos 1) (pos 5)) ∷ []) 1 0 (false ∷ []))
 passes69 = refl
 
-passes70 : Passes (codes "SAMPHOLD_m") (fields (negsuc 0 ∷ []) [] (pos 5 ∷ []) (negsuc 0 ∷ []) [] (pos 5 ∷ []) 0 0 [] [] [] None) (block SampHold [] [] [] ((port (negsuc 0) (pos 1) (pos 5)) ∷ []) ((port (negsuc 0) (pos 1) (pos 5)) ∷ []) 0 0 true)
+passes70 : Passes (codes "SAMPHOLD_m") (fields (negsuc 0 ∷ []) [] (pos 5 ∷ []) (negsuc 0 ∷ []) [] (pos 5 ∷ []) 0 0 [] [] [] None) (block SampHold [] [] [] ((port (negsuc 0) (pos 1) (pos 5)) ∷ []) ((port (negsuc 0) (pos 1) (pos 5)) ∷ []) 0 0 (true ∷ []))
 passes70 = refl
 
-passes71 : Passes (codes "SAMPHOLD_m") (fields (negsuc 0 ∷ []) [] (pos 5 ∷ []) (negsuc 0 ∷ []) [] (pos 5 ∷ []) 1 0 [] [] [] None) (block SampHold [] [] [] ((port (negsuc 0) (pos 1) (pos 5)) ∷ []) ((port (negsuc 0) (pos 1) (pos 5)) ∷ []) 1 0 true)
+passes71 : Passes (codes "SAMPHOLD_m") (fields (negsuc 0 ∷ []) [] (pos 5 ∷ []) (negsuc 0 ∷ []) [] (pos 5 ∷ []) 1 0 [] [] [] None) (block SampHold [] [] [] ((port (negsuc 0) (pos 1) (pos 5)) ∷ []) ((port (negsuc 0) (pos 1) (pos 5)) ∷ []) 1 0 (true ∷ []))
 passes71 = refl
 
-passes72 : Passes (codes "SAMPHOLD_m") (fields (negsuc 0 ∷ []) [] (pos 5 ∷ []) (negsuc 0 ∷ []) [] (pos 5 ∷ []) 1 0 [] [] [] None) (block SampHold [] [] [] ((port (negsuc 0) (pos 1) (pos 5)) ∷ []) ((port (negsuc 0) (pos 1) (pos 5)) ∷ []) 1 0 true)
+passes72 : Passes (codes "SAMPHOLD_m") (fields (negsuc 0 ∷ []) [] (pos 5 ∷ []) (negsuc 0 ∷ []) [] (pos 5 ∷ []) 1 0 [] [] [] None) (block SampHold [] [] [] ((port (negsuc 0) (pos 1) (pos 5)) ∷ []) ((port (negsuc 0) (pos 1) (pos 5)) ∷ []) 1 0 (true ∷ []))
 passes72 = refl
 
-passes73 : Passes (codes "REGISTER") (fields (negsuc 0 ∷ []) [] (pos 5 ∷ []) (negsuc 0 ∷ []) [] (pos 5 ∷ []) 0 0 (pos 0 ∷ pos 0 ∷ []) [] [] None) (block Register [] (pos 0 ∷ pos 0 ∷ []) [] ((port (negsuc 0) (pos 1) (pos 5)) ∷ []) ((port (negsuc 0) (pos 1) (pos 5)) ∷ []) 0 0 false)
+passes73 : Passes (codes "REGISTER") (fields (negsuc 0 ∷ []) [] (pos 5 ∷ []) (negsuc 0 ∷ []) [] (pos 5 ∷ []) 0 0 (pos 0 ∷ pos 0 ∷ []) [] [] None) (block Register [] (pos 0 ∷ pos 0 ∷ []) [] ((port (negsuc 0) (pos 1) (pos 5)) ∷ []) ((port (negsuc 0) (pos 1) (pos 5)) ∷ []) 0 0 (false ∷ []))
 passes73 = refl
 
-passes74 : Passes (codes "REGISTER") (fields (negsuc 0 ∷ []) [] (pos 5 ∷ []) (negsuc 0 ∷ []) [] (pos 5 ∷ []) 1 0 (pos 0 ∷ pos 0 ∷ []) [] [] None) (block Register [] (pos 0 ∷ pos 0 ∷ []) [] ((port (negsuc 0) (pos 1) (pos 5)) ∷ []) ((port (negsuc 0) (pos 1) (pos 5)) ∷ []) 1 0 false)
+passes74 : Passes (codes "REGISTER") (fields (negsuc 0 ∷ []) [] (pos 5 ∷ []) (negsuc 0 ∷ []) [] (pos 5 ∷ []) 1 0 (pos 0 ∷ pos 0 ∷ []) [] [] None) (block Register [] (pos 0 ∷ pos 0 ∷ []) [] ((port (negsuc 0) (pos 1) (pos 5)) ∷ []) ((port (negsuc 0) (pos 1) (pos 5)) ∷ []) 1 0 (false ∷ []))
 passes74 = refl
 
-passes75 : Passes (codes "REGISTER") (fields (negsuc 0 ∷ []) [] (pos 5 ∷ []) (negsuc 0 ∷ []) [] (pos 5 ∷ []) 1 0 (pos 0 ∷ pos 0 ∷ []) [] [] None) (block Register [] (pos 0 ∷ pos 0 ∷ []) [] ((port (negsuc 0) (pos 1) (pos 5)) ∷ []) ((port (negsuc 0) (pos 1) (pos 5)) ∷ []) 1 0 false)
+passes75 : Passes (codes "REGISTER") (fields (negsuc 0 ∷ []) [] (pos 5 ∷ []) (negsuc 0 ∷ []) [] (pos 5 ∷ []) 1 0 (pos 0 ∷ pos 0 ∷ []) [] [] None) (block Register [] (pos 0 ∷ pos 0 ∷ []) [] ((port (negsuc 0) (pos 1) (pos 5)) ∷ []) ((port (negsuc 0) (pos 1) (pos 5)) ∷ []) 1 0 (false ∷ []))
 passes75 = refl
 
-passes76 : Passes (codes "Modulo_Count") (fields [] [] [] (negsuc 0 ∷ []) [] (pos 5 ∷ []) 1 0 (pos 0 ∷ []) (pos 10 ∷ []) [] None) (block ModuloCount (pos 10 ∷ []) (pos 0 ∷ []) [] [] ((port (negsuc 0) (pos 1) (pos 5)) ∷ []) 1 0 false)
+passes76 : Passes (codes "Modulo_Count") (fields [] [] [] (negsuc 0 ∷ []) [] (pos 5 ∷ []) 1 0 (pos 0 ∷ []) (pos 10 ∷ []) [] None) (block ModuloCount (pos 10 ∷ []) (pos 0 ∷ []) [] [] ((port (negsuc 0) (pos 1) (pos 5)) ∷ []) 1 0 [])
 passes76 = refl
 
-passes77 : Passes (codes "Modulo_Count") (fields [] [] [] (negsuc 0 ∷ []) [] (pos 5 ∷ []) 1 0 (pos 0 ∷ []) (pos 10 ∷ []) [] None) (block ModuloCount (pos 10 ∷ []) (pos 0 ∷ []) [] [] ((port (negsuc 0) (pos 1) (pos 5)) ∷ []) 1 0 false)
+passes77 : Passes (codes "Modulo_Count") (fields [] [] [] (negsuc 0 ∷ []) [] (pos 5 ∷ []) 1 0 (pos 0 ∷ []) (pos 10 ∷ []) [] None) (block ModuloCount (pos 10 ∷ []) (pos 0 ∷ []) [] [] ((port (negsuc 0) (pos 1) (pos 5)) ∷ []) 1 0 [])
 passes77 = refl
 
-passes78 : Passes (codes "GATED_DELAY") (fields (negsuc 0 ∷ negsuc 0 ∷ []) [] (pos 5 ∷ pos 5 ∷ []) (negsuc 0 ∷ []) [] (pos 5 ∷ []) 0 0 (pos 0 ∷ []) [] [] None) (block GatedDelay [] (pos 0 ∷ []) [] ((port (negsuc 0) (pos 1) (pos 5)) ∷ (port (negsuc 0) (pos 1) (pos 5)) ∷ []) ((port (negsuc 0) (pos 1) (pos 5)) ∷ []) 0 0 true)
+passes78 : Passes (codes "GATED_DELAY") (fields (negsuc 0 ∷ negsuc 0 ∷ []) [] (pos 5 ∷ pos 5 ∷ []) (negsuc 0 ∷ []) [] (pos 5 ∷ []) 0 0 (pos 0 ∷ []) [] [] None) (block GatedDelay [] (pos 0 ∷ []) [] ((port (negsuc 0) (pos 1) (pos 5)) ∷ (port (negsuc 0) (pos 1) (pos 5)) ∷ []) ((port (negsuc 0) (pos 1) (pos 5)) ∷ []) 0 0 (false ∷ true ∷ []))
 passes78 = refl
 
-passes79 : Passes (codes "GATED_DELAY") (fields (negsuc 0 ∷ negsuc 0 ∷ []) [] (pos 5 ∷ pos 5 ∷ []) (negsuc 0 ∷ []) [] (pos 5 ∷ []) 1 0 (pos 0 ∷ []) [] [] None) (block GatedDelay [] (pos 0 ∷ []) [] ((port (negsuc 0) (pos 1) (pos 5)) ∷ (port (negsuc 0) (pos 1) (pos 5)) ∷ []) ((port (negsuc 0) (pos 1) (pos 5)) ∷ []) 1 0 true)
+passes79 : Passes (codes "GATED_DELAY") (fields (negsuc 0 ∷ negsuc 0 ∷ []) [] (pos 5 ∷ pos 5 ∷ []) (negsuc 0 ∷ []) [] (pos 5 ∷ []) 1 0 (pos 0 ∷ []) [] [] None) (block GatedDelay [] (pos 0 ∷ []) [] ((port (negsuc 0) (pos 1) (pos 5)) ∷ (port (negsuc 0) (pos 1) (pos 5)) ∷ []) ((port (negsuc 0) (pos 1) (pos 5)) ∷ []) 1 0 (false ∷ true ∷ []))
 passes79 = refl
 
-passes80 : Passes (codes "GATED_DELAY") (fields (negsuc 0 ∷ negsuc 0 ∷ []) [] (pos 5 ∷ pos 5 ∷ []) (negsuc 0 ∷ []) [] (pos 5 ∷ []) 1 0 (pos 0 ∷ []) [] [] None) (block GatedDelay [] (pos 0 ∷ []) [] ((port (negsuc 0) (pos 1) (pos 5)) ∷ (port (negsuc 0) (pos 1) (pos 5)) ∷ []) ((port (negsuc 0) (pos 1) (pos 5)) ∷ []) 1 0 true)
+passes80 : Passes (codes "GATED_DELAY") (fields (negsuc 0 ∷ negsuc 0 ∷ []) [] (pos 5 ∷ pos 5 ∷ []) (negsuc 0 ∷ []) [] (pos 5 ∷ []) 1 0 (pos 0 ∷ []) [] [] None) (block GatedDelay [] (pos 0 ∷ []) [] ((port (negsuc 0) (pos 1) (pos 5)) ∷ (port (negsuc 0) (pos 1) (pos 5)) ∷ []) ((port (negsuc 0) (pos 1) (pos 5)) ∷ []) 1 0 (false ∷ true ∷ []))
 passes80 = refl
 
-passes81 : Passes (codes "SENSOR") (fields [] [] [] (negsuc 0 ∷ []) [] (pos 5 ∷ []) 1 0 [] (pos 1 ∷ []) [] None) (block Sensor (pos 1 ∷ []) [] [] [] ((port (negsuc 0) (pos 1) (pos 5)) ∷ []) 1 0 false)
+passes81 : Passes (codes "SENSOR") (fields [] [] [] (negsuc 0 ∷ []) [] (pos 5 ∷ []) 1 0 [] (pos 1 ∷ []) [] None) (block Sensor (pos 1 ∷ []) [] [] [] ((port (negsuc 0) (pos 1) (pos 5)) ∷ []) 1 0 [])
 passes81 = refl
 
-passes82 : Passes (codes "SENSOR") (fields [] [] [] (negsuc 0 ∷ []) [] (pos 5 ∷ []) 1 0 [] (pos 1 ∷ []) [] None) (block Sensor (pos 1 ∷ []) [] [] [] ((port (negsuc 0) (pos 1) (pos 5)) ∷ []) 1 0 false)
+passes82 : Passes (codes "SENSOR") (fields [] [] [] (negsuc 0 ∷ []) [] (pos 5 ∷ []) 1 0 [] (pos 1 ∷ []) [] None) (block Sensor (pos 1 ∷ []) [] [] [] ((port (negsuc 0) (pos 1) (pos 5)) ∷ []) 1 0 [])
 passes82 = refl
 
-passes83 : Passes (codes "EVTDLY_c") (fields [] [] [] [] [] [] 1 1 [] (pos 5 ∷ []) (pos 0 ∷ []) None) (block EvtDly (pos 5 ∷ []) [] (pos 0 ∷ []) [] [] 1 1 false)
+passes83 : Passes (codes "EVTDLY_c") (fields [] [] [] [] [] [] 1 1 [] (pos 5 ∷ []) (pos 0 ∷ []) None) (block EvtDly (pos 5 ∷ []) [] (pos 0 ∷ []) [] [] 1 1 [])
 passes83 = refl
 
-passes84 : Passes (codes "EVTDLY_c") (fields [] [] [] [] [] [] 1 1 [] (pos 5 ∷ []) (pos 0 ∷ []) None) (block EvtDly (pos 5 ∷ []) [] (pos 0 ∷ []) [] [] 1 1 false)
+passes84 : Passes (codes "EVTDLY_c") (fields [] [] [] [] [] [] 1 1 [] (pos 5 ∷ []) (pos 0 ∷ []) None) (block EvtDly (pos 5 ∷ []) [] (pos 0 ∷ []) [] [] 1 1 [])
 passes84 = refl
 
-passes85 : Passes (codes "EVTVARDLY") (fields (negsuc 0 ∷ []) [] (pos 5 ∷ []) [] [] [] 1 1 [] [] (negsuc 0 ∷ []) None) (block EvtVarDly [] [] (negsuc 0 ∷ []) ((port (negsuc 0) (pos 1) (pos 5)) ∷ []) [] 1 1 false)
+passes85 : Passes (codes "EVTVARDLY") (fields (negsuc 0 ∷ []) [] (pos 5 ∷ []) [] [] [] 1 1 [] [] (negsuc 0 ∷ []) None) (block EvtVarDly [] [] (negsuc 0 ∷ []) ((port (negsuc 0) (pos 1) (pos 5)) ∷ []) [] 1 1 (false ∷ []))
 passes85 = refl
 
-passes86 : Passes (codes "EVTVARDLY") (fields (negsuc 0 ∷ []) [] (pos 5 ∷ []) [] [] [] 1 1 [] [] (negsuc 0 ∷ []) None) (block EvtVarDly [] [] (negsuc 0 ∷ []) ((port (negsuc 0) (pos 1) (pos 5)) ∷ []) [] 1 1 false)
+passes86 : Passes (codes "EVTVARDLY") (fields (negsuc 0 ∷ []) [] (pos 5 ∷ []) [] [] [] 1 1 [] [] (negsuc 0 ∷ []) None) (block EvtVarDly [] [] (negsuc 0 ∷ []) ((port (negsuc 0) (pos 1) (pos 5)) ∷ []) [] 1 1 (false ∷ []))
 passes86 = refl
 
-passes87 : Passes (codes "IFTHEL_f") (fields (negsuc 0 ∷ []) [] (pos 5 ∷ []) [] [] [] 0 2 [] [] [] None) (block IfThEl [] [] [] ((port (negsuc 0) (pos 1) (pos 5)) ∷ []) [] 0 2 true)
+passes87 : Passes (codes "IFTHEL_f") (fields (negsuc 0 ∷ []) [] (pos 5 ∷ []) [] [] [] 0 2 [] [] [] None) (block IfThEl [] [] [] ((port (negsuc 0) (pos 1) (pos 5)) ∷ []) [] 0 2 (true ∷ []))
 passes87 = refl
 
-passes88 : Passes (codes "IFTHEL_f") (fields (negsuc 0 ∷ []) [] (pos 5 ∷ []) [] [] [] 1 2 [] [] [] None) (block IfThEl [] [] [] ((port (negsuc 0) (pos 1) (pos 5)) ∷ []) [] 1 2 true)
+passes88 : Passes (codes "IFTHEL_f") (fields (negsuc 0 ∷ []) [] (pos 5 ∷ []) [] [] [] 1 2 [] [] [] None) (block IfThEl [] [] [] ((port (negsuc 0) (pos 1) (pos 5)) ∷ []) [] 1 2 (true ∷ []))
 passes88 = refl
 
-passes89 : Passes (codes "IFTHEL_f") (fields (negsuc 0 ∷ []) [] (pos 5 ∷ []) [] [] [] 0 2 [] [] [] None) (block IfThEl [] [] [] ((port (negsuc 0) (pos 1) (pos 5)) ∷ []) [] 0 2 true)
+passes89 : Passes (codes "IFTHEL_f") (fields (negsuc 0 ∷ []) [] (pos 5 ∷ []) [] [] [] 0 2 [] [] [] None) (block IfThEl [] [] [] ((port (negsuc 0) (pos 1) (pos 5)) ∷ []) [] 0 2 (true ∷ []))
 passes89 = refl
 
-passes90 : Passes (codes "ESELECT_f") (fields (negsuc 0 ∷ []) [] (pos 5 ∷ []) [] [] [] 0 3 [] [] [] None) (block ESelect [] [] [] ((port (negsuc 0) (pos 1) (pos 5)) ∷ []) [] 0 3 true)
+passes90 : Passes (codes "ESELECT_f") (fields (negsuc 0 ∷ []) [] (pos 5 ∷ []) [] [] [] 0 3 [] [] [] None) (block ESelect [] [] [] ((port (negsuc 0) (pos 1) (pos 5)) ∷ []) [] 0 3 (true ∷ []))
 passes90 = refl
 
-passes91 : Passes (codes "ESELECT_f") (fields (negsuc 0 ∷ []) [] (pos 5 ∷ []) [] [] [] 1 3 [] [] [] None) (block ESelect [] [] [] ((port (negsuc 0) (pos 1) (pos 5)) ∷ []) [] 1 3 true)
+passes91 : Passes (codes "ESELECT_f") (fields (negsuc 0 ∷ []) [] (pos 5 ∷ []) [] [] [] 1 3 [] [] [] None) (block ESelect [] [] [] ((port (negsuc 0) (pos 1) (pos 5)) ∷ []) [] 1 3 (true ∷ []))
 passes91 = refl
 
-passes92 : Passes (codes "ESELECT_f") (fields (negsuc 0 ∷ []) [] (pos 5 ∷ []) [] [] [] 0 64 [] [] [] None) (block ESelect [] [] [] ((port (negsuc 0) (pos 1) (pos 5)) ∷ []) [] 0 64 true)
+passes92 : Passes (codes "ESELECT_f") (fields (negsuc 0 ∷ []) [] (pos 5 ∷ []) [] [] [] 0 64 [] [] [] None) (block ESelect [] [] [] ((port (negsuc 0) (pos 1) (pos 5)) ∷ []) [] 0 64 (true ∷ []))
 passes92 = refl
 
-passes93 : Passes (codes "ESELECT_f") (fields (negsuc 0 ∷ []) [] (pos 5 ∷ []) [] [] [] 0 2 [] [] [] None) (block ESelect [] [] [] ((port (negsuc 0) (pos 1) (pos 5)) ∷ []) [] 0 2 true)
+passes93 : Passes (codes "ESELECT_f") (fields (negsuc 0 ∷ []) [] (pos 5 ∷ []) [] [] [] 0 2 [] [] [] None) (block ESelect [] [] [] ((port (negsuc 0) (pos 1) (pos 5)) ∷ []) [] 0 2 (true ∷ []))
 passes93 = refl
 
-passes94 : Passes (codes "HALT_f") (fields [] [] [] [] [] [] 1 0 [] [] [] None) (block Halt [] [] [] [] [] 1 0 false)
+passes94 : Passes (codes "HALT_f") (fields [] [] [] [] [] [] 1 0 [] [] [] None) (block Halt [] [] [] [] [] 1 0 [])
 passes94 = refl
 
-passes95 : Passes (codes "HALT_f") (fields [] [] [] [] [] [] 1 0 [] [] [] None) (block Halt [] [] [] [] [] 1 0 false)
+passes95 : Passes (codes "HALT_f") (fields [] [] [] [] [] [] 1 0 [] [] [] None) (block Halt [] [] [] [] [] 1 0 [])
 passes95 = refl
 
-passes96 : Passes (codes "SUMMATION") (fields (many 64 (negsuc 0)) [] (many 64 (pos 5)) (negsuc 0 ∷ []) [] (pos 5 ∷ []) 0 0 [] (pos 2 ∷ pos 1 ∷ pos 1 ∷ pos 1 ∷ pos 1 ∷ pos 1 ∷ pos 1 ∷ pos 1 ∷ pos 1 ∷ pos 1 ∷ pos 1 ∷ pos 1 ∷ pos 1 ∷ pos 1 ∷ pos 1 ∷ pos 1 ∷ pos 1 ∷ pos 1 ∷ pos 1 ∷ pos 1 ∷ pos 1 ∷ pos 1 ∷ pos 1 ∷ pos 1 ∷ pos 1 ∷ pos 1 ∷ pos 1 ∷ pos 1 ∷ pos 1 ∷ pos 1 ∷ pos 1 ∷ pos 1 ∷ pos 1 ∷ pos 1 ∷ pos 1 ∷ pos 1 ∷ pos 1 ∷ pos 1 ∷ pos 1 ∷ pos 1 ∷ pos 1 ∷ pos 1 ∷ pos 1 ∷ pos 1 ∷ pos 1 ∷ pos 1 ∷ pos 1 ∷ pos 1 ∷ pos 1 ∷ pos 1 ∷ pos 1 ∷ pos 1 ∷ pos 1 ∷ pos 1 ∷ pos 1 ∷ pos 1 ∷ pos 1 ∷ pos 1 ∷ pos 1 ∷ pos 1 ∷ pos 1 ∷ pos 1 ∷ pos 1 ∷ pos 1 ∷ pos 1 ∷ []) [] None) (block Summation (pos 2 ∷ pos 1 ∷ pos 1 ∷ pos 1 ∷ pos 1 ∷ pos 1 ∷ pos 1 ∷ pos 1 ∷ pos 1 ∷ pos 1 ∷ pos 1 ∷ pos 1 ∷ pos 1 ∷ pos 1 ∷ pos 1 ∷ pos 1 ∷ pos 1 ∷ pos 1 ∷ pos 1 ∷ pos 1 ∷ pos 1 ∷ pos 1 ∷ pos 1 ∷ pos 1 ∷ pos 1 ∷ pos 1 ∷ pos 1 ∷ pos 1 ∷ pos 1 ∷ pos 1 ∷ pos 1 ∷ pos 1 ∷ pos 1 ∷ pos 1 ∷ pos 1 ∷ pos 1 ∷ pos 1 ∷ pos 1 ∷ pos 1 ∷ pos 1 ∷ pos 1 ∷ pos 1 ∷ pos 1 ∷ pos 1 ∷ pos 1 ∷ pos 1 ∷ pos 1 ∷ pos 1 ∷ pos 1 ∷ pos 1 ∷ pos 1 ∷ pos 1 ∷ pos 1 ∷ pos 1 ∷ pos 1 ∷ pos 1 ∷ pos 1 ∷ pos 1 ∷ pos 1 ∷ pos 1 ∷ pos 1 ∷ pos 1 ∷ pos 1 ∷ pos 1 ∷ pos 1 ∷ []) [] [] (many 64 (port (negsuc 0) (pos 1) (pos 5))) ((port (negsuc 0) (pos 1) (pos 5)) ∷ []) 0 0 true)
+passes96 : Passes (codes "SUMMATION") (fields (many 64 (negsuc 0)) [] (many 64 (pos 5)) (negsuc 0 ∷ []) [] (pos 5 ∷ []) 0 0 [] (pos 2 ∷ pos 1 ∷ pos 1 ∷ pos 1 ∷ pos 1 ∷ pos 1 ∷ pos 1 ∷ pos 1 ∷ pos 1 ∷ pos 1 ∷ pos 1 ∷ pos 1 ∷ pos 1 ∷ pos 1 ∷ pos 1 ∷ pos 1 ∷ pos 1 ∷ pos 1 ∷ pos 1 ∷ pos 1 ∷ pos 1 ∷ pos 1 ∷ pos 1 ∷ pos 1 ∷ pos 1 ∷ pos 1 ∷ pos 1 ∷ pos 1 ∷ pos 1 ∷ pos 1 ∷ pos 1 ∷ pos 1 ∷ pos 1 ∷ pos 1 ∷ pos 1 ∷ pos 1 ∷ pos 1 ∷ pos 1 ∷ pos 1 ∷ pos 1 ∷ pos 1 ∷ pos 1 ∷ pos 1 ∷ pos 1 ∷ pos 1 ∷ pos 1 ∷ pos 1 ∷ pos 1 ∷ pos 1 ∷ pos 1 ∷ pos 1 ∷ pos 1 ∷ pos 1 ∷ pos 1 ∷ pos 1 ∷ pos 1 ∷ pos 1 ∷ pos 1 ∷ pos 1 ∷ pos 1 ∷ pos 1 ∷ pos 1 ∷ pos 1 ∷ pos 1 ∷ pos 1 ∷ []) [] None) (block Summation (pos 2 ∷ pos 1 ∷ pos 1 ∷ pos 1 ∷ pos 1 ∷ pos 1 ∷ pos 1 ∷ pos 1 ∷ pos 1 ∷ pos 1 ∷ pos 1 ∷ pos 1 ∷ pos 1 ∷ pos 1 ∷ pos 1 ∷ pos 1 ∷ pos 1 ∷ pos 1 ∷ pos 1 ∷ pos 1 ∷ pos 1 ∷ pos 1 ∷ pos 1 ∷ pos 1 ∷ pos 1 ∷ pos 1 ∷ pos 1 ∷ pos 1 ∷ pos 1 ∷ pos 1 ∷ pos 1 ∷ pos 1 ∷ pos 1 ∷ pos 1 ∷ pos 1 ∷ pos 1 ∷ pos 1 ∷ pos 1 ∷ pos 1 ∷ pos 1 ∷ pos 1 ∷ pos 1 ∷ pos 1 ∷ pos 1 ∷ pos 1 ∷ pos 1 ∷ pos 1 ∷ pos 1 ∷ pos 1 ∷ pos 1 ∷ pos 1 ∷ pos 1 ∷ pos 1 ∷ pos 1 ∷ pos 1 ∷ pos 1 ∷ pos 1 ∷ pos 1 ∷ pos 1 ∷ pos 1 ∷ pos 1 ∷ pos 1 ∷ pos 1 ∷ pos 1 ∷ pos 1 ∷ []) [] [] (many 64 (port (negsuc 0) (pos 1) (pos 5))) ((port (negsuc 0) (pos 1) (pos 5)) ∷ []) 0 0 (many 64 true))
 passes96 = refl
 
-passes97 : Passes (codes "MAXMIN") (fields (many 64 (negsuc 0)) [] (many 64 (pos 5)) (negsuc 0 ∷ []) [] (pos 5 ∷ []) 0 0 [] (pos 1 ∷ []) [] None) (block MaxMin (pos 1 ∷ []) [] [] (many 64 (port (negsuc 0) (pos 1) (pos 5))) ((port (negsuc 0) (pos 1) (pos 5)) ∷ []) 0 0 true)
+passes97 : Passes (codes "MAXMIN") (fields (many 64 (negsuc 0)) [] (many 64 (pos 5)) (negsuc 0 ∷ []) [] (pos 5 ∷ []) 0 0 [] (pos 1 ∷ []) [] None) (block MaxMin (pos 1 ∷ []) [] [] (many 64 (port (negsuc 0) (pos 1) (pos 5))) ((port (negsuc 0) (pos 1) (pos 5)) ∷ []) 0 0 (many 64 true))
 passes97 = refl
 
-passes98 : Passes (codes "MUX") (fields (many 64 (negsuc 0)) [] (many 64 (pos 5)) (negsuc 0 ∷ []) [] (pos 5 ∷ []) 0 0 [] [] [] None) (block Mux [] [] [] (many 64 (port (negsuc 0) (pos 1) (pos 5))) ((port (negsuc 0) (pos 1) (pos 5)) ∷ []) 0 0 true)
+passes98 : Passes (codes "MUX") (fields (many 64 (negsuc 0)) [] (many 64 (pos 5)) (negsuc 0 ∷ []) [] (pos 5 ∷ []) 0 0 [] [] [] None) (block Mux [] [] [] (many 64 (port (negsuc 0) (pos 1) (pos 5))) ((port (negsuc 0) (pos 1) (pos 5)) ∷ []) 0 0 (many 64 true))
 passes98 = refl
 
-passes99 : Passes (codes "DEMUX") (fields (negsuc 0 ∷ []) [] (pos 5 ∷ []) (many 64 (negsuc 0)) [] (many 64 (pos 5)) 0 0 [] [] [] None) (block Demux [] [] [] ((port (negsuc 0) (pos 1) (pos 5)) ∷ []) (many 64 (port (negsuc 0) (pos 1) (pos 5))) 0 0 true)
+passes99 : Passes (codes "DEMUX") (fields (negsuc 0 ∷ []) [] (pos 5 ∷ []) (many 64 (negsuc 0)) [] (many 64 (pos 5)) 0 0 [] [] [] None) (block Demux [] [] [] ((port (negsuc 0) (pos 1) (pos 5)) ∷ []) (many 64 (port (negsuc 0) (pos 1) (pos 5))) 0 0 (true ∷ []))
 passes99 = refl
 
-passes100 : Passes (codes "LOGICAL_OP") (fields (many 64 (negsuc 0)) [] (many 64 (pos 5)) (negsuc 0 ∷ []) [] (pos 5 ∷ []) 0 0 [] (pos 0 ∷ pos 0 ∷ []) [] None) (block LogicalOp (pos 0 ∷ pos 0 ∷ []) [] [] (many 64 (port (negsuc 0) (pos 1) (pos 5))) ((port (negsuc 0) (pos 1) (pos 5)) ∷ []) 0 0 true)
+passes100 : Passes (codes "LOGICAL_OP") (fields (many 64 (negsuc 0)) [] (many 64 (pos 5)) (negsuc 0 ∷ []) [] (pos 5 ∷ []) 0 0 [] (pos 0 ∷ pos 0 ∷ []) [] None) (block LogicalOp (pos 0 ∷ pos 0 ∷ []) [] [] (many 64 (port (negsuc 0) (pos 1) (pos 5))) ((port (negsuc 0) (pos 1) (pos 5)) ∷ []) 0 0 (many 64 true))
 passes100 = refl
 
-passes101 : Passes (codes "SELECT_m") (fields (negsuc 0 ∷ negsuc 0 ∷ []) [] (pos 5 ∷ pos 5 ∷ []) (negsuc 0 ∷ []) [] (pos 5 ∷ []) 2 0 [] [] [] None) (block Select [] [] [] ((port (negsuc 0) (pos 1) (pos 5)) ∷ (port (negsuc 0) (pos 1) (pos 5)) ∷ []) ((port (negsuc 0) (pos 1) (pos 5)) ∷ []) 2 0 true)
+passes101 : Passes (codes "SELECT_m") (fields (negsuc 0 ∷ negsuc 0 ∷ []) [] (pos 5 ∷ pos 5 ∷ []) (negsuc 0 ∷ []) [] (pos 5 ∷ []) 2 0 [] [] [] None) (block Select [] [] [] ((port (negsuc 0) (pos 1) (pos 5)) ∷ (port (negsuc 0) (pos 1) (pos 5)) ∷ []) ((port (negsuc 0) (pos 1) (pos 5)) ∷ []) 2 0 (true ∷ true ∷ []))
 passes101 = refl
 
-passes102 : Passes (codes "SELECT_m") (fields (negsuc 0 ∷ negsuc 0 ∷ negsuc 0 ∷ negsuc 0 ∷ negsuc 0 ∷ negsuc 0 ∷ negsuc 0 ∷ negsuc 0 ∷ []) [] (pos 5 ∷ pos 5 ∷ pos 5 ∷ pos 5 ∷ pos 5 ∷ pos 5 ∷ pos 5 ∷ pos 5 ∷ []) (negsuc 0 ∷ []) [] (pos 5 ∷ []) 8 0 [] [] [] None) (block Select [] [] [] ((port (negsuc 0) (pos 1) (pos 5)) ∷ (port (negsuc 0) (pos 1) (pos 5)) ∷ (port (negsuc 0) (pos 1) (pos 5)) ∷ (port (negsuc 0) (pos 1) (pos 5)) ∷ (port (negsuc 0) (pos 1) (pos 5)) ∷ (port (negsuc 0) (pos 1) (pos 5)) ∷ (port (negsuc 0) (pos 1) (pos 5)) ∷ (port (negsuc 0) (pos 1) (pos 5)) ∷ []) ((port (negsuc 0) (pos 1) (pos 5)) ∷ []) 8 0 true)
+passes102 : Passes (codes "SELECT_m") (fields (negsuc 0 ∷ negsuc 0 ∷ negsuc 0 ∷ negsuc 0 ∷ negsuc 0 ∷ negsuc 0 ∷ negsuc 0 ∷ negsuc 0 ∷ []) [] (pos 5 ∷ pos 5 ∷ pos 5 ∷ pos 5 ∷ pos 5 ∷ pos 5 ∷ pos 5 ∷ pos 5 ∷ []) (negsuc 0 ∷ []) [] (pos 5 ∷ []) 8 0 [] [] [] None) (block Select [] [] [] ((port (negsuc 0) (pos 1) (pos 5)) ∷ (port (negsuc 0) (pos 1) (pos 5)) ∷ (port (negsuc 0) (pos 1) (pos 5)) ∷ (port (negsuc 0) (pos 1) (pos 5)) ∷ (port (negsuc 0) (pos 1) (pos 5)) ∷ (port (negsuc 0) (pos 1) (pos 5)) ∷ (port (negsuc 0) (pos 1) (pos 5)) ∷ (port (negsuc 0) (pos 1) (pos 5)) ∷ []) ((port (negsuc 0) (pos 1) (pos 5)) ∷ []) 8 0 (true ∷ true ∷ true ∷ true ∷ true ∷ true ∷ true ∷ true ∷ []))
 passes102 = refl
 
-passes103 : Passes (codes "LOGIC") (fields (negsuc 0 ∷ []) [] (pos 5 ∷ []) (negsuc 0 ∷ []) [] (pos 5 ∷ []) 0 0 [] (pos 0 ∷ pos 1 ∷ []) [] None) (block Logic (pos 0 ∷ pos 1 ∷ []) [] [] ((port (negsuc 0) (pos 1) (pos 5)) ∷ []) ((port (negsuc 0) (pos 1) (pos 5)) ∷ []) 0 0 true)
+passes103 : Passes (codes "LOGIC") (fields (negsuc 0 ∷ []) [] (pos 5 ∷ []) (negsuc 0 ∷ []) [] (pos 5 ∷ []) 0 0 [] (pos 0 ∷ pos 1 ∷ []) [] None) (block Logic (pos 0 ∷ pos 1 ∷ []) [] [] ((port (negsuc 0) (pos 1) (pos 5)) ∷ []) ((port (negsuc 0) (pos 1) (pos 5)) ∷ []) 0 0 (true ∷ []))
 passes103 = refl
 
-passes104 : Passes (codes "LOGIC") (fields (negsuc 0 ∷ negsuc 0 ∷ negsuc 0 ∷ []) [] (pos 5 ∷ pos 5 ∷ pos 5 ∷ []) (negsuc 0 ∷ negsuc 0 ∷ negsuc 0 ∷ negsuc 0 ∷ negsuc 0 ∷ negsuc 0 ∷ negsuc 0 ∷ negsuc 0 ∷ []) [] (pos 5 ∷ pos 5 ∷ pos 5 ∷ pos 5 ∷ pos 5 ∷ pos 5 ∷ pos 5 ∷ pos 5 ∷ []) 0 0 [] (pos 0 ∷ pos 1 ∷ pos 0 ∷ pos 1 ∷ pos 0 ∷ pos 1 ∷ pos 0 ∷ pos 1 ∷ pos 0 ∷ pos 1 ∷ pos 0 ∷ pos 1 ∷ pos 0 ∷ pos 1 ∷ pos 0 ∷ pos 1 ∷ pos 0 ∷ pos 1 ∷ pos 0 ∷ pos 1 ∷ pos 0 ∷ pos 1 ∷ pos 0 ∷ pos 1 ∷ pos 0 ∷ pos 1 ∷ pos 0 ∷ pos 1 ∷ pos 0 ∷ pos 1 ∷ pos 0 ∷ pos 1 ∷ pos 0 ∷ pos 1 ∷ pos 0 ∷ pos 1 ∷ pos 0 ∷ pos 1 ∷ pos 0 ∷ pos 1 ∷ pos 0 ∷ pos 1 ∷ pos 0 ∷ pos 1 ∷ pos 0 ∷ pos 1 ∷ pos 0 ∷ pos 1 ∷ pos 0 ∷ pos 1 ∷ pos 0 ∷ pos 1 ∷ pos 0 ∷ pos 1 ∷ pos 0 ∷ pos 1 ∷ pos 0 ∷ pos 1 ∷ pos 0 ∷ pos 1 ∷ pos 0 ∷ pos 1 ∷ pos 0 ∷ pos 1 ∷ []) [] None) (block Logic (pos 0 ∷ pos 1 ∷ pos 0 ∷ pos 1 ∷ pos 0 ∷ pos 1 ∷ pos 0 ∷ pos 1 ∷ pos 0 ∷ pos 1 ∷ pos 0 ∷ pos 1 ∷ pos 0 ∷ pos 1 ∷ pos 0 ∷ pos 1 ∷ pos 0 ∷ pos 1 ∷ pos 0 ∷ pos 1 ∷ pos 0 ∷ pos 1 ∷ pos 0 ∷ pos 1 ∷ pos 0 ∷ pos 1 ∷ pos 0 ∷ pos 1 ∷ pos 0 ∷ pos 1 ∷ pos 0 ∷ pos 1 ∷ pos 0 ∷ pos 1 ∷ pos 0 ∷ pos 1 ∷ pos 0 ∷ pos 1 ∷ pos 0 ∷ pos 1 ∷ pos 0 ∷ pos 1 ∷ pos 0 ∷ pos 1 ∷ pos 0 ∷ pos 1 ∷ pos 0 ∷ pos 1 ∷ pos 0 ∷ pos 1 ∷ pos 0 ∷ pos 1 ∷ pos 0 ∷ pos 1 ∷ pos 0 ∷ pos 1 ∷ pos 0 ∷ pos 1 ∷ pos 0 ∷ pos 1 ∷ pos 0 ∷ pos 1 ∷ pos 0 ∷ pos 1 ∷ []) [] [] ((port (negsuc 0) (pos 1) (pos 5)) ∷ (port (negsuc 0) (pos 1) (pos 5)) ∷ (port (negsuc 0) (pos 1) (pos 5)) ∷ []) ((port (negsuc 0) (pos 1) (pos 5)) ∷ (port (negsuc 0) (pos 1) (pos 5)) ∷ (port (negsuc 0) (pos 1) (pos 5)) ∷ (port (negsuc 0) (pos 1) (pos 5)) ∷ (port (negsuc 0) (pos 1) (pos 5)) ∷ (port (negsuc 0) (pos 1) (pos 5)) ∷ (port (negsuc 0) (pos 1) (pos 5)) ∷ (port (negsuc 0) (pos 1) (pos 5)) ∷ []) 0 0 true)
+passes104 : Passes (codes "LOGIC") (fields (negsuc 0 ∷ negsuc 0 ∷ negsuc 0 ∷ []) [] (pos 5 ∷ pos 5 ∷ pos 5 ∷ []) (negsuc 0 ∷ negsuc 0 ∷ negsuc 0 ∷ negsuc 0 ∷ negsuc 0 ∷ negsuc 0 ∷ negsuc 0 ∷ negsuc 0 ∷ []) [] (pos 5 ∷ pos 5 ∷ pos 5 ∷ pos 5 ∷ pos 5 ∷ pos 5 ∷ pos 5 ∷ pos 5 ∷ []) 0 0 [] (pos 0 ∷ pos 1 ∷ pos 0 ∷ pos 1 ∷ pos 0 ∷ pos 1 ∷ pos 0 ∷ pos 1 ∷ pos 0 ∷ pos 1 ∷ pos 0 ∷ pos 1 ∷ pos 0 ∷ pos 1 ∷ pos 0 ∷ pos 1 ∷ pos 0 ∷ pos 1 ∷ pos 0 ∷ pos 1 ∷ pos 0 ∷ pos 1 ∷ pos 0 ∷ pos 1 ∷ pos 0 ∷ pos 1 ∷ pos 0 ∷ pos 1 ∷ pos 0 ∷ pos 1 ∷ pos 0 ∷ pos 1 ∷ pos 0 ∷ pos 1 ∷ pos 0 ∷ pos 1 ∷ pos 0 ∷ pos 1 ∷ pos 0 ∷ pos 1 ∷ pos 0 ∷ pos 1 ∷ pos 0 ∷ pos 1 ∷ pos 0 ∷ pos 1 ∷ pos 0 ∷ pos 1 ∷ pos 0 ∷ pos 1 ∷ pos 0 ∷ pos 1 ∷ pos 0 ∷ pos 1 ∷ pos 0 ∷ pos 1 ∷ pos 0 ∷ pos 1 ∷ pos 0 ∷ pos 1 ∷ pos 0 ∷ pos 1 ∷ pos 0 ∷ pos 1 ∷ []) [] None) (block Logic (pos 0 ∷ pos 1 ∷ pos 0 ∷ pos 1 ∷ pos 0 ∷ pos 1 ∷ pos 0 ∷ pos 1 ∷ pos 0 ∷ pos 1 ∷ pos 0 ∷ pos 1 ∷ pos 0 ∷ pos 1 ∷ pos 0 ∷ pos 1 ∷ pos 0 ∷ pos 1 ∷ pos 0 ∷ pos 1 ∷ pos 0 ∷ pos 1 ∷ pos 0 ∷ pos 1 ∷ pos 0 ∷ pos 1 ∷ pos 0 ∷ pos 1 ∷ pos 0 ∷ pos 1 ∷ pos 0 ∷ pos 1 ∷ pos 0 ∷ pos 1 ∷ pos 0 ∷ pos 1 ∷ pos 0 ∷ pos 1 ∷ pos 0 ∷ pos 1 ∷ pos 0 ∷ pos 1 ∷ pos 0 ∷ pos 1 ∷ pos 0 ∷ pos 1 ∷ pos 0 ∷ pos 1 ∷ pos 0 ∷ pos 1 ∷ pos 0 ∷ pos 1 ∷ pos 0 ∷ pos 1 ∷ pos 0 ∷ pos 1 ∷ pos 0 ∷ pos 1 ∷ pos 0 ∷ pos 1 ∷ pos 0 ∷ pos 1 ∷ pos 0 ∷ pos 1 ∷ []) [] [] ((port (negsuc 0) (pos 1) (pos 5)) ∷ (port (negsuc 0) (pos 1) (pos 5)) ∷ (port (negsuc 0) (pos 1) (pos 5)) ∷ []) ((port (negsuc 0) (pos 1) (pos 5)) ∷ (port (negsuc 0) (pos 1) (pos 5)) ∷ (port (negsuc 0) (pos 1) (pos 5)) ∷ (port (negsuc 0) (pos 1) (pos 5)) ∷ (port (negsuc 0) (pos 1) (pos 5)) ∷ (port (negsuc 0) (pos 1) (pos 5)) ∷ (port (negsuc 0) (pos 1) (pos 5)) ∷ (port (negsuc 0) (pos 1) (pos 5)) ∷ []) 0 0 (true ∷ true ∷ true ∷ []))
 passes104 = refl
 
-passes105 : Passes (codes "SUMMATION") (fields (negsuc 0 ∷ negsuc 0 ∷ []) (negsuc 0 ∷ negsuc 0 ∷ []) (pos 5 ∷ pos 5 ∷ []) (negsuc 0 ∷ []) [] (pos 5 ∷ []) 0 0 [] (pos 0 ∷ pos 1 ∷ negsuc 0 ∷ []) [] None) (block Summation (pos 0 ∷ pos 1 ∷ negsuc 0 ∷ []) [] [] ((port (negsuc 0) (negsuc 0) (pos 5)) ∷ (port (negsuc 0) (negsuc 0) (pos 5)) ∷ []) ((port (negsuc 0) (pos 1) (pos 5)) ∷ []) 0 0 true)
+passes105 : Passes (codes "SUMMATION") (fields (negsuc 0 ∷ negsuc 0 ∷ []) (negsuc 0 ∷ negsuc 0 ∷ []) (pos 5 ∷ pos 5 ∷ []) (negsuc 0 ∷ []) [] (pos 5 ∷ []) 0 0 [] (pos 0 ∷ pos 1 ∷ negsuc 0 ∷ []) [] None) (block Summation (pos 0 ∷ pos 1 ∷ negsuc 0 ∷ []) [] [] ((port (negsuc 0) (negsuc 0) (pos 5)) ∷ (port (negsuc 0) (negsuc 0) (pos 5)) ∷ []) ((port (negsuc 0) (pos 1) (pos 5)) ∷ []) 0 0 (true ∷ true ∷ []))
 passes105 = refl
 
-passes106 : Passes (codes "CONST_m") (fields [] [] (pos 0 ∷ pos 1 ∷ pos 2 ∷ []) (negsuc 0 ∷ []) [] (pos 5 ∷ []) 0 0 [] (pos 7 ∷ []) [] None) (block Const (pos 7 ∷ []) [] [] [] ((port (negsuc 0) (pos 1) (pos 5)) ∷ []) 0 0 false)
+passes106 : Passes (codes "CONST_m") (fields [] [] (pos 0 ∷ pos 1 ∷ pos 2 ∷ []) (negsuc 0 ∷ []) [] (pos 5 ∷ []) 0 0 [] (pos 7 ∷ []) [] None) (block Const (pos 7 ∷ []) [] [] [] ((port (negsuc 0) (pos 1) (pos 5)) ∷ []) 0 0 [])
 passes106 = refl
 
-passes107 : Passes (codes "GAINBLK") (fields (negsuc 0 ∷ []) [] (pos 5 ∷ []) (negsuc 0 ∷ []) (pos 4 ∷ []) (pos 5 ∷ []) 0 0 [] (pos 0 ∷ pos 3 ∷ []) [] None) (block GainBlk (pos 0 ∷ pos 3 ∷ []) [] [] ((port (negsuc 0) (pos 1) (pos 5)) ∷ []) ((port (negsuc 0) (pos 4) (pos 5)) ∷ []) 0 0 true)
+passes107 : Passes (codes "GAINBLK") (fields (negsuc 0 ∷ []) [] (pos 5 ∷ []) (negsuc 0 ∷ []) (pos 4 ∷ []) (pos 5 ∷ []) 0 0 [] (pos 0 ∷ pos 3 ∷ []) [] None) (block GainBlk (pos 0 ∷ pos 3 ∷ []) [] [] ((port (negsuc 0) (pos 1) (pos 5)) ∷ []) ((port (negsuc 0) (pos 4) (pos 5)) ∷ []) 0 0 (true ∷ []))
 passes107 = refl
 
-passes108 : Passes (codes "IFTHEL_f") (fields (negsuc 0 ∷ []) [] (pos 5 ∷ []) [] [] (pos 0 ∷ []) 0 2 [] [] [] None) (block IfThEl [] [] [] ((port (negsuc 0) (pos 1) (pos 5)) ∷ []) [] 0 2 true)
+passes108 : Passes (codes "IFTHEL_f") (fields (negsuc 0 ∷ []) [] (pos 5 ∷ []) [] [] (pos 0 ∷ []) 0 2 [] [] [] None) (block IfThEl [] [] [] ((port (negsuc 0) (pos 1) (pos 5)) ∷ []) [] 0 2 (true ∷ []))
 passes108 = refl
 
-passes109 : Passes (codes "IFTHEL_f") (fields (negsuc 0 ∷ []) [] (pos 5 ∷ []) [] [] [] 0 2 [] [] [] None) (block IfThEl [] [] [] ((port (negsuc 0) (pos 1) (pos 5)) ∷ []) [] 0 2 true)
+passes109 : Passes (codes "IFTHEL_f") (fields (negsuc 0 ∷ []) [] (pos 5 ∷ []) [] [] [] 0 2 [] [] [] None) (block IfThEl [] [] [] ((port (negsuc 0) (pos 1) (pos 5)) ∷ []) [] 0 2 (true ∷ []))
 passes109 = refl
 
-passes110 : Passes (codes "IFTHEL_f") (fields (negsuc 0 ∷ []) [] (pos 5 ∷ []) [] [] [] 0 2 [] [] (pos 9 ∷ pos 9 ∷ pos 2147483648 ∷ []) None) (block IfThEl [] [] [] ((port (negsuc 0) (pos 1) (pos 5)) ∷ []) [] 0 2 true)
+passes110 : Passes (codes "IFTHEL_f") (fields (negsuc 0 ∷ []) [] (pos 5 ∷ []) [] [] [] 0 2 [] [] (pos 9 ∷ pos 9 ∷ pos 2147483648 ∷ []) None) (block IfThEl [] [] [] ((port (negsuc 0) (pos 1) (pos 5)) ∷ []) [] 0 2 (true ∷ []))
 passes110 = refl
 
-passes111 : Passes (codes "GAINBLK") (fields (negsuc 0 ∷ []) [] (pos 5 ∷ []) (negsuc 0 ∷ []) [] (pos 5 ∷ []) 0 0 [] (pos 0 ∷ pos 3 ∷ []) (pos 2147483648 ∷ []) None) (block GainBlk (pos 0 ∷ pos 3 ∷ []) [] [] ((port (negsuc 0) (pos 1) (pos 5)) ∷ []) ((port (negsuc 0) (pos 1) (pos 5)) ∷ []) 0 0 true)
+passes111 : Passes (codes "GAINBLK") (fields (negsuc 0 ∷ []) [] (pos 5 ∷ []) (negsuc 0 ∷ []) [] (pos 5 ∷ []) 0 0 [] (pos 0 ∷ pos 3 ∷ []) (pos 2147483648 ∷ []) None) (block GainBlk (pos 0 ∷ pos 3 ∷ []) [] [] ((port (negsuc 0) (pos 1) (pos 5)) ∷ []) ((port (negsuc 0) (pos 1) (pos 5)) ∷ []) 0 0 (true ∷ []))
 passes111 = refl
 
-passes112 : Passes (codes "SUMMATION") (fields (negsuc 0 ∷ negsuc 0 ∷ []) [] (pos 3 ∷ pos 3 ∷ []) (negsuc 0 ∷ []) [] (pos 5 ∷ []) 0 0 [] (pos 0 ∷ pos 1 ∷ negsuc 0 ∷ []) [] None) (block Summation (pos 0 ∷ pos 1 ∷ negsuc 0 ∷ []) [] [] ((port (negsuc 0) (pos 1) (pos 3)) ∷ (port (negsuc 0) (pos 1) (pos 3)) ∷ []) ((port (negsuc 0) (pos 1) (pos 5)) ∷ []) 0 0 true)
+passes112 : Passes (codes "SUMMATION") (fields (negsuc 0 ∷ negsuc 0 ∷ []) [] (pos 3 ∷ pos 3 ∷ []) (negsuc 0 ∷ []) [] (pos 5 ∷ []) 0 0 [] (pos 0 ∷ pos 1 ∷ negsuc 0 ∷ []) [] None) (block Summation (pos 0 ∷ pos 1 ∷ negsuc 0 ∷ []) [] [] ((port (negsuc 0) (pos 1) (pos 3)) ∷ (port (negsuc 0) (pos 1) (pos 3)) ∷ []) ((port (negsuc 0) (pos 1) (pos 5)) ∷ []) 0 0 (true ∷ true ∷ []))
 passes112 = refl
 
-passes113 : Passes (codes "SUMMATION") (fields (negsuc 0 ∷ negsuc 0 ∷ []) [] (pos 4 ∷ pos 4 ∷ []) (negsuc 0 ∷ []) [] (pos 5 ∷ []) 0 0 [] (pos 0 ∷ pos 1 ∷ negsuc 0 ∷ []) [] None) (block Summation (pos 0 ∷ pos 1 ∷ negsuc 0 ∷ []) [] [] ((port (negsuc 0) (pos 1) (pos 4)) ∷ (port (negsuc 0) (pos 1) (pos 4)) ∷ []) ((port (negsuc 0) (pos 1) (pos 5)) ∷ []) 0 0 true)
+passes113 : Passes (codes "SUMMATION") (fields (negsuc 0 ∷ negsuc 0 ∷ []) [] (pos 4 ∷ pos 4 ∷ []) (negsuc 0 ∷ []) [] (pos 5 ∷ []) 0 0 [] (pos 0 ∷ pos 1 ∷ negsuc 0 ∷ []) [] None) (block Summation (pos 0 ∷ pos 1 ∷ negsuc 0 ∷ []) [] [] ((port (negsuc 0) (pos 1) (pos 4)) ∷ (port (negsuc 0) (pos 1) (pos 4)) ∷ []) ((port (negsuc 0) (pos 1) (pos 5)) ∷ []) 0 0 (true ∷ true ∷ []))
 passes113 = refl
 
-passes114 : Passes (codes "SUMMATION") (fields (negsuc 0 ∷ negsuc 0 ∷ []) [] (pos 5 ∷ pos 5 ∷ []) (negsuc 0 ∷ []) [] (pos 5 ∷ []) 0 0 [] (pos 0 ∷ pos 1 ∷ negsuc 0 ∷ []) [] None) (block Summation (pos 0 ∷ pos 1 ∷ negsuc 0 ∷ []) [] [] ((port (negsuc 0) (pos 1) (pos 5)) ∷ (port (negsuc 0) (pos 1) (pos 5)) ∷ []) ((port (negsuc 0) (pos 1) (pos 5)) ∷ []) 0 0 true)
+passes114 : Passes (codes "SUMMATION") (fields (negsuc 0 ∷ negsuc 0 ∷ []) [] (pos 5 ∷ pos 5 ∷ []) (negsuc 0 ∷ []) [] (pos 5 ∷ []) 0 0 [] (pos 0 ∷ pos 1 ∷ negsuc 0 ∷ []) [] None) (block Summation (pos 0 ∷ pos 1 ∷ negsuc 0 ∷ []) [] [] ((port (negsuc 0) (pos 1) (pos 5)) ∷ (port (negsuc 0) (pos 1) (pos 5)) ∷ []) ((port (negsuc 0) (pos 1) (pos 5)) ∷ []) 0 0 (true ∷ true ∷ []))
 passes114 = refl
 
-passes115 : Passes (codes "SUMMATION") (fields (negsuc 0 ∷ negsuc 0 ∷ []) [] (pos 6 ∷ pos 6 ∷ []) (negsuc 0 ∷ []) [] (pos 5 ∷ []) 0 0 [] (pos 0 ∷ pos 1 ∷ negsuc 0 ∷ []) [] None) (block Summation (pos 0 ∷ pos 1 ∷ negsuc 0 ∷ []) [] [] ((port (negsuc 0) (pos 1) (pos 6)) ∷ (port (negsuc 0) (pos 1) (pos 6)) ∷ []) ((port (negsuc 0) (pos 1) (pos 5)) ∷ []) 0 0 true)
+passes115 : Passes (codes "SUMMATION") (fields (negsuc 0 ∷ negsuc 0 ∷ []) [] (pos 6 ∷ pos 6 ∷ []) (negsuc 0 ∷ []) [] (pos 5 ∷ []) 0 0 [] (pos 0 ∷ pos 1 ∷ negsuc 0 ∷ []) [] None) (block Summation (pos 0 ∷ pos 1 ∷ negsuc 0 ∷ []) [] [] ((port (negsuc 0) (pos 1) (pos 6)) ∷ (port (negsuc 0) (pos 1) (pos 6)) ∷ []) ((port (negsuc 0) (pos 1) (pos 5)) ∷ []) 0 0 (true ∷ true ∷ []))
 passes115 = refl
 
-passes116 : Passes (codes "SUMMATION") (fields (negsuc 0 ∷ negsuc 0 ∷ []) [] (pos 7 ∷ pos 7 ∷ []) (negsuc 0 ∷ []) [] (pos 5 ∷ []) 0 0 [] (pos 0 ∷ pos 1 ∷ negsuc 0 ∷ []) [] None) (block Summation (pos 0 ∷ pos 1 ∷ negsuc 0 ∷ []) [] [] ((port (negsuc 0) (pos 1) (pos 7)) ∷ (port (negsuc 0) (pos 1) (pos 7)) ∷ []) ((port (negsuc 0) (pos 1) (pos 5)) ∷ []) 0 0 true)
+passes116 : Passes (codes "SUMMATION") (fields (negsuc 0 ∷ negsuc 0 ∷ []) [] (pos 7 ∷ pos 7 ∷ []) (negsuc 0 ∷ []) [] (pos 5 ∷ []) 0 0 [] (pos 0 ∷ pos 1 ∷ negsuc 0 ∷ []) [] None) (block Summation (pos 0 ∷ pos 1 ∷ negsuc 0 ∷ []) [] [] ((port (negsuc 0) (pos 1) (pos 7)) ∷ (port (negsuc 0) (pos 1) (pos 7)) ∷ []) ((port (negsuc 0) (pos 1) (pos 5)) ∷ []) 0 0 (true ∷ true ∷ []))
 passes116 = refl
 
-passes117 : Passes (codes "SUMMATION") (fields (negsuc 0 ∷ negsuc 0 ∷ []) [] (pos 8 ∷ pos 8 ∷ []) (negsuc 0 ∷ []) [] (pos 5 ∷ []) 0 0 [] (pos 0 ∷ pos 1 ∷ negsuc 0 ∷ []) [] None) (block Summation (pos 0 ∷ pos 1 ∷ negsuc 0 ∷ []) [] [] ((port (negsuc 0) (pos 1) (pos 8)) ∷ (port (negsuc 0) (pos 1) (pos 8)) ∷ []) ((port (negsuc 0) (pos 1) (pos 5)) ∷ []) 0 0 true)
+passes117 : Passes (codes "SUMMATION") (fields (negsuc 0 ∷ negsuc 0 ∷ []) [] (pos 8 ∷ pos 8 ∷ []) (negsuc 0 ∷ []) [] (pos 5 ∷ []) 0 0 [] (pos 0 ∷ pos 1 ∷ negsuc 0 ∷ []) [] None) (block Summation (pos 0 ∷ pos 1 ∷ negsuc 0 ∷ []) [] [] ((port (negsuc 0) (pos 1) (pos 8)) ∷ (port (negsuc 0) (pos 1) (pos 8)) ∷ []) ((port (negsuc 0) (pos 1) (pos 5)) ∷ []) 0 0 (true ∷ true ∷ []))
 passes117 = refl
 
-passes118 : Passes (codes "SUMMATION") (fields (negsuc 0 ∷ negsuc 0 ∷ []) [] (negsuc 0 ∷ negsuc 0 ∷ []) (negsuc 0 ∷ []) [] (pos 5 ∷ []) 0 0 [] (pos 0 ∷ pos 1 ∷ negsuc 0 ∷ []) [] None) (block Summation (pos 0 ∷ pos 1 ∷ negsuc 0 ∷ []) [] [] ((port (negsuc 0) (pos 1) (negsuc 0)) ∷ (port (negsuc 0) (pos 1) (negsuc 0)) ∷ []) ((port (negsuc 0) (pos 1) (pos 5)) ∷ []) 0 0 true)
+passes118 : Passes (codes "SUMMATION") (fields (negsuc 0 ∷ negsuc 0 ∷ []) [] (negsuc 0 ∷ negsuc 0 ∷ []) (negsuc 0 ∷ []) [] (pos 5 ∷ []) 0 0 [] (pos 0 ∷ pos 1 ∷ negsuc 0 ∷ []) [] None) (block Summation (pos 0 ∷ pos 1 ∷ negsuc 0 ∷ []) [] [] ((port (negsuc 0) (pos 1) (negsuc 0)) ∷ (port (negsuc 0) (pos 1) (negsuc 0)) ∷ []) ((port (negsuc 0) (pos 1) (pos 5)) ∷ []) 0 0 (true ∷ true ∷ []))
 passes118 = refl
 
-passes119 : Passes (codes "SUMMATION") (fields (negsuc 0 ∷ negsuc 0 ∷ []) [] (negsuc 2147483647 ∷ negsuc 2147483647 ∷ []) (negsuc 0 ∷ []) [] (pos 5 ∷ []) 0 0 [] (pos 0 ∷ pos 1 ∷ negsuc 0 ∷ []) [] None) (block Summation (pos 0 ∷ pos 1 ∷ negsuc 0 ∷ []) [] [] ((port (negsuc 0) (pos 1) (negsuc 2147483647)) ∷ (port (negsuc 0) (pos 1) (negsuc 2147483647)) ∷ []) ((port (negsuc 0) (pos 1) (pos 5)) ∷ []) 0 0 true)
+passes119 : Passes (codes "SUMMATION") (fields (negsuc 0 ∷ negsuc 0 ∷ []) [] (negsuc 2147483647 ∷ negsuc 2147483647 ∷ []) (negsuc 0 ∷ []) [] (pos 5 ∷ []) 0 0 [] (pos 0 ∷ pos 1 ∷ negsuc 0 ∷ []) [] None) (block Summation (pos 0 ∷ pos 1 ∷ negsuc 0 ∷ []) [] [] ((port (negsuc 0) (pos 1) (negsuc 2147483647)) ∷ (port (negsuc 0) (pos 1) (negsuc 2147483647)) ∷ []) ((port (negsuc 0) (pos 1) (pos 5)) ∷ []) 0 0 (true ∷ true ∷ []))
 passes119 = refl
 
-passes120 : Passes (codes "CONST_m") (fields [] [] [] (negsuc 0 ∷ []) [] (pos 5 ∷ []) 0 0 [] (pos 7 ∷ []) [] (Some (true, false))) (block Const (pos 7 ∷ []) [] [] [] ((port (negsuc 0) (pos 1) (pos 5)) ∷ []) 0 0 true)
+passes120 : Passes (codes "CONST_m") (fields [] [] [] (negsuc 0 ∷ []) [] (pos 5 ∷ []) 0 0 [] (pos 7 ∷ []) [] (all true false)) (block Const (pos 7 ∷ []) [] [] [] ((port (negsuc 0) (pos 1) (pos 5)) ∷ []) 0 0 [])
 passes120 = refl
 
-passes121 : Passes (codes "CONST_m") (fields [] [] [] (negsuc 0 ∷ []) [] (pos 5 ∷ []) 0 0 [] (pos 7 ∷ []) [] (Some (false, false))) (block Const (pos 7 ∷ []) [] [] [] ((port (negsuc 0) (pos 1) (pos 5)) ∷ []) 0 0 false)
+passes121 : Passes (codes "CONST_m") (fields [] [] [] (negsuc 0 ∷ []) [] (pos 5 ∷ []) 0 0 [] (pos 7 ∷ []) [] (all false false)) (block Const (pos 7 ∷ []) [] [] [] ((port (negsuc 0) (pos 1) (pos 5)) ∷ []) 0 0 [])
 passes121 = refl
 
-passes122 : Passes (codes "SUMMATION") (fields (negsuc 0 ∷ negsuc 0 ∷ []) [] (pos 5 ∷ pos 5 ∷ []) (negsuc 0 ∷ []) [] (pos 5 ∷ []) 0 0 [] (pos 0 ∷ pos 1 ∷ negsuc 0 ∷ []) [] (Some (true, false))) (block Summation (pos 0 ∷ pos 1 ∷ negsuc 0 ∷ []) [] [] ((port (negsuc 0) (pos 1) (pos 5)) ∷ (port (negsuc 0) (pos 1) (pos 5)) ∷ []) ((port (negsuc 0) (pos 1) (pos 5)) ∷ []) 0 0 true)
+passes122 : Passes (codes "SUMMATION") (fields (negsuc 0 ∷ negsuc 0 ∷ []) [] (pos 5 ∷ pos 5 ∷ []) (negsuc 0 ∷ []) [] (pos 5 ∷ []) 0 0 [] (pos 0 ∷ pos 1 ∷ negsuc 0 ∷ []) [] (all true false)) (block Summation (pos 0 ∷ pos 1 ∷ negsuc 0 ∷ []) [] [] ((port (negsuc 0) (pos 1) (pos 5)) ∷ (port (negsuc 0) (pos 1) (pos 5)) ∷ []) ((port (negsuc 0) (pos 1) (pos 5)) ∷ []) 0 0 (true ∷ true ∷ []))
 passes122 = refl
 
-passes123 : Passes (codes "GAINBLK") (fields (negsuc 0 ∷ []) [] (pos 5 ∷ []) (negsuc 0 ∷ []) [] (pos 5 ∷ []) 0 0 [] (pos 0 ∷ pos 3 ∷ []) [] (Some (true, false))) (block GainBlk (pos 0 ∷ pos 3 ∷ []) [] [] ((port (negsuc 0) (pos 1) (pos 5)) ∷ []) ((port (negsuc 0) (pos 1) (pos 5)) ∷ []) 0 0 true)
+passes123 : Passes (codes "GAINBLK") (fields (negsuc 0 ∷ []) [] (pos 5 ∷ []) (negsuc 0 ∷ []) [] (pos 5 ∷ []) 0 0 [] (pos 0 ∷ pos 3 ∷ []) [] (all true false)) (block GainBlk (pos 0 ∷ pos 3 ∷ []) [] [] ((port (negsuc 0) (pos 1) (pos 5)) ∷ []) ((port (negsuc 0) (pos 1) (pos 5)) ∷ []) 0 0 (true ∷ []))
 passes123 = refl
 
-passes124 : Passes (codes "PRODUCT") (fields (negsuc 0 ∷ negsuc 0 ∷ []) [] (pos 5 ∷ pos 5 ∷ []) (negsuc 0 ∷ []) [] (pos 5 ∷ []) 0 0 [] (pos 0 ∷ pos 1 ∷ []) [] (Some (true, false))) (block Product (pos 0 ∷ pos 1 ∷ []) [] [] ((port (negsuc 0) (pos 1) (pos 5)) ∷ (port (negsuc 0) (pos 1) (pos 5)) ∷ []) ((port (negsuc 0) (pos 1) (pos 5)) ∷ []) 0 0 true)
+passes124 : Passes (codes "PRODUCT") (fields (negsuc 0 ∷ negsuc 0 ∷ []) [] (pos 5 ∷ pos 5 ∷ []) (negsuc 0 ∷ []) [] (pos 5 ∷ []) 0 0 [] (pos 0 ∷ pos 1 ∷ []) [] (all true false)) (block Product (pos 0 ∷ pos 1 ∷ []) [] [] ((port (negsuc 0) (pos 1) (pos 5)) ∷ (port (negsuc 0) (pos 1) (pos 5)) ∷ []) ((port (negsuc 0) (pos 1) (pos 5)) ∷ []) 0 0 (true ∷ true ∷ []))
 passes124 = refl
 
-passes125 : Passes (codes "ABS_VALUE") (fields (negsuc 0 ∷ []) [] (pos 5 ∷ []) (negsuc 0 ∷ []) [] (pos 5 ∷ []) 0 0 [] (pos 0 ∷ []) [] (Some (true, false))) (block AbsValue (pos 0 ∷ []) [] [] ((port (negsuc 0) (pos 1) (pos 5)) ∷ []) ((port (negsuc 0) (pos 1) (pos 5)) ∷ []) 0 0 true)
+passes125 : Passes (codes "ABS_VALUE") (fields (negsuc 0 ∷ []) [] (pos 5 ∷ []) (negsuc 0 ∷ []) [] (pos 5 ∷ []) 0 0 [] (pos 0 ∷ []) [] (all true false)) (block AbsValue (pos 0 ∷ []) [] [] ((port (negsuc 0) (pos 1) (pos 5)) ∷ []) ((port (negsuc 0) (pos 1) (pos 5)) ∷ []) 0 0 (true ∷ []))
 passes125 = refl
 
-passes126 : Passes (codes "SIGNUM") (fields (negsuc 0 ∷ []) [] (pos 5 ∷ []) (negsuc 0 ∷ []) [] (pos 5 ∷ []) 0 0 [] [] [] (Some (true, false))) (block Signum [] [] [] ((port (negsuc 0) (pos 1) (pos 5)) ∷ []) ((port (negsuc 0) (pos 1) (pos 5)) ∷ []) 0 0 true)
+passes126 : Passes (codes "SIGNUM") (fields (negsuc 0 ∷ []) [] (pos 5 ∷ []) (negsuc 0 ∷ []) [] (pos 5 ∷ []) 0 0 [] [] [] (all true false)) (block Signum [] [] [] ((port (negsuc 0) (pos 1) (pos 5)) ∷ []) ((port (negsuc 0) (pos 1) (pos 5)) ∷ []) 0 0 (true ∷ []))
 passes126 = refl
 
-passes127 : Passes (codes "MAXMIN") (fields (negsuc 0 ∷ negsuc 0 ∷ []) [] (pos 5 ∷ pos 5 ∷ []) (negsuc 0 ∷ []) [] (pos 5 ∷ []) 0 0 [] (pos 1 ∷ []) [] (Some (true, false))) (block MaxMin (pos 1 ∷ []) [] [] ((port (negsuc 0) (pos 1) (pos 5)) ∷ (port (negsuc 0) (pos 1) (pos 5)) ∷ []) ((port (negsuc 0) (pos 1) (pos 5)) ∷ []) 0 0 true)
+passes127 : Passes (codes "MAXMIN") (fields (negsuc 0 ∷ negsuc 0 ∷ []) [] (pos 5 ∷ pos 5 ∷ []) (negsuc 0 ∷ []) [] (pos 5 ∷ []) 0 0 [] (pos 1 ∷ []) [] (all true false)) (block MaxMin (pos 1 ∷ []) [] [] ((port (negsuc 0) (pos 1) (pos 5)) ∷ (port (negsuc 0) (pos 1) (pos 5)) ∷ []) ((port (negsuc 0) (pos 1) (pos 5)) ∷ []) 0 0 (true ∷ true ∷ []))
 passes127 = refl
 
-passes128 : Passes (codes "SATURATION") (fields (negsuc 0 ∷ []) [] (pos 5 ∷ []) (negsuc 0 ∷ []) [] (pos 5 ∷ []) 0 0 [] (negsuc 4 ∷ pos 5 ∷ []) [] (Some (true, false))) (block Saturation (negsuc 4 ∷ pos 5 ∷ []) [] [] ((port (negsuc 0) (pos 1) (pos 5)) ∷ []) ((port (negsuc 0) (pos 1) (pos 5)) ∷ []) 0 0 true)
+passes128 : Passes (codes "SATURATION") (fields (negsuc 0 ∷ []) [] (pos 5 ∷ []) (negsuc 0 ∷ []) [] (pos 5 ∷ []) 0 0 [] (negsuc 4 ∷ pos 5 ∷ []) [] (all true false)) (block Saturation (negsuc 4 ∷ pos 5 ∷ []) [] [] ((port (negsuc 0) (pos 1) (pos 5)) ∷ []) ((port (negsuc 0) (pos 1) (pos 5)) ∷ []) 0 0 (true ∷ []))
 passes128 = refl
 
-passes129 : Passes (codes "DEADBAND") (fields (negsuc 0 ∷ []) [] (pos 5 ∷ []) (negsuc 0 ∷ []) [] (pos 5 ∷ []) 0 0 [] (pos 0 ∷ negsuc 4 ∷ pos 5 ∷ []) [] (Some (true, false))) (block DeadBand (pos 0 ∷ negsuc 4 ∷ pos 5 ∷ []) [] [] ((port (negsuc 0) (pos 1) (pos 5)) ∷ []) ((port (negsuc 0) (pos 1) (pos 5)) ∷ []) 0 0 true)
+passes129 : Passes (codes "DEADBAND") (fields (negsuc 0 ∷ []) [] (pos 5 ∷ []) (negsuc 0 ∷ []) [] (pos 5 ∷ []) 0 0 [] (pos 0 ∷ negsuc 4 ∷ pos 5 ∷ []) [] (all true false)) (block DeadBand (pos 0 ∷ negsuc 4 ∷ pos 5 ∷ []) [] [] ((port (negsuc 0) (pos 1) (pos 5)) ∷ []) ((port (negsuc 0) (pos 1) (pos 5)) ∷ []) 0 0 (true ∷ []))
 passes129 = refl
 
-passes130 : Passes (codes "CONVERT") (fields (negsuc 0 ∷ []) [] (pos 5 ∷ []) (negsuc 0 ∷ []) [] (pos 5 ∷ []) 0 0 [] (pos 0 ∷ []) [] (Some (true, false))) (block Convert (pos 0 ∷ []) [] [] ((port (negsuc 0) (pos 1) (pos 5)) ∷ []) ((port (negsuc 0) (pos 1) (pos 5)) ∷ []) 0 0 true)
+passes130 : Passes (codes "CONVERT") (fields (negsuc 0 ∷ []) [] (pos 5 ∷ []) (negsuc 0 ∷ []) [] (pos 5 ∷ []) 0 0 [] (pos 0 ∷ []) [] (all true false)) (block Convert (pos 0 ∷ []) [] [] ((port (negsuc 0) (pos 1) (pos 5)) ∷ []) ((port (negsuc 0) (pos 1) (pos 5)) ∷ []) 0 0 (true ∷ []))
 passes130 = refl
 
-passes131 : Passes (codes "MUX") (fields (negsuc 0 ∷ negsuc 0 ∷ []) [] (pos 5 ∷ pos 5 ∷ []) (negsuc 0 ∷ []) [] (pos 5 ∷ []) 0 0 [] [] [] (Some (true, false))) (block Mux [] [] [] ((port (negsuc 0) (pos 1) (pos 5)) ∷ (port (negsuc 0) (pos 1) (pos 5)) ∷ []) ((port (negsuc 0) (pos 1) (pos 5)) ∷ []) 0 0 true)
+passes131 : Passes (codes "MUX") (fields (negsuc 0 ∷ negsuc 0 ∷ []) [] (pos 5 ∷ pos 5 ∷ []) (negsuc 0 ∷ []) [] (pos 5 ∷ []) 0 0 [] [] [] (all true false)) (block Mux [] [] [] ((port (negsuc 0) (pos 1) (pos 5)) ∷ (port (negsuc 0) (pos 1) (pos 5)) ∷ []) ((port (negsuc 0) (pos 1) (pos 5)) ∷ []) 0 0 (true ∷ true ∷ []))
 passes131 = refl
 
-passes132 : Passes (codes "DEMUX") (fields (negsuc 0 ∷ []) [] (pos 5 ∷ []) (negsuc 0 ∷ negsuc 0 ∷ []) [] (pos 5 ∷ pos 5 ∷ []) 0 0 [] [] [] (Some (true, false))) (block Demux [] [] [] ((port (negsuc 0) (pos 1) (pos 5)) ∷ []) ((port (negsuc 0) (pos 1) (pos 5)) ∷ (port (negsuc 0) (pos 1) (pos 5)) ∷ []) 0 0 true)
+passes132 : Passes (codes "DEMUX") (fields (negsuc 0 ∷ []) [] (pos 5 ∷ []) (negsuc 0 ∷ negsuc 0 ∷ []) [] (pos 5 ∷ pos 5 ∷ []) 0 0 [] [] [] (all true false)) (block Demux [] [] [] ((port (negsuc 0) (pos 1) (pos 5)) ∷ []) ((port (negsuc 0) (pos 1) (pos 5)) ∷ (port (negsuc 0) (pos 1) (pos 5)) ∷ []) 0 0 (true ∷ []))
 passes132 = refl
 
-passes133 : Passes (codes "EXTRACTOR") (fields (negsuc 0 ∷ []) [] (pos 5 ∷ []) (negsuc 0 ∷ []) [] (pos 5 ∷ []) 0 0 [] (pos 2 ∷ pos 1 ∷ []) [] (Some (true, false))) (block Extractor (pos 2 ∷ pos 1 ∷ []) [] [] ((port (negsuc 0) (pos 1) (pos 5)) ∷ []) ((port (negsuc 0) (pos 1) (pos 5)) ∷ []) 0 0 true)
+passes133 : Passes (codes "EXTRACTOR") (fields (negsuc 0 ∷ []) [] (pos 5 ∷ []) (negsuc 0 ∷ []) [] (pos 5 ∷ []) 0 0 [] (pos 2 ∷ pos 1 ∷ []) [] (all true false)) (block Extractor (pos 2 ∷ pos 1 ∷ []) [] [] ((port (negsuc 0) (pos 1) (pos 5)) ∷ []) ((port (negsuc 0) (pos 1) (pos 5)) ∷ []) 0 0 (true ∷ []))
 passes133 = refl
 
-passes134 : Passes (codes "LOGICAL_OP") (fields (negsuc 0 ∷ negsuc 0 ∷ []) [] (pos 5 ∷ pos 5 ∷ []) (negsuc 0 ∷ []) [] (pos 5 ∷ []) 0 0 [] (pos 0 ∷ pos 0 ∷ []) [] (Some (true, false))) (block LogicalOp (pos 0 ∷ pos 0 ∷ []) [] [] ((port (negsuc 0) (pos 1) (pos 5)) ∷ (port (negsuc 0) (pos 1) (pos 5)) ∷ []) ((port (negsuc 0) (pos 1) (pos 5)) ∷ []) 0 0 true)
+passes134 : Passes (codes "LOGICAL_OP") (fields (negsuc 0 ∷ negsuc 0 ∷ []) [] (pos 5 ∷ pos 5 ∷ []) (negsuc 0 ∷ []) [] (pos 5 ∷ []) 0 0 [] (pos 0 ∷ pos 0 ∷ []) [] (all true false)) (block LogicalOp (pos 0 ∷ pos 0 ∷ []) [] [] ((port (negsuc 0) (pos 1) (pos 5)) ∷ (port (negsuc 0) (pos 1) (pos 5)) ∷ []) ((port (negsuc 0) (pos 1) (pos 5)) ∷ []) 0 0 (true ∷ true ∷ []))
 passes134 = refl
 
-passes135 : Passes (codes "RELATIONALOP") (fields (negsuc 0 ∷ negsuc 0 ∷ []) [] (pos 5 ∷ pos 5 ∷ []) (negsuc 0 ∷ []) [] (pos 5 ∷ []) 0 0 [] (pos 0 ∷ []) [] (Some (true, false))) (block RelationalOp (pos 0 ∷ []) [] [] ((port (negsuc 0) (pos 1) (pos 5)) ∷ (port (negsuc 0) (pos 1) (pos 5)) ∷ []) ((port (negsuc 0) (pos 1) (pos 5)) ∷ []) 0 0 true)
+passes135 : Passes (codes "RELATIONALOP") (fields (negsuc 0 ∷ negsuc 0 ∷ []) [] (pos 5 ∷ pos 5 ∷ []) (negsuc 0 ∷ []) [] (pos 5 ∷ []) 0 0 [] (pos 0 ∷ []) [] (all true false)) (block RelationalOp (pos 0 ∷ []) [] [] ((port (negsuc 0) (pos 1) (pos 5)) ∷ (port (negsuc 0) (pos 1) (pos 5)) ∷ []) ((port (negsuc 0) (pos 1) (pos 5)) ∷ []) 0 0 (true ∷ true ∷ []))
 passes135 = refl
 
-passes136 : Passes (codes "SHIFT") (fields (negsuc 0 ∷ []) [] (pos 5 ∷ []) (negsuc 0 ∷ []) [] (pos 5 ∷ []) 0 0 [] (pos 3 ∷ pos 0 ∷ []) [] (Some (true, false))) (block Shift (pos 3 ∷ pos 0 ∷ []) [] [] ((port (negsuc 0) (pos 1) (pos 5)) ∷ []) ((port (negsuc 0) (pos 1) (pos 5)) ∷ []) 0 0 true)
+passes136 : Passes (codes "SHIFT") (fields (negsuc 0 ∷ []) [] (pos 5 ∷ []) (negsuc 0 ∷ []) [] (pos 5 ∷ []) 0 0 [] (pos 3 ∷ pos 0 ∷ []) [] (all true false)) (block Shift (pos 3 ∷ pos 0 ∷ []) [] [] ((port (negsuc 0) (pos 1) (pos 5)) ∷ []) ((port (negsuc 0) (pos 1) (pos 5)) ∷ []) 0 0 (true ∷ []))
 passes136 = refl
 
-passes137 : Passes (codes "BITSET") (fields (negsuc 0 ∷ []) [] (pos 5 ∷ []) (negsuc 0 ∷ []) [] (pos 5 ∷ []) 0 0 [] (pos 3 ∷ []) [] (Some (true, false))) (block BitSet (pos 3 ∷ []) [] [] ((port (negsuc 0) (pos 1) (pos 5)) ∷ []) ((port (negsuc 0) (pos 1) (pos 5)) ∷ []) 0 0 true)
+passes137 : Passes (codes "BITSET") (fields (negsuc 0 ∷ []) [] (pos 5 ∷ []) (negsuc 0 ∷ []) [] (pos 5 ∷ []) 0 0 [] (pos 3 ∷ []) [] (all true false)) (block BitSet (pos 3 ∷ []) [] [] ((port (negsuc 0) (pos 1) (pos 5)) ∷ []) ((port (negsuc 0) (pos 1) (pos 5)) ∷ []) 0 0 (true ∷ []))
 passes137 = refl
 
-passes138 : Passes (codes "BITCLEAR") (fields (negsuc 0 ∷ []) [] (pos 5 ∷ []) (negsuc 0 ∷ []) [] (pos 5 ∷ []) 0 0 [] (pos 3 ∷ []) [] (Some (true, false))) (block BitClear (pos 3 ∷ []) [] [] ((port (negsuc 0) (pos 1) (pos 5)) ∷ []) ((port (negsuc 0) (pos 1) (pos 5)) ∷ []) 0 0 true)
+passes138 : Passes (codes "BITCLEAR") (fields (negsuc 0 ∷ []) [] (pos 5 ∷ []) (negsuc 0 ∷ []) [] (pos 5 ∷ []) 0 0 [] (pos 3 ∷ []) [] (all true false)) (block BitClear (pos 3 ∷ []) [] [] ((port (negsuc 0) (pos 1) (pos 5)) ∷ []) ((port (negsuc 0) (pos 1) (pos 5)) ∷ []) 0 0 (true ∷ []))
 passes138 = refl
 
-passes139 : Passes (codes "EXTRACTBITS") (fields (negsuc 0 ∷ []) [] (pos 5 ∷ []) (negsuc 0 ∷ []) [] (pos 5 ∷ []) 0 0 [] (pos 1 ∷ pos 3 ∷ []) [] (Some (true, false))) (block ExtractBits (pos 1 ∷ pos 3 ∷ []) [] [] ((port (negsuc 0) (pos 1) (pos 5)) ∷ []) ((port (negsuc 0) (pos 1) (pos 5)) ∷ []) 0 0 true)
+passes139 : Passes (codes "EXTRACTBITS") (fields (negsuc 0 ∷ []) [] (pos 5 ∷ []) (negsuc 0 ∷ []) [] (pos 5 ∷ []) 0 0 [] (pos 1 ∷ pos 3 ∷ []) [] (all true false)) (block ExtractBits (pos 1 ∷ pos 3 ∷ []) [] [] ((port (negsuc 0) (pos 1) (pos 5)) ∷ []) ((port (negsuc 0) (pos 1) (pos 5)) ∷ []) 0 0 (true ∷ []))
 passes139 = refl
 
-passes140 : Passes (codes "SWITCH2_m") (fields (negsuc 0 ∷ negsuc 0 ∷ negsuc 0 ∷ []) [] (pos 5 ∷ pos 5 ∷ pos 5 ∷ []) (negsuc 0 ∷ []) [] (pos 5 ∷ []) 0 0 [] (pos 0 ∷ pos 0 ∷ []) [] (Some (true, false))) (block Switch2 (pos 0 ∷ pos 0 ∷ []) [] [] ((port (negsuc 0) (pos 1) (pos 5)) ∷ (port (negsuc 0) (pos 1) (pos 5)) ∷ (port (negsuc 0) (pos 1) (pos 5)) ∷ []) ((port (negsuc 0) (pos 1) (pos 5)) ∷ []) 0 0 true)
+passes140 : Passes (codes "SWITCH2_m") (fields (negsuc 0 ∷ negsuc 0 ∷ negsuc 0 ∷ []) [] (pos 5 ∷ pos 5 ∷ pos 5 ∷ []) (negsuc 0 ∷ []) [] (pos 5 ∷ []) 0 0 [] (pos 0 ∷ pos 0 ∷ []) [] (all true false)) (block Switch2 (pos 0 ∷ pos 0 ∷ []) [] [] ((port (negsuc 0) (pos 1) (pos 5)) ∷ (port (negsuc 0) (pos 1) (pos 5)) ∷ (port (negsuc 0) (pos 1) (pos 5)) ∷ []) ((port (negsuc 0) (pos 1) (pos 5)) ∷ []) 0 0 (true ∷ true ∷ true ∷ []))
 passes140 = refl
 
-passes141 : Passes (codes "SELECT_m") (fields (negsuc 0 ∷ negsuc 0 ∷ negsuc 0 ∷ []) [] (pos 5 ∷ pos 5 ∷ pos 5 ∷ []) (negsuc 0 ∷ []) [] (pos 5 ∷ []) 3 0 [] [] [] (Some (true, false))) (block Select [] [] [] ((port (negsuc 0) (pos 1) (pos 5)) ∷ (port (negsuc 0) (pos 1) (pos 5)) ∷ (port (negsuc 0) (pos 1) (pos 5)) ∷ []) ((port (negsuc 0) (pos 1) (pos 5)) ∷ []) 3 0 true)
+passes141 : Passes (codes "SELECT_m") (fields (negsuc 0 ∷ negsuc 0 ∷ negsuc 0 ∷ []) [] (pos 5 ∷ pos 5 ∷ pos 5 ∷ []) (negsuc 0 ∷ []) [] (pos 5 ∷ []) 3 0 [] [] [] (all true false)) (block Select [] [] [] ((port (negsuc 0) (pos 1) (pos 5)) ∷ (port (negsuc 0) (pos 1) (pos 5)) ∷ (port (negsuc 0) (pos 1) (pos 5)) ∷ []) ((port (negsuc 0) (pos 1) (pos 5)) ∷ []) 3 0 (true ∷ true ∷ true ∷ []))
 passes141 = refl
 
-passes142 : Passes (codes "LOGIC") (fields (negsuc 0 ∷ negsuc 0 ∷ []) [] (pos 5 ∷ pos 5 ∷ []) (negsuc 0 ∷ []) [] (pos 5 ∷ []) 0 0 [] (pos 0 ∷ pos 0 ∷ pos 0 ∷ pos 1 ∷ []) [] (Some (true, false))) (block Logic (pos 0 ∷ pos 0 ∷ pos 0 ∷ pos 1 ∷ []) [] [] ((port (negsuc 0) (pos 1) (pos 5)) ∷ (port (negsuc 0) (pos 1) (pos 5)) ∷ []) ((port (negsuc 0) (pos 1) (pos 5)) ∷ []) 0 0 true)
+passes142 : Passes (codes "LOGIC") (fields (negsuc 0 ∷ negsuc 0 ∷ []) [] (pos 5 ∷ pos 5 ∷ []) (negsuc 0 ∷ []) [] (pos 5 ∷ []) 0 0 [] (pos 0 ∷ pos 0 ∷ pos 0 ∷ pos 1 ∷ []) [] (all true false)) (block Logic (pos 0 ∷ pos 0 ∷ pos 0 ∷ pos 1 ∷ []) [] [] ((port (negsuc 0) (pos 1) (pos 5)) ∷ (port (negsuc 0) (pos 1) (pos 5)) ∷ []) ((port (negsuc 0) (pos 1) (pos 5)) ∷ []) 0 0 (true ∷ true ∷ []))
 passes142 = refl
 
-passes143 : Passes (codes "ANDLOG_f") (fields [] [] [] (negsuc 0 ∷ []) [] (pos 5 ∷ []) 2 0 [] [] [] (Some (true, false))) (block AndLog [] [] [] [] ((port (negsuc 0) (pos 1) (pos 5)) ∷ []) 2 0 true)
+passes143 : Passes (codes "ANDLOG_f") (fields [] [] [] (negsuc 0 ∷ []) [] (pos 5 ∷ []) 2 0 [] [] [] (all true false)) (block AndLog [] [] [] [] ((port (negsuc 0) (pos 1) (pos 5)) ∷ []) 2 0 [])
 passes143 = refl
 
-passes144 : Passes (codes "ANDLOG_f") (fields [] [] [] (negsuc 0 ∷ []) [] (pos 5 ∷ []) 2 0 [] [] [] (Some (false, false))) (block AndLog [] [] [] [] ((port (negsuc 0) (pos 1) (pos 5)) ∷ []) 2 0 false)
+passes144 : Passes (codes "ANDLOG_f") (fields [] [] [] (negsuc 0 ∷ []) [] (pos 5 ∷ []) 2 0 [] [] [] (all false false)) (block AndLog [] [] [] [] ((port (negsuc 0) (pos 1) (pos 5)) ∷ []) 2 0 [])
 passes144 = refl
 
-passes145 : Passes (codes "DOLLAR_m") (fields (negsuc 0 ∷ []) [] (pos 5 ∷ []) (negsuc 0 ∷ []) [] (pos 5 ∷ []) 1 0 (pos 0 ∷ []) [] [] (Some (true, false))) (block Dollar [] (pos 0 ∷ []) [] ((port (negsuc 0) (pos 1) (pos 5)) ∷ []) ((port (negsuc 0) (pos 1) (pos 5)) ∷ []) 1 0 true)
+passes145 : Passes (codes "DOLLAR_m") (fields (negsuc 0 ∷ []) [] (pos 5 ∷ []) (negsuc 0 ∷ []) [] (pos 5 ∷ []) 1 0 (pos 0 ∷ []) [] [] (all true false)) (block Dollar [] (pos 0 ∷ []) [] ((port (negsuc 0) (pos 1) (pos 5)) ∷ []) ((port (negsuc 0) (pos 1) (pos 5)) ∷ []) 1 0 (true ∷ []))
 passes145 = refl
 
-passes146 : Passes (codes "DOLLAR_m") (fields (negsuc 0 ∷ []) [] (pos 5 ∷ []) (negsuc 0 ∷ []) [] (pos 5 ∷ []) 1 0 (pos 0 ∷ []) [] [] (Some (false, false))) (block Dollar [] (pos 0 ∷ []) [] ((port (negsuc 0) (pos 1) (pos 5)) ∷ []) ((port (negsuc 0) (pos 1) (pos 5)) ∷ []) 1 0 false)
+passes146 : Passes (codes "DOLLAR_m") (fields (negsuc 0 ∷ []) [] (pos 5 ∷ []) (negsuc 0 ∷ []) [] (pos 5 ∷ []) 1 0 (pos 0 ∷ []) [] [] (all false false)) (block Dollar [] (pos 0 ∷ []) [] ((port (negsuc 0) (pos 1) (pos 5)) ∷ []) ((port (negsuc 0) (pos 1) (pos 5)) ∷ []) 1 0 (false ∷ []))
 passes146 = refl
 
-passes147 : Passes (codes "SAMPHOLD_m") (fields (negsuc 0 ∷ []) [] (pos 5 ∷ []) (negsuc 0 ∷ []) [] (pos 5 ∷ []) 1 0 [] [] [] (Some (true, false))) (block SampHold [] [] [] ((port (negsuc 0) (pos 1) (pos 5)) ∷ []) ((port (negsuc 0) (pos 1) (pos 5)) ∷ []) 1 0 true)
+passes147 : Passes (codes "SAMPHOLD_m") (fields (negsuc 0 ∷ []) [] (pos 5 ∷ []) (negsuc 0 ∷ []) [] (pos 5 ∷ []) 1 0 [] [] [] (all true false)) (block SampHold [] [] [] ((port (negsuc 0) (pos 1) (pos 5)) ∷ []) ((port (negsuc 0) (pos 1) (pos 5)) ∷ []) 1 0 (true ∷ []))
 passes147 = refl
 
-passes148 : Passes (codes "REGISTER") (fields (negsuc 0 ∷ []) [] (pos 5 ∷ []) (negsuc 0 ∷ []) [] (pos 5 ∷ []) 1 0 (pos 0 ∷ pos 0 ∷ []) [] [] (Some (true, false))) (block Register [] (pos 0 ∷ pos 0 ∷ []) [] ((port (negsuc 0) (pos 1) (pos 5)) ∷ []) ((port (negsuc 0) (pos 1) (pos 5)) ∷ []) 1 0 true)
+passes148 : Passes (codes "REGISTER") (fields (negsuc 0 ∷ []) [] (pos 5 ∷ []) (negsuc 0 ∷ []) [] (pos 5 ∷ []) 1 0 (pos 0 ∷ pos 0 ∷ []) [] [] (all true false)) (block Register [] (pos 0 ∷ pos 0 ∷ []) [] ((port (negsuc 0) (pos 1) (pos 5)) ∷ []) ((port (negsuc 0) (pos 1) (pos 5)) ∷ []) 1 0 (true ∷ []))
 passes148 = refl
 
-passes149 : Passes (codes "REGISTER") (fields (negsuc 0 ∷ []) [] (pos 5 ∷ []) (negsuc 0 ∷ []) [] (pos 5 ∷ []) 1 0 (pos 0 ∷ pos 0 ∷ []) [] [] (Some (false, false))) (block Register [] (pos 0 ∷ pos 0 ∷ []) [] ((port (negsuc 0) (pos 1) (pos 5)) ∷ []) ((port (negsuc 0) (pos 1) (pos 5)) ∷ []) 1 0 false)
+passes149 : Passes (codes "REGISTER") (fields (negsuc 0 ∷ []) [] (pos 5 ∷ []) (negsuc 0 ∷ []) [] (pos 5 ∷ []) 1 0 (pos 0 ∷ pos 0 ∷ []) [] [] (all false false)) (block Register [] (pos 0 ∷ pos 0 ∷ []) [] ((port (negsuc 0) (pos 1) (pos 5)) ∷ []) ((port (negsuc 0) (pos 1) (pos 5)) ∷ []) 1 0 (false ∷ []))
 passes149 = refl
 
-passes150 : Passes (codes "Modulo_Count") (fields [] [] [] (negsuc 0 ∷ []) [] (pos 5 ∷ []) 1 0 (pos 0 ∷ []) (pos 10 ∷ []) [] (Some (true, false))) (block ModuloCount (pos 10 ∷ []) (pos 0 ∷ []) [] [] ((port (negsuc 0) (pos 1) (pos 5)) ∷ []) 1 0 true)
+passes150 : Passes (codes "Modulo_Count") (fields [] [] [] (negsuc 0 ∷ []) [] (pos 5 ∷ []) 1 0 (pos 0 ∷ []) (pos 10 ∷ []) [] (all true false)) (block ModuloCount (pos 10 ∷ []) (pos 0 ∷ []) [] [] ((port (negsuc 0) (pos 1) (pos 5)) ∷ []) 1 0 [])
 passes150 = refl
 
-passes151 : Passes (codes "Modulo_Count") (fields [] [] [] (negsuc 0 ∷ []) [] (pos 5 ∷ []) 1 0 (pos 0 ∷ []) (pos 10 ∷ []) [] (Some (false, false))) (block ModuloCount (pos 10 ∷ []) (pos 0 ∷ []) [] [] ((port (negsuc 0) (pos 1) (pos 5)) ∷ []) 1 0 false)
+passes151 : Passes (codes "Modulo_Count") (fields [] [] [] (negsuc 0 ∷ []) [] (pos 5 ∷ []) 1 0 (pos 0 ∷ []) (pos 10 ∷ []) [] (all false false)) (block ModuloCount (pos 10 ∷ []) (pos 0 ∷ []) [] [] ((port (negsuc 0) (pos 1) (pos 5)) ∷ []) 1 0 [])
 passes151 = refl
 
-passes152 : Passes (codes "GATED_DELAY") (fields (negsuc 0 ∷ negsuc 0 ∷ []) [] (pos 5 ∷ pos 5 ∷ []) (negsuc 0 ∷ []) [] (pos 5 ∷ []) 1 0 (pos 0 ∷ []) [] [] (Some (true, false))) (block GatedDelay [] (pos 0 ∷ []) [] ((port (negsuc 0) (pos 1) (pos 5)) ∷ (port (negsuc 0) (pos 1) (pos 5)) ∷ []) ((port (negsuc 0) (pos 1) (pos 5)) ∷ []) 1 0 true)
+passes152 : Passes (codes "GATED_DELAY") (fields (negsuc 0 ∷ negsuc 0 ∷ []) [] (pos 5 ∷ pos 5 ∷ []) (negsuc 0 ∷ []) [] (pos 5 ∷ []) 1 0 (pos 0 ∷ []) [] [] (all true false)) (block GatedDelay [] (pos 0 ∷ []) [] ((port (negsuc 0) (pos 1) (pos 5)) ∷ (port (negsuc 0) (pos 1) (pos 5)) ∷ []) ((port (negsuc 0) (pos 1) (pos 5)) ∷ []) 1 0 (true ∷ true ∷ []))
 passes152 = refl
 
-passes153 : Passes (codes "SENSOR") (fields [] [] [] (negsuc 0 ∷ []) [] (pos 5 ∷ []) 1 0 [] (pos 1 ∷ []) [] (Some (true, false))) (block Sensor (pos 1 ∷ []) [] [] [] ((port (negsuc 0) (pos 1) (pos 5)) ∷ []) 1 0 true)
+passes153 : Passes (codes "SENSOR") (fields [] [] [] (negsuc 0 ∷ []) [] (pos 5 ∷ []) 1 0 [] (pos 1 ∷ []) [] (all true false)) (block Sensor (pos 1 ∷ []) [] [] [] ((port (negsuc 0) (pos 1) (pos 5)) ∷ []) 1 0 [])
 passes153 = refl
 
-passes154 : Passes (codes "SENSOR") (fields [] [] [] (negsuc 0 ∷ []) [] (pos 5 ∷ []) 1 0 [] (pos 1 ∷ []) [] (Some (false, false))) (block Sensor (pos 1 ∷ []) [] [] [] ((port (negsuc 0) (pos 1) (pos 5)) ∷ []) 1 0 false)
+passes154 : Passes (codes "SENSOR") (fields [] [] [] (negsuc 0 ∷ []) [] (pos 5 ∷ []) 1 0 [] (pos 1 ∷ []) [] (all false false)) (block Sensor (pos 1 ∷ []) [] [] [] ((port (negsuc 0) (pos 1) (pos 5)) ∷ []) 1 0 [])
 passes154 = refl
 
-passes155 : Passes (codes "EVTDLY_c") (fields [] [] [] [] [] [] 1 1 [] (pos 5 ∷ []) (pos 0 ∷ []) (Some (true, false))) (block EvtDly (pos 5 ∷ []) [] (pos 0 ∷ []) [] [] 1 1 true)
+passes155 : Passes (codes "EVTDLY_c") (fields [] [] [] [] [] [] 1 1 [] (pos 5 ∷ []) (pos 0 ∷ []) (all true false)) (block EvtDly (pos 5 ∷ []) [] (pos 0 ∷ []) [] [] 1 1 [])
 passes155 = refl
 
-passes156 : Passes (codes "EVTDLY_c") (fields [] [] [] [] [] [] 1 1 [] (pos 5 ∷ []) (pos 0 ∷ []) (Some (false, false))) (block EvtDly (pos 5 ∷ []) [] (pos 0 ∷ []) [] [] 1 1 false)
+passes156 : Passes (codes "EVTDLY_c") (fields [] [] [] [] [] [] 1 1 [] (pos 5 ∷ []) (pos 0 ∷ []) (all false false)) (block EvtDly (pos 5 ∷ []) [] (pos 0 ∷ []) [] [] 1 1 [])
 passes156 = refl
 
-passes157 : Passes (codes "EVTVARDLY") (fields (negsuc 0 ∷ []) [] (pos 5 ∷ []) [] [] [] 1 1 [] [] (negsuc 0 ∷ []) (Some (true, false))) (block EvtVarDly [] [] (negsuc 0 ∷ []) ((port (negsuc 0) (pos 1) (pos 5)) ∷ []) [] 1 1 true)
+passes157 : Passes (codes "EVTVARDLY") (fields (negsuc 0 ∷ []) [] (pos 5 ∷ []) [] [] [] 1 1 [] [] (negsuc 0 ∷ []) (all true false)) (block EvtVarDly [] [] (negsuc 0 ∷ []) ((port (negsuc 0) (pos 1) (pos 5)) ∷ []) [] 1 1 (true ∷ []))
 passes157 = refl
 
-passes158 : Passes (codes "EVTVARDLY") (fields (negsuc 0 ∷ []) [] (pos 5 ∷ []) [] [] [] 1 1 [] [] (negsuc 0 ∷ []) (Some (false, false))) (block EvtVarDly [] [] (negsuc 0 ∷ []) ((port (negsuc 0) (pos 1) (pos 5)) ∷ []) [] 1 1 false)
+passes158 : Passes (codes "EVTVARDLY") (fields (negsuc 0 ∷ []) [] (pos 5 ∷ []) [] [] [] 1 1 [] [] (negsuc 0 ∷ []) (all false false)) (block EvtVarDly [] [] (negsuc 0 ∷ []) ((port (negsuc 0) (pos 1) (pos 5)) ∷ []) [] 1 1 (false ∷ []))
 passes158 = refl
 
-passes159 : Passes (codes "IFTHEL_f") (fields (negsuc 0 ∷ []) [] (pos 5 ∷ []) [] [] [] 0 2 [] [] [] (Some (true, false))) (block IfThEl [] [] [] ((port (negsuc 0) (pos 1) (pos 5)) ∷ []) [] 0 2 true)
+passes159 : Passes (codes "IFTHEL_f") (fields (negsuc 0 ∷ []) [] (pos 5 ∷ []) [] [] [] 0 2 [] [] [] (all true false)) (block IfThEl [] [] [] ((port (negsuc 0) (pos 1) (pos 5)) ∷ []) [] 0 2 (true ∷ []))
 passes159 = refl
 
-passes160 : Passes (codes "ESELECT_f") (fields (negsuc 0 ∷ []) [] (pos 5 ∷ []) [] [] [] 0 3 [] [] [] (Some (true, false))) (block ESelect [] [] [] ((port (negsuc 0) (pos 1) (pos 5)) ∷ []) [] 0 3 true)
+passes160 : Passes (codes "ESELECT_f") (fields (negsuc 0 ∷ []) [] (pos 5 ∷ []) [] [] [] 0 3 [] [] [] (all true false)) (block ESelect [] [] [] ((port (negsuc 0) (pos 1) (pos 5)) ∷ []) [] 0 3 (true ∷ []))
 passes160 = refl
 
-passes161 : Passes (codes "HALT_f") (fields [] [] [] [] [] [] 1 0 [] [] [] (Some (true, false))) (block Halt [] [] [] [] [] 1 0 true)
+passes161 : Passes (codes "HALT_f") (fields [] [] [] [] [] [] 1 0 [] [] [] (all true false)) (block Halt [] [] [] [] [] 1 0 [])
 passes161 = refl
 
-passes162 : Passes (codes "HALT_f") (fields [] [] [] [] [] [] 1 0 [] [] [] (Some (false, false))) (block Halt [] [] [] [] [] 1 0 false)
+passes162 : Passes (codes "HALT_f") (fields [] [] [] [] [] [] 1 0 [] [] [] (all false false)) (block Halt [] [] [] [] [] 1 0 [])
 passes162 = refl
 
-passes163 : Passes (codes "CONST_m") (fields [] [] [] (negsuc 0 ∷ []) [] (pos 5 ∷ []) 0 0 [] (pos 1 ∷ pos 2 ∷ pos 3 ∷ []) [] None) (block Const (pos 1 ∷ pos 2 ∷ pos 3 ∷ []) [] [] [] ((port (negsuc 0) (pos 1) (pos 5)) ∷ []) 0 0 false)
+passes163 : Passes (codes "CONST_m") (fields [] [] [] (negsuc 0 ∷ []) [] (pos 5 ∷ []) 0 0 [] (pos 7 ∷ []) [] (each [] false)) (block Const (pos 7 ∷ []) [] [] [] ((port (negsuc 0) (pos 1) (pos 5)) ∷ []) 0 0 [])
 passes163 = refl
 
-passes164 : Passes (codes "EXTRACTOR") (fields (negsuc 0 ∷ []) [] (pos 5 ∷ []) (negsuc 0 ∷ []) [] (pos 5 ∷ []) 0 0 [] (many 256 (pos 1)) [] None) (block Extractor (many 256 (pos 1)) [] [] ((port (negsuc 0) (pos 1) (pos 5)) ∷ []) ((port (negsuc 0) (pos 1) (pos 5)) ∷ []) 0 0 true)
+passes164 : Passes (codes "CONST_m") (fields [] [] [] (negsuc 0 ∷ []) [] (pos 5 ∷ []) 0 0 [] (pos 7 ∷ []) [] (each [] false)) (block Const (pos 7 ∷ []) [] [] [] ((port (negsuc 0) (pos 1) (pos 5)) ∷ []) 0 0 [])
 passes164 = refl
 
-passes165 : Passes (codes "SUMMATION") (fields (negsuc 0 ∷ negsuc 0 ∷ []) [] (pos 5 ∷ pos 5 ∷ []) (negsuc 0 ∷ []) [] (pos 5 ∷ []) 0 0 [] (pos 0 ∷ pos 1 ∷ negsuc 0 ∷ []) [] None) (block Summation (pos 0 ∷ pos 1 ∷ negsuc 0 ∷ []) [] [] ((port (negsuc 0) (pos 1) (pos 5)) ∷ (port (negsuc 0) (pos 1) (pos 5)) ∷ []) ((port (negsuc 0) (pos 1) (pos 5)) ∷ []) 0 0 true)
+passes165 : Passes (codes "SUMMATION") (fields (negsuc 0 ∷ negsuc 0 ∷ []) [] (pos 5 ∷ pos 5 ∷ []) (negsuc 0 ∷ []) [] (pos 5 ∷ []) 0 0 [] (pos 0 ∷ pos 1 ∷ negsuc 0 ∷ []) [] (each (true ∷ true ∷ []) false)) (block Summation (pos 0 ∷ pos 1 ∷ negsuc 0 ∷ []) [] [] ((port (negsuc 0) (pos 1) (pos 5)) ∷ (port (negsuc 0) (pos 1) (pos 5)) ∷ []) ((port (negsuc 0) (pos 1) (pos 5)) ∷ []) 0 0 (true ∷ true ∷ []))
 passes165 = refl
 
-passes166 : Passes (codes "SUMMATION") (fields (negsuc 0 ∷ negsuc 0 ∷ []) [] (pos 5 ∷ pos 5 ∷ []) (negsuc 0 ∷ []) [] (pos 5 ∷ []) 0 0 [] (pos 2 ∷ pos 1 ∷ negsuc 0 ∷ []) [] None) (block Summation (pos 2 ∷ pos 1 ∷ negsuc 0 ∷ []) [] [] ((port (negsuc 0) (pos 1) (pos 5)) ∷ (port (negsuc 0) (pos 1) (pos 5)) ∷ []) ((port (negsuc 0) (pos 1) (pos 5)) ∷ []) 0 0 true)
+passes166 : Passes (codes "GAINBLK") (fields (negsuc 0 ∷ []) [] (pos 5 ∷ []) (negsuc 0 ∷ []) [] (pos 5 ∷ []) 0 0 [] (pos 0 ∷ pos 3 ∷ []) [] (each (true ∷ []) false)) (block GainBlk (pos 0 ∷ pos 3 ∷ []) [] [] ((port (negsuc 0) (pos 1) (pos 5)) ∷ []) ((port (negsuc 0) (pos 1) (pos 5)) ∷ []) 0 0 (true ∷ []))
 passes166 = refl
 
-passes167 : Passes (codes "GAINBLK") (fields (negsuc 0 ∷ []) [] (pos 5 ∷ []) (negsuc 0 ∷ []) [] (pos 5 ∷ []) 0 0 [] (pos 0 ∷ pos 3 ∷ []) [] None) (block GainBlk (pos 0 ∷ pos 3 ∷ []) [] [] ((port (negsuc 0) (pos 1) (pos 5)) ∷ []) ((port (negsuc 0) (pos 1) (pos 5)) ∷ []) 0 0 true)
+passes167 : Passes (codes "PRODUCT") (fields (negsuc 0 ∷ negsuc 0 ∷ []) [] (pos 5 ∷ pos 5 ∷ []) (negsuc 0 ∷ []) [] (pos 5 ∷ []) 0 0 [] (pos 0 ∷ pos 1 ∷ []) [] (each (true ∷ true ∷ []) false)) (block Product (pos 0 ∷ pos 1 ∷ []) [] [] ((port (negsuc 0) (pos 1) (pos 5)) ∷ (port (negsuc 0) (pos 1) (pos 5)) ∷ []) ((port (negsuc 0) (pos 1) (pos 5)) ∷ []) 0 0 (true ∷ true ∷ []))
 passes167 = refl
 
-passes168 : Passes (codes "GAINBLK") (fields (negsuc 0 ∷ []) [] (pos 5 ∷ []) (negsuc 0 ∷ []) [] (pos 5 ∷ []) 0 0 [] (pos 2 ∷ pos 3 ∷ []) [] None) (block GainBlk (pos 2 ∷ pos 3 ∷ []) [] [] ((port (negsuc 0) (pos 1) (pos 5)) ∷ []) ((port (negsuc 0) (pos 1) (pos 5)) ∷ []) 0 0 true)
+passes168 : Passes (codes "ABS_VALUE") (fields (negsuc 0 ∷ []) [] (pos 5 ∷ []) (negsuc 0 ∷ []) [] (pos 5 ∷ []) 0 0 [] (pos 0 ∷ []) [] (each (true ∷ []) false)) (block AbsValue (pos 0 ∷ []) [] [] ((port (negsuc 0) (pos 1) (pos 5)) ∷ []) ((port (negsuc 0) (pos 1) (pos 5)) ∷ []) 0 0 (true ∷ []))
 passes168 = refl
 
-passes169 : Passes (codes "GAINBLK") (fields (negsuc 0 ∷ []) [] (pos 5 ∷ []) (negsuc 0 ∷ []) [] (pos 5 ∷ []) 0 0 [] (pos 0 ∷ pos 9223372036854775807 ∷ []) [] None) (block GainBlk (pos 0 ∷ pos 9223372036854775807 ∷ []) [] [] ((port (negsuc 0) (pos 1) (pos 5)) ∷ []) ((port (negsuc 0) (pos 1) (pos 5)) ∷ []) 0 0 true)
+passes169 : Passes (codes "SIGNUM") (fields (negsuc 0 ∷ []) [] (pos 5 ∷ []) (negsuc 0 ∷ []) [] (pos 5 ∷ []) 0 0 [] [] [] (each (true ∷ []) false)) (block Signum [] [] [] ((port (negsuc 0) (pos 1) (pos 5)) ∷ []) ((port (negsuc 0) (pos 1) (pos 5)) ∷ []) 0 0 (true ∷ []))
 passes169 = refl
 
-passes170 : Passes (codes "PRODUCT") (fields (negsuc 0 ∷ negsuc 0 ∷ []) [] (pos 5 ∷ pos 5 ∷ []) (negsuc 0 ∷ []) [] (pos 5 ∷ []) 0 0 [] (pos 0 ∷ pos 1 ∷ []) [] None) (block Product (pos 0 ∷ pos 1 ∷ []) [] [] ((port (negsuc 0) (pos 1) (pos 5)) ∷ (port (negsuc 0) (pos 1) (pos 5)) ∷ []) ((port (negsuc 0) (pos 1) (pos 5)) ∷ []) 0 0 true)
+passes170 : Passes (codes "MAXMIN") (fields (negsuc 0 ∷ negsuc 0 ∷ []) [] (pos 5 ∷ pos 5 ∷ []) (negsuc 0 ∷ []) [] (pos 5 ∷ []) 0 0 [] (pos 1 ∷ []) [] (each (true ∷ true ∷ []) false)) (block MaxMin (pos 1 ∷ []) [] [] ((port (negsuc 0) (pos 1) (pos 5)) ∷ (port (negsuc 0) (pos 1) (pos 5)) ∷ []) ((port (negsuc 0) (pos 1) (pos 5)) ∷ []) 0 0 (true ∷ true ∷ []))
 passes170 = refl
 
-passes171 : Passes (codes "PRODUCT") (fields (negsuc 0 ∷ negsuc 0 ∷ []) [] (pos 5 ∷ pos 5 ∷ []) (negsuc 0 ∷ []) [] (pos 5 ∷ []) 0 0 [] (pos 2 ∷ pos 1 ∷ []) [] None) (block Product (pos 2 ∷ pos 1 ∷ []) [] [] ((port (negsuc 0) (pos 1) (pos 5)) ∷ (port (negsuc 0) (pos 1) (pos 5)) ∷ []) ((port (negsuc 0) (pos 1) (pos 5)) ∷ []) 0 0 true)
+passes171 : Passes (codes "SATURATION") (fields (negsuc 0 ∷ []) [] (pos 5 ∷ []) (negsuc 0 ∷ []) [] (pos 5 ∷ []) 0 0 [] (negsuc 4 ∷ pos 5 ∷ []) [] (each (true ∷ []) false)) (block Saturation (negsuc 4 ∷ pos 5 ∷ []) [] [] ((port (negsuc 0) (pos 1) (pos 5)) ∷ []) ((port (negsuc 0) (pos 1) (pos 5)) ∷ []) 0 0 (true ∷ []))
 passes171 = refl
 
-passes172 : Passes (codes "PRODUCT") (fields (negsuc 0 ∷ negsuc 0 ∷ []) [] (pos 5 ∷ pos 5 ∷ []) (negsuc 0 ∷ []) [] (pos 5 ∷ []) 0 0 [] (pos 2 ∷ negsuc 0 ∷ []) [] None) (block Product (pos 2 ∷ negsuc 0 ∷ []) [] [] ((port (negsuc 0) (pos 1) (pos 5)) ∷ (port (negsuc 0) (pos 1) (pos 5)) ∷ []) ((port (negsuc 0) (pos 1) (pos 5)) ∷ []) 0 0 true)
+passes172 : Passes (codes "DEADBAND") (fields (negsuc 0 ∷ []) [] (pos 5 ∷ []) (negsuc 0 ∷ []) [] (pos 5 ∷ []) 0 0 [] (pos 0 ∷ negsuc 4 ∷ pos 5 ∷ []) [] (each (true ∷ []) false)) (block DeadBand (pos 0 ∷ negsuc 4 ∷ pos 5 ∷ []) [] [] ((port (negsuc 0) (pos 1) (pos 5)) ∷ []) ((port (negsuc 0) (pos 1) (pos 5)) ∷ []) 0 0 (true ∷ []))
 passes172 = refl
 
-passes173 : Passes (codes "ABS_VALUE") (fields (negsuc 0 ∷ []) [] (pos 5 ∷ []) (negsuc 0 ∷ []) [] (pos 5 ∷ []) 0 0 [] (pos 0 ∷ []) [] None) (block AbsValue (pos 0 ∷ []) [] [] ((port (negsuc 0) (pos 1) (pos 5)) ∷ []) ((port (negsuc 0) (pos 1) (pos 5)) ∷ []) 0 0 true)
+passes173 : Passes (codes "CONVERT") (fields (negsuc 0 ∷ []) [] (pos 5 ∷ []) (negsuc 0 ∷ []) [] (pos 5 ∷ []) 0 0 [] (pos 0 ∷ []) [] (each (true ∷ []) false)) (block Convert (pos 0 ∷ []) [] [] ((port (negsuc 0) (pos 1) (pos 5)) ∷ []) ((port (negsuc 0) (pos 1) (pos 5)) ∷ []) 0 0 (true ∷ []))
 passes173 = refl
 
-passes174 : Passes (codes "ABS_VALUE") (fields (negsuc 0 ∷ []) [] (pos 5 ∷ []) (negsuc 0 ∷ []) [] (pos 5 ∷ []) 0 0 [] (pos 2 ∷ []) [] None) (block AbsValue (pos 2 ∷ []) [] [] ((port (negsuc 0) (pos 1) (pos 5)) ∷ []) ((port (negsuc 0) (pos 1) (pos 5)) ∷ []) 0 0 true)
+passes174 : Passes (codes "MUX") (fields (negsuc 0 ∷ negsuc 0 ∷ []) [] (pos 5 ∷ pos 5 ∷ []) (negsuc 0 ∷ []) [] (pos 5 ∷ []) 0 0 [] [] [] (each (true ∷ true ∷ []) false)) (block Mux [] [] [] ((port (negsuc 0) (pos 1) (pos 5)) ∷ (port (negsuc 0) (pos 1) (pos 5)) ∷ []) ((port (negsuc 0) (pos 1) (pos 5)) ∷ []) 0 0 (true ∷ true ∷ []))
 passes174 = refl
 
-passes175 : Passes (codes "MAXMIN") (fields (negsuc 0 ∷ negsuc 0 ∷ []) [] (pos 5 ∷ pos 5 ∷ []) (negsuc 0 ∷ []) [] (pos 5 ∷ []) 0 0 [] (pos 1 ∷ []) [] None) (block MaxMin (pos 1 ∷ []) [] [] ((port (negsuc 0) (pos 1) (pos 5)) ∷ (port (negsuc 0) (pos 1) (pos 5)) ∷ []) ((port (negsuc 0) (pos 1) (pos 5)) ∷ []) 0 0 true)
+passes175 : Passes (codes "DEMUX") (fields (negsuc 0 ∷ []) [] (pos 5 ∷ []) (negsuc 0 ∷ negsuc 0 ∷ []) [] (pos 5 ∷ pos 5 ∷ []) 0 0 [] [] [] (each (true ∷ []) false)) (block Demux [] [] [] ((port (negsuc 0) (pos 1) (pos 5)) ∷ []) ((port (negsuc 0) (pos 1) (pos 5)) ∷ (port (negsuc 0) (pos 1) (pos 5)) ∷ []) 0 0 (true ∷ []))
 passes175 = refl
 
-passes176 : Passes (codes "MAXMIN") (fields (negsuc 0 ∷ negsuc 0 ∷ []) [] (pos 5 ∷ pos 5 ∷ []) (negsuc 0 ∷ []) [] (pos 5 ∷ []) 0 0 [] (pos 2 ∷ []) [] None) (block MaxMin (pos 2 ∷ []) [] [] ((port (negsuc 0) (pos 1) (pos 5)) ∷ (port (negsuc 0) (pos 1) (pos 5)) ∷ []) ((port (negsuc 0) (pos 1) (pos 5)) ∷ []) 0 0 true)
+passes176 : Passes (codes "EXTRACTOR") (fields (negsuc 0 ∷ []) [] (pos 5 ∷ []) (negsuc 0 ∷ []) [] (pos 5 ∷ []) 0 0 [] (pos 2 ∷ pos 1 ∷ []) [] (each (true ∷ []) false)) (block Extractor (pos 2 ∷ pos 1 ∷ []) [] [] ((port (negsuc 0) (pos 1) (pos 5)) ∷ []) ((port (negsuc 0) (pos 1) (pos 5)) ∷ []) 0 0 (true ∷ []))
 passes176 = refl
 
-passes177 : Passes (codes "SATURATION") (fields (negsuc 0 ∷ []) [] (pos 5 ∷ []) (negsuc 0 ∷ []) [] (pos 5 ∷ []) 0 0 [] (pos 5 ∷ pos 5 ∷ []) [] None) (block Saturation (pos 5 ∷ pos 5 ∷ []) [] [] ((port (negsuc 0) (pos 1) (pos 5)) ∷ []) ((port (negsuc 0) (pos 1) (pos 5)) ∷ []) 0 0 true)
+passes177 : Passes (codes "LOGICAL_OP") (fields (negsuc 0 ∷ negsuc 0 ∷ []) [] (pos 5 ∷ pos 5 ∷ []) (negsuc 0 ∷ []) [] (pos 5 ∷ []) 0 0 [] (pos 0 ∷ pos 0 ∷ []) [] (each (true ∷ true ∷ []) false)) (block LogicalOp (pos 0 ∷ pos 0 ∷ []) [] [] ((port (negsuc 0) (pos 1) (pos 5)) ∷ (port (negsuc 0) (pos 1) (pos 5)) ∷ []) ((port (negsuc 0) (pos 1) (pos 5)) ∷ []) 0 0 (true ∷ true ∷ []))
 passes177 = refl
 
-passes178 : Passes (codes "DEADBAND") (fields (negsuc 0 ∷ []) [] (pos 5 ∷ []) (negsuc 0 ∷ []) [] (pos 5 ∷ []) 0 0 [] (pos 0 ∷ negsuc 4 ∷ pos 5 ∷ []) [] None) (block DeadBand (pos 0 ∷ negsuc 4 ∷ pos 5 ∷ []) [] [] ((port (negsuc 0) (pos 1) (pos 5)) ∷ []) ((port (negsuc 0) (pos 1) (pos 5)) ∷ []) 0 0 true)
+passes178 : Passes (codes "RELATIONALOP") (fields (negsuc 0 ∷ negsuc 0 ∷ []) [] (pos 5 ∷ pos 5 ∷ []) (negsuc 0 ∷ []) [] (pos 5 ∷ []) 0 0 [] (pos 0 ∷ []) [] (each (true ∷ true ∷ []) false)) (block RelationalOp (pos 0 ∷ []) [] [] ((port (negsuc 0) (pos 1) (pos 5)) ∷ (port (negsuc 0) (pos 1) (pos 5)) ∷ []) ((port (negsuc 0) (pos 1) (pos 5)) ∷ []) 0 0 (true ∷ true ∷ []))
 passes178 = refl
 
-passes179 : Passes (codes "DEADBAND") (fields (negsuc 0 ∷ []) [] (pos 5 ∷ []) (negsuc 0 ∷ []) [] (pos 5 ∷ []) 0 0 [] (pos 2 ∷ negsuc 4 ∷ pos 5 ∷ []) [] None) (block DeadBand (pos 2 ∷ negsuc 4 ∷ pos 5 ∷ []) [] [] ((port (negsuc 0) (pos 1) (pos 5)) ∷ []) ((port (negsuc 0) (pos 1) (pos 5)) ∷ []) 0 0 true)
+passes179 : Passes (codes "SHIFT") (fields (negsuc 0 ∷ []) [] (pos 5 ∷ []) (negsuc 0 ∷ []) [] (pos 5 ∷ []) 0 0 [] (pos 3 ∷ pos 0 ∷ []) [] (each (true ∷ []) false)) (block Shift (pos 3 ∷ pos 0 ∷ []) [] [] ((port (negsuc 0) (pos 1) (pos 5)) ∷ []) ((port (negsuc 0) (pos 1) (pos 5)) ∷ []) 0 0 (true ∷ []))
 passes179 = refl
 
-passes180 : Passes (codes "DEADBAND") (fields (negsuc 0 ∷ []) [] (pos 5 ∷ []) (negsuc 0 ∷ []) [] (pos 5 ∷ []) 0 0 [] (pos 0 ∷ pos 5 ∷ pos 5 ∷ []) [] None) (block DeadBand (pos 0 ∷ pos 5 ∷ pos 5 ∷ []) [] [] ((port (negsuc 0) (pos 1) (pos 5)) ∷ []) ((port (negsuc 0) (pos 1) (pos 5)) ∷ []) 0 0 true)
+passes180 : Passes (codes "BITSET") (fields (negsuc 0 ∷ []) [] (pos 5 ∷ []) (negsuc 0 ∷ []) [] (pos 5 ∷ []) 0 0 [] (pos 3 ∷ []) [] (each (true ∷ []) false)) (block BitSet (pos 3 ∷ []) [] [] ((port (negsuc 0) (pos 1) (pos 5)) ∷ []) ((port (negsuc 0) (pos 1) (pos 5)) ∷ []) 0 0 (true ∷ []))
 passes180 = refl
 
-passes181 : Passes (codes "CONVERT") (fields (negsuc 0 ∷ []) [] (pos 5 ∷ []) (negsuc 0 ∷ []) [] (pos 5 ∷ []) 0 0 [] (pos 0 ∷ []) [] None) (block Convert (pos 0 ∷ []) [] [] ((port (negsuc 0) (pos 1) (pos 5)) ∷ []) ((port (negsuc 0) (pos 1) (pos 5)) ∷ []) 0 0 true)
+passes181 : Passes (codes "BITCLEAR") (fields (negsuc 0 ∷ []) [] (pos 5 ∷ []) (negsuc 0 ∷ []) [] (pos 5 ∷ []) 0 0 [] (pos 3 ∷ []) [] (each (true ∷ []) false)) (block BitClear (pos 3 ∷ []) [] [] ((port (negsuc 0) (pos 1) (pos 5)) ∷ []) ((port (negsuc 0) (pos 1) (pos 5)) ∷ []) 0 0 (true ∷ []))
 passes181 = refl
 
-passes182 : Passes (codes "CONVERT") (fields (negsuc 0 ∷ []) [] (pos 5 ∷ []) (negsuc 0 ∷ []) [] (pos 5 ∷ []) 0 0 [] (pos 2 ∷ []) [] None) (block Convert (pos 2 ∷ []) [] [] ((port (negsuc 0) (pos 1) (pos 5)) ∷ []) ((port (negsuc 0) (pos 1) (pos 5)) ∷ []) 0 0 true)
+passes182 : Passes (codes "EXTRACTBITS") (fields (negsuc 0 ∷ []) [] (pos 5 ∷ []) (negsuc 0 ∷ []) [] (pos 5 ∷ []) 0 0 [] (pos 1 ∷ pos 3 ∷ []) [] (each (true ∷ []) false)) (block ExtractBits (pos 1 ∷ pos 3 ∷ []) [] [] ((port (negsuc 0) (pos 1) (pos 5)) ∷ []) ((port (negsuc 0) (pos 1) (pos 5)) ∷ []) 0 0 (true ∷ []))
 passes182 = refl
 
-passes183 : Passes (codes "EXTRACTOR") (fields (negsuc 0 ∷ []) [] (pos 5 ∷ []) (negsuc 0 ∷ []) [] (pos 5 ∷ []) 0 0 [] (pos 1000000 ∷ []) [] None) (block Extractor (pos 1000000 ∷ []) [] [] ((port (negsuc 0) (pos 1) (pos 5)) ∷ []) ((port (negsuc 0) (pos 1) (pos 5)) ∷ []) 0 0 true)
+passes183 : Passes (codes "SWITCH2_m") (fields (negsuc 0 ∷ negsuc 0 ∷ negsuc 0 ∷ []) [] (pos 5 ∷ pos 5 ∷ pos 5 ∷ []) (negsuc 0 ∷ []) [] (pos 5 ∷ []) 0 0 [] (pos 0 ∷ pos 0 ∷ []) [] (each (true ∷ true ∷ true ∷ []) false)) (block Switch2 (pos 0 ∷ pos 0 ∷ []) [] [] ((port (negsuc 0) (pos 1) (pos 5)) ∷ (port (negsuc 0) (pos 1) (pos 5)) ∷ (port (negsuc 0) (pos 1) (pos 5)) ∷ []) ((port (negsuc 0) (pos 1) (pos 5)) ∷ []) 0 0 (true ∷ true ∷ true ∷ []))
 passes183 = refl
 
-passes184 : Passes (codes "LOGICAL_OP") (fields (negsuc 0 ∷ negsuc 0 ∷ []) [] (pos 5 ∷ pos 5 ∷ []) (negsuc 0 ∷ []) [] (pos 5 ∷ []) 0 0 [] (pos 0 ∷ pos 0 ∷ []) [] None) (block LogicalOp (pos 0 ∷ pos 0 ∷ []) [] [] ((port (negsuc 0) (pos 1) (pos 5)) ∷ (port (negsuc 0) (pos 1) (pos 5)) ∷ []) ((port (negsuc 0) (pos 1) (pos 5)) ∷ []) 0 0 true)
+passes184 : Passes (codes "SELECT_m") (fields (negsuc 0 ∷ negsuc 0 ∷ negsuc 0 ∷ []) [] (pos 5 ∷ pos 5 ∷ pos 5 ∷ []) (negsuc 0 ∷ []) [] (pos 5 ∷ []) 3 0 [] [] [] (each (true ∷ true ∷ true ∷ []) false)) (block Select [] [] [] ((port (negsuc 0) (pos 1) (pos 5)) ∷ (port (negsuc 0) (pos 1) (pos 5)) ∷ (port (negsuc 0) (pos 1) (pos 5)) ∷ []) ((port (negsuc 0) (pos 1) (pos 5)) ∷ []) 3 0 (true ∷ true ∷ true ∷ []))
 passes184 = refl
 
-passes185 : Passes (codes "LOGICAL_OP") (fields (negsuc 0 ∷ negsuc 0 ∷ []) [] (pos 5 ∷ pos 5 ∷ []) (negsuc 0 ∷ []) [] (pos 5 ∷ []) 0 0 [] (pos 4 ∷ pos 0 ∷ []) [] None) (block LogicalOp (pos 4 ∷ pos 0 ∷ []) [] [] ((port (negsuc 0) (pos 1) (pos 5)) ∷ (port (negsuc 0) (pos 1) (pos 5)) ∷ []) ((port (negsuc 0) (pos 1) (pos 5)) ∷ []) 0 0 true)
+passes185 : Passes (codes "LOGIC") (fields (negsuc 0 ∷ negsuc 0 ∷ []) [] (pos 5 ∷ pos 5 ∷ []) (negsuc 0 ∷ []) [] (pos 5 ∷ []) 0 0 [] (pos 0 ∷ pos 0 ∷ pos 0 ∷ pos 1 ∷ []) [] (each (true ∷ true ∷ []) false)) (block Logic (pos 0 ∷ pos 0 ∷ pos 0 ∷ pos 1 ∷ []) [] [] ((port (negsuc 0) (pos 1) (pos 5)) ∷ (port (negsuc 0) (pos 1) (pos 5)) ∷ []) ((port (negsuc 0) (pos 1) (pos 5)) ∷ []) 0 0 (true ∷ true ∷ []))
 passes185 = refl
 
-passes186 : Passes (codes "LOGICAL_OP") (fields (negsuc 0 ∷ []) [] (pos 5 ∷ []) (negsuc 0 ∷ []) [] (pos 5 ∷ []) 0 0 [] (pos 5 ∷ pos 1 ∷ []) [] None) (block LogicalOp (pos 5 ∷ pos 1 ∷ []) [] [] ((port (negsuc 0) (pos 1) (pos 5)) ∷ []) ((port (negsuc 0) (pos 1) (pos 5)) ∷ []) 0 0 true)
+passes186 : Passes (codes "ANDLOG_f") (fields [] [] [] (negsuc 0 ∷ []) [] (pos 5 ∷ []) 2 0 [] [] [] (each [] false)) (block AndLog [] [] [] [] ((port (negsuc 0) (pos 1) (pos 5)) ∷ []) 2 0 [])
 passes186 = refl
 
-passes187 : Passes (codes "LOGICAL_OP") (fields (negsuc 0 ∷ []) [] (pos 5 ∷ []) (negsuc 0 ∷ []) [] (pos 5 ∷ []) 0 0 [] (pos 5 ∷ pos 1 ∷ []) [] None) (block LogicalOp (pos 5 ∷ pos 1 ∷ []) [] [] ((port (negsuc 0) (pos 1) (pos 5)) ∷ []) ((port (negsuc 0) (pos 1) (pos 5)) ∷ []) 0 0 true)
+passes187 : Passes (codes "ANDLOG_f") (fields [] [] [] (negsuc 0 ∷ []) [] (pos 5 ∷ []) 2 0 [] [] [] (each [] false)) (block AndLog [] [] [] [] ((port (negsuc 0) (pos 1) (pos 5)) ∷ []) 2 0 [])
 passes187 = refl
 
-passes188 : Passes (codes "LOGICAL_OP") (fields (negsuc 0 ∷ negsuc 0 ∷ []) [] (pos 5 ∷ pos 5 ∷ []) (negsuc 0 ∷ []) [] (pos 5 ∷ []) 0 0 [] (pos 4 ∷ pos 0 ∷ []) [] None) (block LogicalOp (pos 4 ∷ pos 0 ∷ []) [] [] ((port (negsuc 0) (pos 1) (pos 5)) ∷ (port (negsuc 0) (pos 1) (pos 5)) ∷ []) ((port (negsuc 0) (pos 1) (pos 5)) ∷ []) 0 0 true)
+passes188 : Passes (codes "DOLLAR_m") (fields (negsuc 0 ∷ []) [] (pos 5 ∷ []) (negsuc 0 ∷ []) [] (pos 5 ∷ []) 1 0 (pos 0 ∷ []) [] [] (each (true ∷ []) false)) (block Dollar [] (pos 0 ∷ []) [] ((port (negsuc 0) (pos 1) (pos 5)) ∷ []) ((port (negsuc 0) (pos 1) (pos 5)) ∷ []) 1 0 (true ∷ []))
 passes188 = refl
 
-passes189 : Passes (codes "LOGICAL_OP") (fields (negsuc 0 ∷ negsuc 0 ∷ []) [] (pos 5 ∷ pos 5 ∷ []) (negsuc 0 ∷ []) [] (pos 5 ∷ []) 0 0 [] (pos 4 ∷ pos 1 ∷ []) [] None) (block LogicalOp (pos 4 ∷ pos 1 ∷ []) [] [] ((port (negsuc 0) (pos 1) (pos 5)) ∷ (port (negsuc 0) (pos 1) (pos 5)) ∷ []) ((port (negsuc 0) (pos 1) (pos 5)) ∷ []) 0 0 true)
+passes189 : Passes (codes "DOLLAR_m") (fields (negsuc 0 ∷ []) [] (pos 5 ∷ []) (negsuc 0 ∷ []) [] (pos 5 ∷ []) 1 0 (pos 0 ∷ []) [] [] (each (false ∷ []) false)) (block Dollar [] (pos 0 ∷ []) [] ((port (negsuc 0) (pos 1) (pos 5)) ∷ []) ((port (negsuc 0) (pos 1) (pos 5)) ∷ []) 1 0 (false ∷ []))
 passes189 = refl
 
-passes190 : Passes (codes "RELATIONALOP") (fields (negsuc 0 ∷ negsuc 0 ∷ []) [] (pos 5 ∷ pos 5 ∷ []) (negsuc 0 ∷ []) [] (pos 5 ∷ []) 0 0 [] (pos 0 ∷ []) [] None) (block RelationalOp (pos 0 ∷ []) [] [] ((port (negsuc 0) (pos 1) (pos 5)) ∷ (port (negsuc 0) (pos 1) (pos 5)) ∷ []) ((port (negsuc 0) (pos 1) (pos 5)) ∷ []) 0 0 true)
+passes190 : Passes (codes "SAMPHOLD_m") (fields (negsuc 0 ∷ []) [] (pos 5 ∷ []) (negsuc 0 ∷ []) [] (pos 5 ∷ []) 1 0 [] [] [] (each (true ∷ []) false)) (block SampHold [] [] [] ((port (negsuc 0) (pos 1) (pos 5)) ∷ []) ((port (negsuc 0) (pos 1) (pos 5)) ∷ []) 1 0 (true ∷ []))
 passes190 = refl
 
-passes191 : Passes (codes "RELATIONALOP") (fields (negsuc 0 ∷ negsuc 0 ∷ []) [] (pos 5 ∷ pos 5 ∷ []) (negsuc 0 ∷ []) [] (pos 5 ∷ []) 0 0 [] (pos 5 ∷ []) [] None) (block RelationalOp (pos 5 ∷ []) [] [] ((port (negsuc 0) (pos 1) (pos 5)) ∷ (port (negsuc 0) (pos 1) (pos 5)) ∷ []) ((port (negsuc 0) (pos 1) (pos 5)) ∷ []) 0 0 true)
+passes191 : Passes (codes "REGISTER") (fields (negsuc 0 ∷ []) [] (pos 5 ∷ []) (negsuc 0 ∷ []) [] (pos 5 ∷ []) 1 0 (pos 0 ∷ pos 0 ∷ []) [] [] (each (true ∷ []) false)) (block Register [] (pos 0 ∷ pos 0 ∷ []) [] ((port (negsuc 0) (pos 1) (pos 5)) ∷ []) ((port (negsuc 0) (pos 1) (pos 5)) ∷ []) 1 0 (true ∷ []))
 passes191 = refl
 
-passes192 : Passes (codes "SHIFT") (fields (negsuc 0 ∷ []) [] (pos 5 ∷ []) (negsuc 0 ∷ []) [] (pos 5 ∷ []) 0 0 [] (negsuc 30 ∷ pos 0 ∷ []) [] None) (block Shift (negsuc 30 ∷ pos 0 ∷ []) [] [] ((port (negsuc 0) (pos 1) (pos 5)) ∷ []) ((port (negsuc 0) (pos 1) (pos 5)) ∷ []) 0 0 true)
+passes192 : Passes (codes "REGISTER") (fields (negsuc 0 ∷ []) [] (pos 5 ∷ []) (negsuc 0 ∷ []) [] (pos 5 ∷ []) 1 0 (pos 0 ∷ pos 0 ∷ []) [] [] (each (false ∷ []) false)) (block Register [] (pos 0 ∷ pos 0 ∷ []) [] ((port (negsuc 0) (pos 1) (pos 5)) ∷ []) ((port (negsuc 0) (pos 1) (pos 5)) ∷ []) 1 0 (false ∷ []))
 passes192 = refl
 
-passes193 : Passes (codes "SHIFT") (fields (negsuc 0 ∷ []) [] (pos 5 ∷ []) (negsuc 0 ∷ []) [] (pos 5 ∷ []) 0 0 [] (pos 31 ∷ pos 0 ∷ []) [] None) (block Shift (pos 31 ∷ pos 0 ∷ []) [] [] ((port (negsuc 0) (pos 1) (pos 5)) ∷ []) ((port (negsuc 0) (pos 1) (pos 5)) ∷ []) 0 0 true)
+passes193 : Passes (codes "Modulo_Count") (fields [] [] [] (negsuc 0 ∷ []) [] (pos 5 ∷ []) 1 0 (pos 0 ∷ []) (pos 10 ∷ []) [] (each [] false)) (block ModuloCount (pos 10 ∷ []) (pos 0 ∷ []) [] [] ((port (negsuc 0) (pos 1) (pos 5)) ∷ []) 1 0 [])
 passes193 = refl
 
-passes194 : Passes (codes "SHIFT") (fields (negsuc 0 ∷ []) [] (pos 5 ∷ []) (negsuc 0 ∷ []) [] (pos 5 ∷ []) 0 0 [] (negsuc 30 ∷ pos 0 ∷ []) [] None) (block Shift (negsuc 30 ∷ pos 0 ∷ []) [] [] ((port (negsuc 0) (pos 1) (pos 5)) ∷ []) ((port (negsuc 0) (pos 1) (pos 5)) ∷ []) 0 0 true)
+passes194 : Passes (codes "Modulo_Count") (fields [] [] [] (negsuc 0 ∷ []) [] (pos 5 ∷ []) 1 0 (pos 0 ∷ []) (pos 10 ∷ []) [] (each [] false)) (block ModuloCount (pos 10 ∷ []) (pos 0 ∷ []) [] [] ((port (negsuc 0) (pos 1) (pos 5)) ∷ []) 1 0 [])
 passes194 = refl
 
-passes195 : Passes (codes "SHIFT") (fields (negsuc 0 ∷ []) [] (pos 5 ∷ []) (negsuc 0 ∷ []) [] (pos 5 ∷ []) 0 0 [] (negsuc 30 ∷ pos 1 ∷ []) [] None) (block Shift (negsuc 30 ∷ pos 1 ∷ []) [] [] ((port (negsuc 0) (pos 1) (pos 5)) ∷ []) ((port (negsuc 0) (pos 1) (pos 5)) ∷ []) 0 0 true)
+passes195 : Passes (codes "GATED_DELAY") (fields (negsuc 0 ∷ negsuc 0 ∷ []) [] (pos 5 ∷ pos 5 ∷ []) (negsuc 0 ∷ []) [] (pos 5 ∷ []) 1 0 (pos 0 ∷ []) [] [] (each (true ∷ true ∷ []) false)) (block GatedDelay [] (pos 0 ∷ []) [] ((port (negsuc 0) (pos 1) (pos 5)) ∷ (port (negsuc 0) (pos 1) (pos 5)) ∷ []) ((port (negsuc 0) (pos 1) (pos 5)) ∷ []) 1 0 (true ∷ true ∷ []))
 passes195 = refl
 
-passes196 : Passes (codes "BITSET") (fields (negsuc 0 ∷ []) [] (pos 5 ∷ []) (negsuc 0 ∷ []) [] (pos 5 ∷ []) 0 0 [] (pos 0 ∷ []) [] None) (block BitSet (pos 0 ∷ []) [] [] ((port (negsuc 0) (pos 1) (pos 5)) ∷ []) ((port (negsuc 0) (pos 1) (pos 5)) ∷ []) 0 0 true)
+passes196 : Passes (codes "SENSOR") (fields [] [] [] (negsuc 0 ∷ []) [] (pos 5 ∷ []) 1 0 [] (pos 1 ∷ []) [] (each [] false)) (block Sensor (pos 1 ∷ []) [] [] [] ((port (negsuc 0) (pos 1) (pos 5)) ∷ []) 1 0 [])
 passes196 = refl
 
-passes197 : Passes (codes "BITSET") (fields (negsuc 0 ∷ []) [] (pos 5 ∷ []) (negsuc 0 ∷ []) [] (pos 5 ∷ []) 0 0 [] (pos 31 ∷ []) [] None) (block BitSet (pos 31 ∷ []) [] [] ((port (negsuc 0) (pos 1) (pos 5)) ∷ []) ((port (negsuc 0) (pos 1) (pos 5)) ∷ []) 0 0 true)
+passes197 : Passes (codes "SENSOR") (fields [] [] [] (negsuc 0 ∷ []) [] (pos 5 ∷ []) 1 0 [] (pos 1 ∷ []) [] (each [] false)) (block Sensor (pos 1 ∷ []) [] [] [] ((port (negsuc 0) (pos 1) (pos 5)) ∷ []) 1 0 [])
 passes197 = refl
 
-passes198 : Passes (codes "BITCLEAR") (fields (negsuc 0 ∷ []) [] (pos 5 ∷ []) (negsuc 0 ∷ []) [] (pos 5 ∷ []) 0 0 [] (pos 0 ∷ []) [] None) (block BitClear (pos 0 ∷ []) [] [] ((port (negsuc 0) (pos 1) (pos 5)) ∷ []) ((port (negsuc 0) (pos 1) (pos 5)) ∷ []) 0 0 true)
+passes198 : Passes (codes "EVTDLY_c") (fields [] [] [] [] [] [] 1 1 [] (pos 5 ∷ []) (pos 0 ∷ []) (each [] false)) (block EvtDly (pos 5 ∷ []) [] (pos 0 ∷ []) [] [] 1 1 [])
 passes198 = refl
 
-passes199 : Passes (codes "BITCLEAR") (fields (negsuc 0 ∷ []) [] (pos 5 ∷ []) (negsuc 0 ∷ []) [] (pos 5 ∷ []) 0 0 [] (pos 31 ∷ []) [] None) (block BitClear (pos 31 ∷ []) [] [] ((port (negsuc 0) (pos 1) (pos 5)) ∷ []) ((port (negsuc 0) (pos 1) (pos 5)) ∷ []) 0 0 true)
+passes199 : Passes (codes "EVTDLY_c") (fields [] [] [] [] [] [] 1 1 [] (pos 5 ∷ []) (pos 0 ∷ []) (each [] false)) (block EvtDly (pos 5 ∷ []) [] (pos 0 ∷ []) [] [] 1 1 [])
 passes199 = refl
 
-passes200 : Passes (codes "EXTRACTBITS") (fields (negsuc 0 ∷ []) [] (pos 5 ∷ []) (negsuc 0 ∷ []) [] (pos 5 ∷ []) 0 0 [] (pos 4 ∷ pos 4 ∷ []) [] None) (block ExtractBits (pos 4 ∷ pos 4 ∷ []) [] [] ((port (negsuc 0) (pos 1) (pos 5)) ∷ []) ((port (negsuc 0) (pos 1) (pos 5)) ∷ []) 0 0 true)
+passes200 : Passes (codes "EVTVARDLY") (fields (negsuc 0 ∷ []) [] (pos 5 ∷ []) [] [] [] 1 1 [] [] (negsuc 0 ∷ []) (each (true ∷ []) false)) (block EvtVarDly [] [] (negsuc 0 ∷ []) ((port (negsuc 0) (pos 1) (pos 5)) ∷ []) [] 1 1 (true ∷ []))
 passes200 = refl
 
-passes201 : Passes (codes "EXTRACTBITS") (fields (negsuc 0 ∷ []) [] (pos 5 ∷ []) (negsuc 0 ∷ []) [] (pos 5 ∷ []) 0 0 [] (pos 0 ∷ pos 31 ∷ []) [] None) (block ExtractBits (pos 0 ∷ pos 31 ∷ []) [] [] ((port (negsuc 0) (pos 1) (pos 5)) ∷ []) ((port (negsuc 0) (pos 1) (pos 5)) ∷ []) 0 0 true)
+passes201 : Passes (codes "EVTVARDLY") (fields (negsuc 0 ∷ []) [] (pos 5 ∷ []) [] [] [] 1 1 [] [] (negsuc 0 ∷ []) (each (false ∷ []) false)) (block EvtVarDly [] [] (negsuc 0 ∷ []) ((port (negsuc 0) (pos 1) (pos 5)) ∷ []) [] 1 1 (false ∷ []))
 passes201 = refl
 
-passes202 : Passes (codes "SWITCH2_m") (fields (negsuc 0 ∷ negsuc 0 ∷ negsuc 0 ∷ []) [] (pos 5 ∷ pos 5 ∷ pos 5 ∷ []) (negsuc 0 ∷ []) [] (pos 5 ∷ []) 0 0 [] (pos 0 ∷ pos 0 ∷ []) [] None) (block Switch2 (pos 0 ∷ pos 0 ∷ []) [] [] ((port (negsuc 0) (pos 1) (pos 5)) ∷ (port (negsuc 0) (pos 1) (pos 5)) ∷ (port (negsuc 0) (pos 1) (pos 5)) ∷ []) ((port (negsuc 0) (pos 1) (pos 5)) ∷ []) 0 0 true)
+passes202 : Passes (codes "IFTHEL_f") (fields (negsuc 0 ∷ []) [] (pos 5 ∷ []) [] [] [] 0 2 [] [] [] (each (true ∷ []) false)) (block IfThEl [] [] [] ((port (negsuc 0) (pos 1) (pos 5)) ∷ []) [] 0 2 (true ∷ []))
 passes202 = refl
 
-passes203 : Passes (codes "SWITCH2_m") (fields (negsuc 0 ∷ negsuc 0 ∷ negsuc 0 ∷ []) [] (pos 5 ∷ pos 5 ∷ pos 5 ∷ []) (negsuc 0 ∷ []) [] (pos 5 ∷ []) 0 0 [] (pos 2 ∷ pos 0 ∷ []) [] None) (block Switch2 (pos 2 ∷ pos 0 ∷ []) [] [] ((port (negsuc 0) (pos 1) (pos 5)) ∷ (port (negsuc 0) (pos 1) (pos 5)) ∷ (port (negsuc 0) (pos 1) (pos 5)) ∷ []) ((port (negsuc 0) (pos 1) (pos 5)) ∷ []) 0 0 true)
+passes203 : Passes (codes "ESELECT_f") (fields (negsuc 0 ∷ []) [] (pos 5 ∷ []) [] [] [] 0 3 [] [] [] (each (true ∷ []) false)) (block ESelect [] [] [] ((port (negsuc 0) (pos 1) (pos 5)) ∷ []) [] 0 3 (true ∷ []))
 passes203 = refl
 
-passes204 : Passes (codes "SWITCH2_m") (fields (negsuc 0 ∷ negsuc 0 ∷ negsuc 0 ∷ []) [] (pos 5 ∷ pos 5 ∷ pos 5 ∷ []) (negsuc 0 ∷ []) [] (pos 5 ∷ []) 0 0 [] (pos 0 ∷ negsuc 2147483647 ∷ []) [] None) (block Switch2 (pos 0 ∷ negsuc 2147483647 ∷ []) [] [] ((port (negsuc 0) (pos 1) (pos 5)) ∷ (port (negsuc 0) (pos 1) (pos 5)) ∷ (port (negsuc 0) (pos 1) (pos 5)) ∷ []) ((port (negsuc 0) (pos 1) (pos 5)) ∷ []) 0 0 true)
+passes204 : Passes (codes "HALT_f") (fields [] [] [] [] [] [] 1 0 [] [] [] (each [] false)) (block Halt [] [] [] [] [] 1 0 [])
 passes204 = refl
 
-passes205 : Passes (codes "SWITCH2_m") (fields (negsuc 0 ∷ negsuc 0 ∷ negsuc 0 ∷ []) [] (pos 5 ∷ pos 5 ∷ pos 5 ∷ []) (negsuc 0 ∷ []) [] (pos 5 ∷ []) 0 0 [] (pos 0 ∷ pos 4294967295 ∷ []) [] None) (block Switch2 (pos 0 ∷ pos 4294967295 ∷ []) [] [] ((port (negsuc 0) (pos 1) (pos 5)) ∷ (port (negsuc 0) (pos 1) (pos 5)) ∷ (port (negsuc 0) (pos 1) (pos 5)) ∷ []) ((port (negsuc 0) (pos 1) (pos 5)) ∷ []) 0 0 true)
+passes205 : Passes (codes "HALT_f") (fields [] [] [] [] [] [] 1 0 [] [] [] (each [] false)) (block Halt [] [] [] [] [] 1 0 [])
 passes205 = refl
 
-passes206 : Passes (codes "Modulo_Count") (fields [] [] [] (negsuc 0 ∷ []) [] (pos 5 ∷ []) 1 0 (pos 0 ∷ []) (pos 1 ∷ []) [] None) (block ModuloCount (pos 1 ∷ []) (pos 0 ∷ []) [] [] ((port (negsuc 0) (pos 1) (pos 5)) ∷ []) 1 0 false)
+passes206 : Passes (codes "GATED_DELAY") (fields (negsuc 0 ∷ negsuc 0 ∷ []) [] (pos 5 ∷ pos 5 ∷ []) (negsuc 0 ∷ []) [] (pos 5 ∷ []) 1 0 (pos 0 ∷ []) [] [] (each (false ∷ true ∷ []) false)) (block GatedDelay [] (pos 0 ∷ []) [] ((port (negsuc 0) (pos 1) (pos 5)) ∷ (port (negsuc 0) (pos 1) (pos 5)) ∷ []) ((port (negsuc 0) (pos 1) (pos 5)) ∷ []) 1 0 (false ∷ true ∷ []))
 passes206 = refl
 
-passes207 : Passes (codes "Modulo_Count") (fields [] [] [] (negsuc 0 ∷ []) [] (pos 5 ∷ []) 1 0 (pos 0 ∷ []) (pos 2147483647 ∷ []) [] None) (block ModuloCount (pos 2147483647 ∷ []) (pos 0 ∷ []) [] [] ((port (negsuc 0) (pos 1) (pos 5)) ∷ []) 1 0 false)
+passes207 : Passes (codes "LOGICAL_OP") (fields (negsuc 0 ∷ negsuc 0 ∷ negsuc 0 ∷ []) [] (pos 5 ∷ pos 5 ∷ pos 5 ∷ []) (negsuc 0 ∷ []) [] (pos 5 ∷ []) 0 0 [] (pos 0 ∷ pos 0 ∷ []) [] (each (true ∷ true ∷ true ∷ []) false)) (block LogicalOp (pos 0 ∷ pos 0 ∷ []) [] [] ((port (negsuc 0) (pos 1) (pos 5)) ∷ (port (negsuc 0) (pos 1) (pos 5)) ∷ (port (negsuc 0) (pos 1) (pos 5)) ∷ []) ((port (negsuc 0) (pos 1) (pos 5)) ∷ []) 0 0 (true ∷ true ∷ true ∷ []))
 passes207 = refl
 
-passes208 : Passes (codes "SENSOR") (fields [] [] [] (negsuc 0 ∷ []) [] (pos 5 ∷ []) 1 0 [] (pos 1 ∷ []) [] None) (block Sensor (pos 1 ∷ []) [] [] [] ((port (negsuc 0) (pos 1) (pos 5)) ∷ []) 1 0 false)
+passes208 : Passes (codes "SUMMATION") (fields (many 64 (negsuc 0)) [] (many 64 (pos 5)) (negsuc 0 ∷ []) [] (pos 5 ∷ []) 0 0 [] (pos 2 ∷ pos 1 ∷ pos 1 ∷ pos 1 ∷ pos 1 ∷ pos 1 ∷ pos 1 ∷ pos 1 ∷ pos 1 ∷ pos 1 ∷ pos 1 ∷ pos 1 ∷ pos 1 ∷ pos 1 ∷ pos 1 ∷ pos 1 ∷ pos 1 ∷ pos 1 ∷ pos 1 ∷ pos 1 ∷ pos 1 ∷ pos 1 ∷ pos 1 ∷ pos 1 ∷ pos 1 ∷ pos 1 ∷ pos 1 ∷ pos 1 ∷ pos 1 ∷ pos 1 ∷ pos 1 ∷ pos 1 ∷ pos 1 ∷ pos 1 ∷ pos 1 ∷ pos 1 ∷ pos 1 ∷ pos 1 ∷ pos 1 ∷ pos 1 ∷ pos 1 ∷ pos 1 ∷ pos 1 ∷ pos 1 ∷ pos 1 ∷ pos 1 ∷ pos 1 ∷ pos 1 ∷ pos 1 ∷ pos 1 ∷ pos 1 ∷ pos 1 ∷ pos 1 ∷ pos 1 ∷ pos 1 ∷ pos 1 ∷ pos 1 ∷ pos 1 ∷ pos 1 ∷ pos 1 ∷ pos 1 ∷ pos 1 ∷ pos 1 ∷ pos 1 ∷ pos 1 ∷ []) [] (each (many 64 true) false)) (block Summation (pos 2 ∷ pos 1 ∷ pos 1 ∷ pos 1 ∷ pos 1 ∷ pos 1 ∷ pos 1 ∷ pos 1 ∷ pos 1 ∷ pos 1 ∷ pos 1 ∷ pos 1 ∷ pos 1 ∷ pos 1 ∷ pos 1 ∷ pos 1 ∷ pos 1 ∷ pos 1 ∷ pos 1 ∷ pos 1 ∷ pos 1 ∷ pos 1 ∷ pos 1 ∷ pos 1 ∷ pos 1 ∷ pos 1 ∷ pos 1 ∷ pos 1 ∷ pos 1 ∷ pos 1 ∷ pos 1 ∷ pos 1 ∷ pos 1 ∷ pos 1 ∷ pos 1 ∷ pos 1 ∷ pos 1 ∷ pos 1 ∷ pos 1 ∷ pos 1 ∷ pos 1 ∷ pos 1 ∷ pos 1 ∷ pos 1 ∷ pos 1 ∷ pos 1 ∷ pos 1 ∷ pos 1 ∷ pos 1 ∷ pos 1 ∷ pos 1 ∷ pos 1 ∷ pos 1 ∷ pos 1 ∷ pos 1 ∷ pos 1 ∷ pos 1 ∷ pos 1 ∷ pos 1 ∷ pos 1 ∷ pos 1 ∷ pos 1 ∷ pos 1 ∷ pos 1 ∷ pos 1 ∷ []) [] [] (many 64 (port (negsuc 0) (pos 1) (pos 5))) ((port (negsuc 0) (pos 1) (pos 5)) ∷ []) 0 0 (many 64 true))
 passes208 = refl
 
-passes209 : Passes (codes "SENSOR") (fields [] [] [] (negsuc 0 ∷ []) [] (pos 5 ∷ []) 1 0 [] (pos 255 ∷ []) [] None) (block Sensor (pos 255 ∷ []) [] [] [] ((port (negsuc 0) (pos 1) (pos 5)) ∷ []) 1 0 false)
+passes209 : Passes (codes "CONST_m") (fields [] [] [] (negsuc 0 ∷ []) [] (pos 5 ∷ []) 0 0 [] (pos 1 ∷ pos 2 ∷ pos 3 ∷ []) [] None) (block Const (pos 1 ∷ pos 2 ∷ pos 3 ∷ []) [] [] [] ((port (negsuc 0) (pos 1) (pos 5)) ∷ []) 0 0 [])
 passes209 = refl
 
-passes210 : Passes (codes "EVTDLY_c") (fields [] [] [] [] [] [] 1 1 [] (negsuc 0 ∷ []) (pos 0 ∷ []) None) (block EvtDly (negsuc 0 ∷ []) [] (pos 0 ∷ []) [] [] 1 1 false)
+passes210 : Passes (codes "EXTRACTOR") (fields (negsuc 0 ∷ []) [] (pos 5 ∷ []) (negsuc 0 ∷ []) [] (pos 5 ∷ []) 0 0 [] (many 256 (pos 1)) [] None) (block Extractor (many 256 (pos 1)) [] [] ((port (negsuc 0) (pos 1) (pos 5)) ∷ []) ((port (negsuc 0) (pos 1) (pos 5)) ∷ []) 0 0 (true ∷ []))
 passes210 = refl
 
-passes211 : Passes (codes "EVTDLY_c") (fields [] [] [] [] [] [] 1 1 [] (pos 2147483647 ∷ []) (pos 0 ∷ []) None) (block EvtDly (pos 2147483647 ∷ []) [] (pos 0 ∷ []) [] [] 1 1 false)
+passes211 : Passes (codes "SUMMATION") (fields (negsuc 0 ∷ negsuc 0 ∷ []) [] (pos 5 ∷ pos 5 ∷ []) (negsuc 0 ∷ []) [] (pos 5 ∷ []) 0 0 [] (pos 0 ∷ pos 1 ∷ negsuc 0 ∷ []) [] None) (block Summation (pos 0 ∷ pos 1 ∷ negsuc 0 ∷ []) [] [] ((port (negsuc 0) (pos 1) (pos 5)) ∷ (port (negsuc 0) (pos 1) (pos 5)) ∷ []) ((port (negsuc 0) (pos 1) (pos 5)) ∷ []) 0 0 (true ∷ true ∷ []))
 passes211 = refl
 
-passes212 : Passes (codes "DOLLAR_m") (fields (negsuc 0 ∷ []) [] (pos 5 ∷ []) (negsuc 0 ∷ []) [] (pos 5 ∷ []) 1 0 (pos 1000000 ∷ pos 2 ∷ pos 3 ∷ []) [] [] None) (block Dollar [] (pos 1000000 ∷ pos 2 ∷ pos 3 ∷ []) [] ((port (negsuc 0) (pos 1) (pos 5)) ∷ []) ((port (negsuc 0) (pos 1) (pos 5)) ∷ []) 1 0 false)
+passes212 : Passes (codes "SUMMATION") (fields (negsuc 0 ∷ negsuc 0 ∷ []) [] (pos 5 ∷ pos 5 ∷ []) (negsuc 0 ∷ []) [] (pos 5 ∷ []) 0 0 [] (pos 2 ∷ pos 1 ∷ negsuc 0 ∷ []) [] None) (block Summation (pos 2 ∷ pos 1 ∷ negsuc 0 ∷ []) [] [] ((port (negsuc 0) (pos 1) (pos 5)) ∷ (port (negsuc 0) (pos 1) (pos 5)) ∷ []) ((port (negsuc 0) (pos 1) (pos 5)) ∷ []) 0 0 (true ∷ true ∷ []))
 passes212 = refl
 
-passes213 : Passes (codes "GATED_DELAY") (fields (negsuc 0 ∷ negsuc 0 ∷ []) [] (pos 5 ∷ pos 5 ∷ []) (negsuc 0 ∷ []) [] (pos 5 ∷ []) 1 0 (pos 1 ∷ pos 2 ∷ []) [] [] None) (block GatedDelay [] (pos 1 ∷ pos 2 ∷ []) [] ((port (negsuc 0) (pos 1) (pos 5)) ∷ (port (negsuc 0) (pos 1) (pos 5)) ∷ []) ((port (negsuc 0) (pos 1) (pos 5)) ∷ []) 1 0 true)
+passes213 : Passes (codes "GAINBLK") (fields (negsuc 0 ∷ []) [] (pos 5 ∷ []) (negsuc 0 ∷ []) [] (pos 5 ∷ []) 0 0 [] (pos 0 ∷ pos 3 ∷ []) [] None) (block GainBlk (pos 0 ∷ pos 3 ∷ []) [] [] ((port (negsuc 0) (pos 1) (pos 5)) ∷ []) ((port (negsuc 0) (pos 1) (pos 5)) ∷ []) 0 0 (true ∷ []))
 passes213 = refl
 
-passes214 : Passes (codes "REGISTER") (fields (negsuc 0 ∷ []) [] (pos 5 ∷ []) (negsuc 0 ∷ []) [] (pos 5 ∷ []) 1 0 (many 256 (pos 1)) [] [] None) (block Register [] (many 256 (pos 1)) [] ((port (negsuc 0) (pos 1) (pos 5)) ∷ []) ((port (negsuc 0) (pos 1) (pos 5)) ∷ []) 1 0 false)
+passes214 : Passes (codes "GAINBLK") (fields (negsuc 0 ∷ []) [] (pos 5 ∷ []) (negsuc 0 ∷ []) [] (pos 5 ∷ []) 0 0 [] (pos 2 ∷ pos 3 ∷ []) [] None) (block GainBlk (pos 2 ∷ pos 3 ∷ []) [] [] ((port (negsuc 0) (pos 1) (pos 5)) ∷ []) ((port (negsuc 0) (pos 1) (pos 5)) ∷ []) 0 0 (true ∷ []))
 passes214 = refl
 
-passes215 : Passes (codes "Modulo_Count") (fields [] [] [] (negsuc 0 ∷ []) [] (pos 5 ∷ []) 1 0 (pos 0 ∷ []) (pos 10 ∷ []) [] None) (block ModuloCount (pos 10 ∷ []) (pos 0 ∷ []) [] [] ((port (negsuc 0) (pos 1) (pos 5)) ∷ []) 1 0 false)
+passes215 : Passes (codes "GAINBLK") (fields (negsuc 0 ∷ []) [] (pos 5 ∷ []) (negsuc 0 ∷ []) [] (pos 5 ∷ []) 0 0 [] (pos 0 ∷ pos 9223372036854775807 ∷ []) [] None) (block GainBlk (pos 0 ∷ pos 9223372036854775807 ∷ []) [] [] ((port (negsuc 0) (pos 1) (pos 5)) ∷ []) ((port (negsuc 0) (pos 1) (pos 5)) ∷ []) 0 0 (true ∷ []))
 passes215 = refl
 
-passes216 : Passes (codes "Modulo_Count") (fields [] [] [] (negsuc 0 ∷ []) [] (pos 5 ∷ []) 1 0 (pos 9 ∷ []) (pos 10 ∷ []) [] None) (block ModuloCount (pos 10 ∷ []) (pos 9 ∷ []) [] [] ((port (negsuc 0) (pos 1) (pos 5)) ∷ []) 1 0 false)
+passes216 : Passes (codes "PRODUCT") (fields (negsuc 0 ∷ negsuc 0 ∷ []) [] (pos 5 ∷ pos 5 ∷ []) (negsuc 0 ∷ []) [] (pos 5 ∷ []) 0 0 [] (pos 0 ∷ pos 1 ∷ []) [] None) (block Product (pos 0 ∷ pos 1 ∷ []) [] [] ((port (negsuc 0) (pos 1) (pos 5)) ∷ (port (negsuc 0) (pos 1) (pos 5)) ∷ []) ((port (negsuc 0) (pos 1) (pos 5)) ∷ []) 0 0 (true ∷ true ∷ []))
 passes216 = refl
 
-passes217 : Passes (codes "GAINBLK") (fields (negsuc 0 ∷ []) [] (pos 5 ∷ []) (negsuc 0 ∷ []) [] (pos 5 ∷ []) 0 0 (pos 9 ∷ pos 9 ∷ pos 9 ∷ []) (pos 0 ∷ pos 3 ∷ []) [] None) (block GainBlk (pos 0 ∷ pos 3 ∷ []) [] [] ((port (negsuc 0) (pos 1) (pos 5)) ∷ []) ((port (negsuc 0) (pos 1) (pos 5)) ∷ []) 0 0 true)
+passes217 : Passes (codes "PRODUCT") (fields (negsuc 0 ∷ negsuc 0 ∷ []) [] (pos 5 ∷ pos 5 ∷ []) (negsuc 0 ∷ []) [] (pos 5 ∷ []) 0 0 [] (pos 2 ∷ pos 1 ∷ []) [] None) (block Product (pos 2 ∷ pos 1 ∷ []) [] [] ((port (negsuc 0) (pos 1) (pos 5)) ∷ (port (negsuc 0) (pos 1) (pos 5)) ∷ []) ((port (negsuc 0) (pos 1) (pos 5)) ∷ []) 0 0 (true ∷ true ∷ []))
 passes217 = refl
 
-passes218 : Passes (codes "EVTDLY_c") (fields [] [] [] [] [] [] 1 1 [] (pos 5 ∷ []) (pos 2147483647 ∷ []) None) (block EvtDly (pos 5 ∷ []) [] (pos 2147483647 ∷ []) [] [] 1 1 false)
+passes218 : Passes (codes "PRODUCT") (fields (negsuc 0 ∷ negsuc 0 ∷ []) [] (pos 5 ∷ pos 5 ∷ []) (negsuc 0 ∷ []) [] (pos 5 ∷ []) 0 0 [] (pos 2 ∷ negsuc 0 ∷ []) [] None) (block Product (pos 2 ∷ negsuc 0 ∷ []) [] [] ((port (negsuc 0) (pos 1) (pos 5)) ∷ (port (negsuc 0) (pos 1) (pos 5)) ∷ []) ((port (negsuc 0) (pos 1) (pos 5)) ∷ []) 0 0 (true ∷ true ∷ []))
 passes218 = refl
 
-passes219 : Passes (codes "EVTDLY_c") (fields [] [] [] [] [] [] 1 1 [] (pos 5 ∷ []) (negsuc 9223372036854775807 ∷ []) None) (block EvtDly (pos 5 ∷ []) [] (negsuc 9223372036854775807 ∷ []) [] [] 1 1 false)
+passes219 : Passes (codes "ABS_VALUE") (fields (negsuc 0 ∷ []) [] (pos 5 ∷ []) (negsuc 0 ∷ []) [] (pos 5 ∷ []) 0 0 [] (pos 0 ∷ []) [] None) (block AbsValue (pos 0 ∷ []) [] [] ((port (negsuc 0) (pos 1) (pos 5)) ∷ []) ((port (negsuc 0) (pos 1) (pos 5)) ∷ []) 0 0 (true ∷ []))
 passes219 = refl
 
-passes220 : Passes (codes "EVTVARDLY") (fields (negsuc 0 ∷ []) [] (pos 5 ∷ []) [] [] [] 1 1 [] [] (pos 2147483647 ∷ []) None) (block EvtVarDly [] [] (pos 2147483647 ∷ []) ((port (negsuc 0) (pos 1) (pos 5)) ∷ []) [] 1 1 false)
+passes220 : Passes (codes "ABS_VALUE") (fields (negsuc 0 ∷ []) [] (pos 5 ∷ []) (negsuc 0 ∷ []) [] (pos 5 ∷ []) 0 0 [] (pos 2 ∷ []) [] None) (block AbsValue (pos 2 ∷ []) [] [] ((port (negsuc 0) (pos 1) (pos 5)) ∷ []) ((port (negsuc 0) (pos 1) (pos 5)) ∷ []) 0 0 (true ∷ []))
 passes220 = refl
 
-passes221 : Passes (codes "EVTVARDLY") (fields (negsuc 0 ∷ []) [] (pos 5 ∷ []) [] [] [] 1 1 [] [] (negsuc 9223372036854775807 ∷ []) None) (block EvtVarDly [] [] (negsuc 9223372036854775807 ∷ []) ((port (negsuc 0) (pos 1) (pos 5)) ∷ []) [] 1 1 false)
+passes221 : Passes (codes "MAXMIN") (fields (negsuc 0 ∷ negsuc 0 ∷ []) [] (pos 5 ∷ pos 5 ∷ []) (negsuc 0 ∷ []) [] (pos 5 ∷ []) 0 0 [] (pos 1 ∷ []) [] None) (block MaxMin (pos 1 ∷ []) [] [] ((port (negsuc 0) (pos 1) (pos 5)) ∷ (port (negsuc 0) (pos 1) (pos 5)) ∷ []) ((port (negsuc 0) (pos 1) (pos 5)) ∷ []) 0 0 (true ∷ true ∷ []))
 passes221 = refl
+
+passes222 : Passes (codes "MAXMIN") (fields (negsuc 0 ∷ negsuc 0 ∷ []) [] (pos 5 ∷ pos 5 ∷ []) (negsuc 0 ∷ []) [] (pos 5 ∷ []) 0 0 [] (pos 2 ∷ []) [] None) (block MaxMin (pos 2 ∷ []) [] [] ((port (negsuc 0) (pos 1) (pos 5)) ∷ (port (negsuc 0) (pos 1) (pos 5)) ∷ []) ((port (negsuc 0) (pos 1) (pos 5)) ∷ []) 0 0 (true ∷ true ∷ []))
+passes222 = refl
+
+passes223 : Passes (codes "SATURATION") (fields (negsuc 0 ∷ []) [] (pos 5 ∷ []) (negsuc 0 ∷ []) [] (pos 5 ∷ []) 0 0 [] (pos 5 ∷ pos 5 ∷ []) [] None) (block Saturation (pos 5 ∷ pos 5 ∷ []) [] [] ((port (negsuc 0) (pos 1) (pos 5)) ∷ []) ((port (negsuc 0) (pos 1) (pos 5)) ∷ []) 0 0 (true ∷ []))
+passes223 = refl
+
+passes224 : Passes (codes "DEADBAND") (fields (negsuc 0 ∷ []) [] (pos 5 ∷ []) (negsuc 0 ∷ []) [] (pos 5 ∷ []) 0 0 [] (pos 0 ∷ negsuc 4 ∷ pos 5 ∷ []) [] None) (block DeadBand (pos 0 ∷ negsuc 4 ∷ pos 5 ∷ []) [] [] ((port (negsuc 0) (pos 1) (pos 5)) ∷ []) ((port (negsuc 0) (pos 1) (pos 5)) ∷ []) 0 0 (true ∷ []))
+passes224 = refl
+
+passes225 : Passes (codes "DEADBAND") (fields (negsuc 0 ∷ []) [] (pos 5 ∷ []) (negsuc 0 ∷ []) [] (pos 5 ∷ []) 0 0 [] (pos 2 ∷ negsuc 4 ∷ pos 5 ∷ []) [] None) (block DeadBand (pos 2 ∷ negsuc 4 ∷ pos 5 ∷ []) [] [] ((port (negsuc 0) (pos 1) (pos 5)) ∷ []) ((port (negsuc 0) (pos 1) (pos 5)) ∷ []) 0 0 (true ∷ []))
+passes225 = refl
+
+passes226 : Passes (codes "DEADBAND") (fields (negsuc 0 ∷ []) [] (pos 5 ∷ []) (negsuc 0 ∷ []) [] (pos 5 ∷ []) 0 0 [] (pos 0 ∷ pos 5 ∷ pos 5 ∷ []) [] None) (block DeadBand (pos 0 ∷ pos 5 ∷ pos 5 ∷ []) [] [] ((port (negsuc 0) (pos 1) (pos 5)) ∷ []) ((port (negsuc 0) (pos 1) (pos 5)) ∷ []) 0 0 (true ∷ []))
+passes226 = refl
+
+passes227 : Passes (codes "CONVERT") (fields (negsuc 0 ∷ []) [] (pos 5 ∷ []) (negsuc 0 ∷ []) [] (pos 5 ∷ []) 0 0 [] (pos 0 ∷ []) [] None) (block Convert (pos 0 ∷ []) [] [] ((port (negsuc 0) (pos 1) (pos 5)) ∷ []) ((port (negsuc 0) (pos 1) (pos 5)) ∷ []) 0 0 (true ∷ []))
+passes227 = refl
+
+passes228 : Passes (codes "CONVERT") (fields (negsuc 0 ∷ []) [] (pos 5 ∷ []) (negsuc 0 ∷ []) [] (pos 5 ∷ []) 0 0 [] (pos 2 ∷ []) [] None) (block Convert (pos 2 ∷ []) [] [] ((port (negsuc 0) (pos 1) (pos 5)) ∷ []) ((port (negsuc 0) (pos 1) (pos 5)) ∷ []) 0 0 (true ∷ []))
+passes228 = refl
+
+passes229 : Passes (codes "EXTRACTOR") (fields (negsuc 0 ∷ []) [] (pos 5 ∷ []) (negsuc 0 ∷ []) [] (pos 5 ∷ []) 0 0 [] (pos 1000000 ∷ []) [] None) (block Extractor (pos 1000000 ∷ []) [] [] ((port (negsuc 0) (pos 1) (pos 5)) ∷ []) ((port (negsuc 0) (pos 1) (pos 5)) ∷ []) 0 0 (true ∷ []))
+passes229 = refl
+
+passes230 : Passes (codes "LOGICAL_OP") (fields (negsuc 0 ∷ negsuc 0 ∷ []) [] (pos 5 ∷ pos 5 ∷ []) (negsuc 0 ∷ []) [] (pos 5 ∷ []) 0 0 [] (pos 0 ∷ pos 0 ∷ []) [] None) (block LogicalOp (pos 0 ∷ pos 0 ∷ []) [] [] ((port (negsuc 0) (pos 1) (pos 5)) ∷ (port (negsuc 0) (pos 1) (pos 5)) ∷ []) ((port (negsuc 0) (pos 1) (pos 5)) ∷ []) 0 0 (true ∷ true ∷ []))
+passes230 = refl
+
+passes231 : Passes (codes "LOGICAL_OP") (fields (negsuc 0 ∷ negsuc 0 ∷ []) [] (pos 5 ∷ pos 5 ∷ []) (negsuc 0 ∷ []) [] (pos 5 ∷ []) 0 0 [] (pos 4 ∷ pos 0 ∷ []) [] None) (block LogicalOp (pos 4 ∷ pos 0 ∷ []) [] [] ((port (negsuc 0) (pos 1) (pos 5)) ∷ (port (negsuc 0) (pos 1) (pos 5)) ∷ []) ((port (negsuc 0) (pos 1) (pos 5)) ∷ []) 0 0 (true ∷ true ∷ []))
+passes231 = refl
+
+passes232 : Passes (codes "LOGICAL_OP") (fields (negsuc 0 ∷ []) [] (pos 5 ∷ []) (negsuc 0 ∷ []) [] (pos 5 ∷ []) 0 0 [] (pos 5 ∷ pos 1 ∷ []) [] None) (block LogicalOp (pos 5 ∷ pos 1 ∷ []) [] [] ((port (negsuc 0) (pos 1) (pos 5)) ∷ []) ((port (negsuc 0) (pos 1) (pos 5)) ∷ []) 0 0 (true ∷ []))
+passes232 = refl
+
+passes233 : Passes (codes "LOGICAL_OP") (fields (negsuc 0 ∷ []) [] (pos 5 ∷ []) (negsuc 0 ∷ []) [] (pos 5 ∷ []) 0 0 [] (pos 5 ∷ pos 1 ∷ []) [] None) (block LogicalOp (pos 5 ∷ pos 1 ∷ []) [] [] ((port (negsuc 0) (pos 1) (pos 5)) ∷ []) ((port (negsuc 0) (pos 1) (pos 5)) ∷ []) 0 0 (true ∷ []))
+passes233 = refl
+
+passes234 : Passes (codes "LOGICAL_OP") (fields (negsuc 0 ∷ negsuc 0 ∷ []) [] (pos 5 ∷ pos 5 ∷ []) (negsuc 0 ∷ []) [] (pos 5 ∷ []) 0 0 [] (pos 4 ∷ pos 0 ∷ []) [] None) (block LogicalOp (pos 4 ∷ pos 0 ∷ []) [] [] ((port (negsuc 0) (pos 1) (pos 5)) ∷ (port (negsuc 0) (pos 1) (pos 5)) ∷ []) ((port (negsuc 0) (pos 1) (pos 5)) ∷ []) 0 0 (true ∷ true ∷ []))
+passes234 = refl
+
+passes235 : Passes (codes "LOGICAL_OP") (fields (negsuc 0 ∷ negsuc 0 ∷ []) [] (pos 5 ∷ pos 5 ∷ []) (negsuc 0 ∷ []) [] (pos 5 ∷ []) 0 0 [] (pos 4 ∷ pos 1 ∷ []) [] None) (block LogicalOp (pos 4 ∷ pos 1 ∷ []) [] [] ((port (negsuc 0) (pos 1) (pos 5)) ∷ (port (negsuc 0) (pos 1) (pos 5)) ∷ []) ((port (negsuc 0) (pos 1) (pos 5)) ∷ []) 0 0 (true ∷ true ∷ []))
+passes235 = refl
+
+passes236 : Passes (codes "RELATIONALOP") (fields (negsuc 0 ∷ negsuc 0 ∷ []) [] (pos 5 ∷ pos 5 ∷ []) (negsuc 0 ∷ []) [] (pos 5 ∷ []) 0 0 [] (pos 0 ∷ []) [] None) (block RelationalOp (pos 0 ∷ []) [] [] ((port (negsuc 0) (pos 1) (pos 5)) ∷ (port (negsuc 0) (pos 1) (pos 5)) ∷ []) ((port (negsuc 0) (pos 1) (pos 5)) ∷ []) 0 0 (true ∷ true ∷ []))
+passes236 = refl
+
+passes237 : Passes (codes "RELATIONALOP") (fields (negsuc 0 ∷ negsuc 0 ∷ []) [] (pos 5 ∷ pos 5 ∷ []) (negsuc 0 ∷ []) [] (pos 5 ∷ []) 0 0 [] (pos 5 ∷ []) [] None) (block RelationalOp (pos 5 ∷ []) [] [] ((port (negsuc 0) (pos 1) (pos 5)) ∷ (port (negsuc 0) (pos 1) (pos 5)) ∷ []) ((port (negsuc 0) (pos 1) (pos 5)) ∷ []) 0 0 (true ∷ true ∷ []))
+passes237 = refl
+
+passes238 : Passes (codes "SHIFT") (fields (negsuc 0 ∷ []) [] (pos 5 ∷ []) (negsuc 0 ∷ []) [] (pos 5 ∷ []) 0 0 [] (negsuc 30 ∷ pos 0 ∷ []) [] None) (block Shift (negsuc 30 ∷ pos 0 ∷ []) [] [] ((port (negsuc 0) (pos 1) (pos 5)) ∷ []) ((port (negsuc 0) (pos 1) (pos 5)) ∷ []) 0 0 (true ∷ []))
+passes238 = refl
+
+passes239 : Passes (codes "SHIFT") (fields (negsuc 0 ∷ []) [] (pos 5 ∷ []) (negsuc 0 ∷ []) [] (pos 5 ∷ []) 0 0 [] (pos 31 ∷ pos 0 ∷ []) [] None) (block Shift (pos 31 ∷ pos 0 ∷ []) [] [] ((port (negsuc 0) (pos 1) (pos 5)) ∷ []) ((port (negsuc 0) (pos 1) (pos 5)) ∷ []) 0 0 (true ∷ []))
+passes239 = refl
+
+passes240 : Passes (codes "SHIFT") (fields (negsuc 0 ∷ []) [] (pos 5 ∷ []) (negsuc 0 ∷ []) [] (pos 5 ∷ []) 0 0 [] (negsuc 30 ∷ pos 0 ∷ []) [] None) (block Shift (negsuc 30 ∷ pos 0 ∷ []) [] [] ((port (negsuc 0) (pos 1) (pos 5)) ∷ []) ((port (negsuc 0) (pos 1) (pos 5)) ∷ []) 0 0 (true ∷ []))
+passes240 = refl
+
+passes241 : Passes (codes "SHIFT") (fields (negsuc 0 ∷ []) [] (pos 5 ∷ []) (negsuc 0 ∷ []) [] (pos 5 ∷ []) 0 0 [] (negsuc 30 ∷ pos 1 ∷ []) [] None) (block Shift (negsuc 30 ∷ pos 1 ∷ []) [] [] ((port (negsuc 0) (pos 1) (pos 5)) ∷ []) ((port (negsuc 0) (pos 1) (pos 5)) ∷ []) 0 0 (true ∷ []))
+passes241 = refl
+
+passes242 : Passes (codes "BITSET") (fields (negsuc 0 ∷ []) [] (pos 5 ∷ []) (negsuc 0 ∷ []) [] (pos 5 ∷ []) 0 0 [] (pos 0 ∷ []) [] None) (block BitSet (pos 0 ∷ []) [] [] ((port (negsuc 0) (pos 1) (pos 5)) ∷ []) ((port (negsuc 0) (pos 1) (pos 5)) ∷ []) 0 0 (true ∷ []))
+passes242 = refl
+
+passes243 : Passes (codes "BITSET") (fields (negsuc 0 ∷ []) [] (pos 5 ∷ []) (negsuc 0 ∷ []) [] (pos 5 ∷ []) 0 0 [] (pos 31 ∷ []) [] None) (block BitSet (pos 31 ∷ []) [] [] ((port (negsuc 0) (pos 1) (pos 5)) ∷ []) ((port (negsuc 0) (pos 1) (pos 5)) ∷ []) 0 0 (true ∷ []))
+passes243 = refl
+
+passes244 : Passes (codes "BITCLEAR") (fields (negsuc 0 ∷ []) [] (pos 5 ∷ []) (negsuc 0 ∷ []) [] (pos 5 ∷ []) 0 0 [] (pos 0 ∷ []) [] None) (block BitClear (pos 0 ∷ []) [] [] ((port (negsuc 0) (pos 1) (pos 5)) ∷ []) ((port (negsuc 0) (pos 1) (pos 5)) ∷ []) 0 0 (true ∷ []))
+passes244 = refl
+
+passes245 : Passes (codes "BITCLEAR") (fields (negsuc 0 ∷ []) [] (pos 5 ∷ []) (negsuc 0 ∷ []) [] (pos 5 ∷ []) 0 0 [] (pos 31 ∷ []) [] None) (block BitClear (pos 31 ∷ []) [] [] ((port (negsuc 0) (pos 1) (pos 5)) ∷ []) ((port (negsuc 0) (pos 1) (pos 5)) ∷ []) 0 0 (true ∷ []))
+passes245 = refl
+
+passes246 : Passes (codes "EXTRACTBITS") (fields (negsuc 0 ∷ []) [] (pos 5 ∷ []) (negsuc 0 ∷ []) [] (pos 5 ∷ []) 0 0 [] (pos 4 ∷ pos 4 ∷ []) [] None) (block ExtractBits (pos 4 ∷ pos 4 ∷ []) [] [] ((port (negsuc 0) (pos 1) (pos 5)) ∷ []) ((port (negsuc 0) (pos 1) (pos 5)) ∷ []) 0 0 (true ∷ []))
+passes246 = refl
+
+passes247 : Passes (codes "EXTRACTBITS") (fields (negsuc 0 ∷ []) [] (pos 5 ∷ []) (negsuc 0 ∷ []) [] (pos 5 ∷ []) 0 0 [] (pos 0 ∷ pos 31 ∷ []) [] None) (block ExtractBits (pos 0 ∷ pos 31 ∷ []) [] [] ((port (negsuc 0) (pos 1) (pos 5)) ∷ []) ((port (negsuc 0) (pos 1) (pos 5)) ∷ []) 0 0 (true ∷ []))
+passes247 = refl
+
+passes248 : Passes (codes "SWITCH2_m") (fields (negsuc 0 ∷ negsuc 0 ∷ negsuc 0 ∷ []) [] (pos 5 ∷ pos 5 ∷ pos 5 ∷ []) (negsuc 0 ∷ []) [] (pos 5 ∷ []) 0 0 [] (pos 0 ∷ pos 0 ∷ []) [] None) (block Switch2 (pos 0 ∷ pos 0 ∷ []) [] [] ((port (negsuc 0) (pos 1) (pos 5)) ∷ (port (negsuc 0) (pos 1) (pos 5)) ∷ (port (negsuc 0) (pos 1) (pos 5)) ∷ []) ((port (negsuc 0) (pos 1) (pos 5)) ∷ []) 0 0 (true ∷ true ∷ true ∷ []))
+passes248 = refl
+
+passes249 : Passes (codes "SWITCH2_m") (fields (negsuc 0 ∷ negsuc 0 ∷ negsuc 0 ∷ []) [] (pos 5 ∷ pos 5 ∷ pos 5 ∷ []) (negsuc 0 ∷ []) [] (pos 5 ∷ []) 0 0 [] (pos 2 ∷ pos 0 ∷ []) [] None) (block Switch2 (pos 2 ∷ pos 0 ∷ []) [] [] ((port (negsuc 0) (pos 1) (pos 5)) ∷ (port (negsuc 0) (pos 1) (pos 5)) ∷ (port (negsuc 0) (pos 1) (pos 5)) ∷ []) ((port (negsuc 0) (pos 1) (pos 5)) ∷ []) 0 0 (true ∷ true ∷ true ∷ []))
+passes249 = refl
+
+passes250 : Passes (codes "SWITCH2_m") (fields (negsuc 0 ∷ negsuc 0 ∷ negsuc 0 ∷ []) [] (pos 5 ∷ pos 5 ∷ pos 5 ∷ []) (negsuc 0 ∷ []) [] (pos 5 ∷ []) 0 0 [] (pos 0 ∷ negsuc 2147483647 ∷ []) [] None) (block Switch2 (pos 0 ∷ negsuc 2147483647 ∷ []) [] [] ((port (negsuc 0) (pos 1) (pos 5)) ∷ (port (negsuc 0) (pos 1) (pos 5)) ∷ (port (negsuc 0) (pos 1) (pos 5)) ∷ []) ((port (negsuc 0) (pos 1) (pos 5)) ∷ []) 0 0 (true ∷ true ∷ true ∷ []))
+passes250 = refl
+
+passes251 : Passes (codes "SWITCH2_m") (fields (negsuc 0 ∷ negsuc 0 ∷ negsuc 0 ∷ []) [] (pos 5 ∷ pos 5 ∷ pos 5 ∷ []) (negsuc 0 ∷ []) [] (pos 5 ∷ []) 0 0 [] (pos 0 ∷ pos 4294967295 ∷ []) [] None) (block Switch2 (pos 0 ∷ pos 4294967295 ∷ []) [] [] ((port (negsuc 0) (pos 1) (pos 5)) ∷ (port (negsuc 0) (pos 1) (pos 5)) ∷ (port (negsuc 0) (pos 1) (pos 5)) ∷ []) ((port (negsuc 0) (pos 1) (pos 5)) ∷ []) 0 0 (true ∷ true ∷ true ∷ []))
+passes251 = refl
+
+passes252 : Passes (codes "Modulo_Count") (fields [] [] [] (negsuc 0 ∷ []) [] (pos 5 ∷ []) 1 0 (pos 0 ∷ []) (pos 1 ∷ []) [] None) (block ModuloCount (pos 1 ∷ []) (pos 0 ∷ []) [] [] ((port (negsuc 0) (pos 1) (pos 5)) ∷ []) 1 0 [])
+passes252 = refl
+
+passes253 : Passes (codes "Modulo_Count") (fields [] [] [] (negsuc 0 ∷ []) [] (pos 5 ∷ []) 1 0 (pos 0 ∷ []) (pos 2147483647 ∷ []) [] None) (block ModuloCount (pos 2147483647 ∷ []) (pos 0 ∷ []) [] [] ((port (negsuc 0) (pos 1) (pos 5)) ∷ []) 1 0 [])
+passes253 = refl
+
+passes254 : Passes (codes "SENSOR") (fields [] [] [] (negsuc 0 ∷ []) [] (pos 5 ∷ []) 1 0 [] (pos 1 ∷ []) [] None) (block Sensor (pos 1 ∷ []) [] [] [] ((port (negsuc 0) (pos 1) (pos 5)) ∷ []) 1 0 [])
+passes254 = refl
+
+passes255 : Passes (codes "SENSOR") (fields [] [] [] (negsuc 0 ∷ []) [] (pos 5 ∷ []) 1 0 [] (pos 255 ∷ []) [] None) (block Sensor (pos 255 ∷ []) [] [] [] ((port (negsuc 0) (pos 1) (pos 5)) ∷ []) 1 0 [])
+passes255 = refl
+
+passes256 : Passes (codes "EVTDLY_c") (fields [] [] [] [] [] [] 1 1 [] (negsuc 0 ∷ []) (pos 0 ∷ []) None) (block EvtDly (negsuc 0 ∷ []) [] (pos 0 ∷ []) [] [] 1 1 [])
+passes256 = refl
+
+passes257 : Passes (codes "EVTDLY_c") (fields [] [] [] [] [] [] 1 1 [] (pos 2147483647 ∷ []) (pos 0 ∷ []) None) (block EvtDly (pos 2147483647 ∷ []) [] (pos 0 ∷ []) [] [] 1 1 [])
+passes257 = refl
+
+passes258 : Passes (codes "DOLLAR_m") (fields (negsuc 0 ∷ []) [] (pos 5 ∷ []) (negsuc 0 ∷ []) [] (pos 5 ∷ []) 1 0 (pos 1000000 ∷ pos 2 ∷ pos 3 ∷ []) [] [] None) (block Dollar [] (pos 1000000 ∷ pos 2 ∷ pos 3 ∷ []) [] ((port (negsuc 0) (pos 1) (pos 5)) ∷ []) ((port (negsuc 0) (pos 1) (pos 5)) ∷ []) 1 0 (false ∷ []))
+passes258 = refl
+
+passes259 : Passes (codes "GATED_DELAY") (fields (negsuc 0 ∷ negsuc 0 ∷ []) [] (pos 5 ∷ pos 5 ∷ []) (negsuc 0 ∷ []) [] (pos 5 ∷ []) 1 0 (pos 1 ∷ pos 2 ∷ []) [] [] None) (block GatedDelay [] (pos 1 ∷ pos 2 ∷ []) [] ((port (negsuc 0) (pos 1) (pos 5)) ∷ (port (negsuc 0) (pos 1) (pos 5)) ∷ []) ((port (negsuc 0) (pos 1) (pos 5)) ∷ []) 1 0 (false ∷ true ∷ []))
+passes259 = refl
+
+passes260 : Passes (codes "REGISTER") (fields (negsuc 0 ∷ []) [] (pos 5 ∷ []) (negsuc 0 ∷ []) [] (pos 5 ∷ []) 1 0 (many 256 (pos 1)) [] [] None) (block Register [] (many 256 (pos 1)) [] ((port (negsuc 0) (pos 1) (pos 5)) ∷ []) ((port (negsuc 0) (pos 1) (pos 5)) ∷ []) 1 0 (false ∷ []))
+passes260 = refl
+
+passes261 : Passes (codes "Modulo_Count") (fields [] [] [] (negsuc 0 ∷ []) [] (pos 5 ∷ []) 1 0 (pos 0 ∷ []) (pos 10 ∷ []) [] None) (block ModuloCount (pos 10 ∷ []) (pos 0 ∷ []) [] [] ((port (negsuc 0) (pos 1) (pos 5)) ∷ []) 1 0 [])
+passes261 = refl
+
+passes262 : Passes (codes "Modulo_Count") (fields [] [] [] (negsuc 0 ∷ []) [] (pos 5 ∷ []) 1 0 (pos 9 ∷ []) (pos 10 ∷ []) [] None) (block ModuloCount (pos 10 ∷ []) (pos 9 ∷ []) [] [] ((port (negsuc 0) (pos 1) (pos 5)) ∷ []) 1 0 [])
+passes262 = refl
+
+passes263 : Passes (codes "GAINBLK") (fields (negsuc 0 ∷ []) [] (pos 5 ∷ []) (negsuc 0 ∷ []) [] (pos 5 ∷ []) 0 0 (pos 9 ∷ pos 9 ∷ pos 9 ∷ []) (pos 0 ∷ pos 3 ∷ []) [] None) (block GainBlk (pos 0 ∷ pos 3 ∷ []) [] [] ((port (negsuc 0) (pos 1) (pos 5)) ∷ []) ((port (negsuc 0) (pos 1) (pos 5)) ∷ []) 0 0 (true ∷ []))
+passes263 = refl
+
+passes264 : Passes (codes "EVTDLY_c") (fields [] [] [] [] [] [] 1 1 [] (pos 5 ∷ []) (pos 2147483647 ∷ []) None) (block EvtDly (pos 5 ∷ []) [] (pos 2147483647 ∷ []) [] [] 1 1 [])
+passes264 = refl
+
+passes265 : Passes (codes "EVTDLY_c") (fields [] [] [] [] [] [] 1 1 [] (pos 5 ∷ []) (negsuc 9223372036854775807 ∷ []) None) (block EvtDly (pos 5 ∷ []) [] (negsuc 9223372036854775807 ∷ []) [] [] 1 1 [])
+passes265 = refl
+
+passes266 : Passes (codes "EVTVARDLY") (fields (negsuc 0 ∷ []) [] (pos 5 ∷ []) [] [] [] 1 1 [] [] (pos 2147483647 ∷ []) None) (block EvtVarDly [] [] (pos 2147483647 ∷ []) ((port (negsuc 0) (pos 1) (pos 5)) ∷ []) [] 1 1 (false ∷ []))
+passes266 = refl
+
+passes267 : Passes (codes "EVTVARDLY") (fields (negsuc 0 ∷ []) [] (pos 5 ∷ []) [] [] [] 1 1 [] [] (negsuc 9223372036854775807 ∷ []) None) (block EvtVarDly [] [] (negsuc 9223372036854775807 ∷ []) ((port (negsuc 0) (pos 1) (pos 5)) ∷ []) [] 1 1 (false ∷ []))
+passes267 = refl

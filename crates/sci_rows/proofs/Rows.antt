@@ -1,10 +1,10 @@
 -- Rows of the table of kinds 14 to 34, each of a typed spec. Written by tools/kind_rows.py.
-use Rattle.std.proofs.Common.{◌≡◌, ℕ, ℤ, pos, negsuc, List, [], ◌∷◌, true, refl}
+use Rattle.std.proofs.Common.{◌≡◌, ℕ, ℤ, pos, negsuc, List, [], ◌∷◌, length, true, refl}
 use Rattle.sci_forms.specs.declared.Kind.{Kind}
 use Rattle.sci_forms.specs.declared.Kind.TheVariants.{LogicalOp, RelationalOp, Shift, BitSet, BitClear, ExtractBits, Switch2, Select, Logic, AndLog, Dollar, SampHold, Register, ModuloCount, GatedDelay, Sensor, EvtDly, EvtVarDly, IfThEl, ESelect, Halt}
 use Rattle.sci_forms.specs.declared.ports.Port.{Port}
 use Rattle.sci_forms.specs.declared.spec.Spec.{Spec}
-use Rattle.sci_forms.specs.Forms.{feeds}
+use Rattle.sci_forms.specs.Forms.{own_feed}
 use Rattle.sci_forms.specs.Typed.{typed}
 use Rattle.sci_kinds.specs.Table.{Values, out, next, delay, branch}
 
@@ -13,7 +13,7 @@ scalar ty = record { rows = pos 1; cols = pos 1; ty = pos ty }
 
 -- a block by its kind, parameters, state, first dates, inputs, outputs and counts of activation ports
 abbrev block : Kind → List ℤ → List ℤ → List ℤ → List Port → List Port → ℕ → ℕ → Spec
-block k ps xs fs is os a b = record { kind = k; params = ps; state = xs; firing = fs; ins = is; outs = os; evtin = a; evtout = b; feed = feeds k }
+block k ps xs fs is os a b = record { kind = k; params = ps; state = xs; firing = fs; ins = is; outs = os; evtin = a; evtout = b; feed = own_feed k (length is) }
 
 -- from a state, a mask and inputs a block gives these values
 abbrev Gives : Spec → List ℤ → ℕ → List ℤ → List ℤ → Type 0

@@ -4,7 +4,7 @@ use Rattle.std.proofs.lemmas.Bool.{cases_lt}
 use Rattle.std.proofs.lemmas.List.{get_or_default, get_or_append_left, get_or_push, map-append}
 use Rattle.std.proofs.lemmas.List.Elements.{All-contains, All-push}
 use Rattle.std.specs.declared.alloc.Global.{Global}
-use Rattle.sci_walk.specs.Lists.{plain, list_at}
+use Rattle.sci_loop.specs.Lists.{plain, list_at}
 use Rattle.sci_net.specs.declared.Feed.{Feed}
 use Rattle.sci_net.specs.declared.Source.{Source}
 use Rattle.sci_net.specs.Parts.{Parts, numbered}

@@ -8,7 +8,7 @@ use Rattle.std.proofs.lemmas.Bool.{cases_eq, cases_lt}
 use Rattle.std.proofs.lemmas.List.{get_or_default, get_or-set_same, get_or-set_other, get_or-take, get_or_push, get_or_append_left, take_more, length-take-le, length-append}
 use Rattle.std.proofs.lemmas.List.Elements.{All-contains}
 use Rattle.std.proofs.lemmas.Option.{slice_get_within, get_or_from_slice_get}
-use Rattle.sci_relation.specs.Depth.{ChainTo, IsDepth}
+use Rattle.sci_loop.specs.Depth.{ChainTo, IsDepth}
 use Rattle.sci_loop.specs.declared.table.DepTable.{DepTable}
 use Rattle.sci_loop.specs.Table.{Needs, IsTable, IsRow}
 use Rattle.sci_loop.specs.Sorted.{IsOrder}

@@ -4,8 +4,8 @@ use Rattle.std.specs.Prelude.{Result, Ok, Err, IfOk}
 use Rattle.std.specs.declared.alloc.Global.{Global}
 use Rattle.std.proofs.lemmas.List.{get_or_default}
 use Rattle.std.proofs.lemmas.List.Kept.{AllPairs-from_increasing}
-use Rattle.sci_relation.specs.Depth.{ChainTo, IsDepth}
-use Rattle.sci_relation.specs.Loops.{IsLoop, HasNoLoop, IsFromLeast}
+use Rattle.sci_loop.specs.Depth.{ChainTo, IsDepth}
+use Rattle.sci_loop.specs.Loops.{IsLoop, HasNoLoop, IsFromLeast}
 use Rattle.sci_loop.specs.declared.table.DepTable.{DepTable}
 use Rattle.sci_loop.specs.Table.{Needs, HasNeeds}
 use Rattle.sci_loop.specs.Sorted.{IsOrder, IsSorted}
@@ -20,11 +20,12 @@ use Rattle.sci_reaction.proofs.Alike.{loop_alike, no_loop_alike, depth_alike}
 use Rattle.sci_reaction.proofs.Spreading.{Spread-block}
 use Rattle.sci_dep.specs.Tables.{IsTableOf}
 use Rattle.sci_base.specs.Plain.{violation_of}
-use Rattle.sci_sched.specs.declared.stop.PlanStop.{PlanStop}
-use Rattle.sci_sched.specs.declared.stop.PlanStop.TheVariants.{Refused, Memory}
+use Rattle.sci_base.specs.declared.stop.Stop.{Stop}
+use Rattle.sci_base.specs.declared.stop.Stop.TheVariants.{Refused, Memory}
 use Rattle.sci_sched.specs.Depths.{HaveDepths, IsBefore, Outranks}
 use Rattle.sci_sched.specs.Outlines.{AreOrdered}
-use Rattle.sci_sched.specs.Answer.{AreLoopFree, loop_violation, TellsLoop, IsLoopStop, IsFirstLoopStop, Tells}
+use Rattle.sci_sched.specs.Answer.{AreLoopFree, loop_violation, TellsLoop, IsLoopStop, IsFirstLoopStop}
+use Rattle.sci_base.specs.Stops.{IsViolation}
 
 -- blocks in the order of their depths
 pub ranked_members : (t : DepTable) (depths vs : List ℕ) → HaveDepths t depths → ((b : ℕ) → Contains vs b → Contains t.members.items b) → AllPairs (IsBefore depths) vs → AllPairs (Outranks (Needs t)) vs
@@ -74,11 +75,11 @@ loop_block n s xs h = Spread-block n s _ (loop_possible n s xs h).1
 
 -- ---- stops
 
-pub loop_told : (n : Parts) (s : Source) (xs : List ℕ) (e : PlanStop) → IsLoop (Depends n s) xs → IsFromLeast xs → Tells (loop_violation n s xs) e → IsLoopStop n s e
+pub loop_told : (n : Parts) (s : Source) (xs : List ℕ) (e : Stop) → IsLoop (Depends n s) xs → IsFromLeast xs → IsViolation (loop_violation n s xs) e → IsLoopStop n s e
 loop_told n s xs (Refused r) h least told = record { found = xs; is_loop = h; from_least = least; told = told }
 loop_told n s xs Memory h least told = tt
 
-pub first_told : (n : Parts) (s : Source) (at : ℕ) (e : PlanStop) → at < length (sources_of n) → AreLoopFree n at → s ≡ source_of n at → IsLoopStop n s e → IsFirstLoopStop n e
+pub first_told : (n : Parts) (s : Source) (at : ℕ) (e : Stop) → at < length (sources_of n) → AreLoopFree n at → s ≡ source_of n at → IsLoopStop n s e → IsFirstLoopStop n e
 first_told n s at (Refused r) within before is told = record { at = at; within = within; before = before; tells = subst (λ v. TellsLoop n v (violation_of r)) is told }
 first_told n s at Memory within before is told = tt
 

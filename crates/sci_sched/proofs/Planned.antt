@@ -12,10 +12,11 @@ use Rattle.sci_net.proofs.TypedSpecs.{sources_few, all_typed}
 use Rattle.sci_reaction.specs.Schedule.{Entry as PlainEntry, IsSchedule}
 use Rattle.sci_reaction.proofs.Schedules.{some_schedule}
 use Rattle.sci_sched.specs.declared.outline.Outline.{Outline}
-use Rattle.sci_sched.specs.declared.stop.PlanStop.{PlanStop}
-use Rattle.sci_sched.specs.declared.stop.PlanStop.TheVariants.{Refused, Memory}
+use Rattle.sci_base.specs.declared.stop.Stop.{Stop}
+use Rattle.sci_base.specs.declared.stop.Stop.TheVariants.{Refused, Memory}
 use Rattle.sci_sched.specs.Size.{size_of}
-use Rattle.sci_sched.specs.Answer.{AreLoopFree, IsPlan, BreaksLength, length_violation, IsPlanStop, IsLoopStop, IsFirstLoopStop, Tells}
+use Rattle.sci_sched.specs.Answer.{AreLoopFree, IsPlan, BreaksLength, length_violation, IsPlanStop, IsLoopStop, IsFirstLoopStop}
+use Rattle.sci_base.specs.Stops.{IsViolation}
 use Rattle.sci_sched.specs.Outlines.{IsOutline, AreOutlines, outline_size}
 use Rattle.sci_sched.proofs.Outlining.{first_told}
 use Rattle.sci_sched.proofs.Sized.{schedule_sized, total_small}
@@ -46,7 +47,7 @@ outlines_free n k os are i h =
     let o = are.each i d h in o.blocks.free
 
 -- the first source that has a loop stops them
-pub first_stopped : {T U : Type 0} (n : Parts) (s : Source) (at : ℕ) (os : List Outline) (r : Result T PlanStop) (q : Result U PlanStop) (e : PlanStop) → r ≡ Err e → q ≡ Err e → at < length (sources_of n) → AreOutlines n at os →
+pub first_stopped : {T U : Type 0} (n : Parts) (s : Source) (at : ℕ) (os : List Outline) (r : Result T Stop) (q : Result U Stop) (e : Stop) → r ≡ Err e → q ≡ Err e → at < length (sources_of n) → AreOutlines n at os →
     s ≡ source_of n at → IfErr r (λ x. IsLoopStop n s x) → IfErr q (λ x. IsFirstLoopStop n x)
 first_stopped n s at os r q e failed given within are is stop =
     let told : IsLoopStop n s e = subst (λ v. IfErr v (λ x. IsLoopStop n s x)) failed stop in
@@ -55,11 +56,11 @@ first_stopped n s at os r q e failed given within are is stop =
 -- ---- the answer
 
 -- a refusal of a loop, or want of memory, is an answer
-pub first_is_stop : (n : Parts) (e : PlanStop) → IsFirstLoopStop n e → IsPlanStop n e
+pub first_is_stop : (n : Parts) (e : Stop) → IsFirstLoopStop n e → IsPlanStop n e
 first_is_stop n (Refused r) h = inl h
 first_is_stop n Memory h = tt
 
-length_is_stop : (n : Parts) (count : ℕ) (e : PlanStop) → BreaksLength n (length_violation count) → Tells (length_violation count) e → IsPlanStop n e
+length_is_stop : (n : Parts) (count : ℕ) (e : Stop) → BreaksLength n (length_violation count) → IsViolation (length_violation count) e → IsPlanStop n e
 length_is_stop n count (Refused r) breaks told = inr (subst (BreaksLength n) (sym told) breaks)
 length_is_stop n count Memory breaks told = tt
 
@@ -71,7 +72,7 @@ module _ (n : Parts) (net : IsNet n) (os : List Outline) (are : AreOutlines n (l
   total_fits = total_small n net os are sources_small
 
   -- all rows together are too long
-  pub too_long : (count : ℕ) (e : PlanStop) → count ≡ sum_by outline_size os → 262144 < count → Tells (length_violation count) e → IsPlanStop n e
+  pub too_long : (count : ℕ) (e : Stop) → count ≡ sum_by outline_size os → 262144 < count → IsViolation (length_violation count) e → IsPlanStop n e
   too_long count e is long told =
       let free = outlines_free n (length (sources_of n)) os are in
       let some = some_schedule n net.wired free in

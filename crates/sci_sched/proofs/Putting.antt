@@ -3,8 +3,8 @@ use Rattle.std.proofs.Common.{◌≡◌, ℕ, ◌+◌, ◌<◌, ◌≤◌, inl, 
 use Rattle.std.proofs.lemmas.Bool.{cases_eq}
 use Rattle.std.proofs.lemmas.List.{take_more, take_all}
 use Rattle.std.proofs.lemmas.List.Elements.{Contains-append_left, Contains-push, Contains-push_cases}
-use Rattle.sci_walk.specs.Lists.{list_at, Adds}
-use Rattle.sci_walk.proofs.Adding.{adds-none, adds-both, adds-one}
+use Rattle.sci_loop.specs.Lists.{list_at, Adds}
+use Rattle.sci_loop.proofs.Adding.{adds-none, adds-both, adds-one}
 use Rattle.sci_sched.specs.Marks.{IsPutTo, PutOnward, LeavesOthers}
 
 -- one more of a list

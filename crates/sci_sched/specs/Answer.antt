@@ -1,16 +1,16 @@
 -- The answer to a net: its schedule, or the rule that it breaks.
 use Rattle.std.specs.Prelude.{◌≡◌, ℕ, ◌<◌, ◌≤◌, ◌⊎◌, ℤ, pos, List, [], ◌∷◌, ◌++◌, length, map, slice_index}
-use Rattle.sci_base.specs.Plain.{Violation, violation_of}
+use Rattle.sci_base.specs.Plain.{Violation}
 use Rattle.sci_base.specs.declared.refusal.Rule.TheVariants.{AlgebraicLoop, ScheduleTooLong}
-use Rattle.sci_relation.specs.Loops.{IsLoop, IsFromLeast}
+use Rattle.sci_loop.specs.Loops.{IsLoop, IsFromLeast}
 use Rattle.sci_net.specs.declared.Source.{Source}
 use Rattle.sci_net.specs.declared.Source.TheVariants.{Start, Port}
 use Rattle.sci_net.specs.Parts.{Parts, path_of}
 use Rattle.sci_net.specs.Sources.{sources_of, source_of}
 use Rattle.sci_reaction.specs.Depends.{Depends, IsLoopFree}
 use Rattle.sci_reaction.specs.Schedule.{Entry, IsSchedule}
-use Rattle.sci_sched.specs.declared.stop.PlanStop.{PlanStop}
-use Rattle.sci_sched.specs.declared.stop.PlanStop.TheVariants.{Refused, Memory}
+use Rattle.sci_base.specs.declared.stop.Stop.{Stop}
+use Rattle.sci_base.specs.Stops.{StopsBy}
 use Rattle.sci_sched.specs.Size.{size_of}
 
 -- the first k sources have no loop
@@ -66,21 +66,13 @@ abbrev pub IsPlanBreak : Parts → Violation → Type 0
 IsPlanBreak n v = BreaksLoops n v ⊎ BreaksLength n v
 
 -- a refusal tells the rule that the net breaks; want of memory says nothing
-abbrev pub IsPlanStop : Parts → PlanStop → Type 0
-IsPlanStop n (Refused r) = IsPlanBreak n (violation_of r)
-IsPlanStop n Memory = Unit {0}
+abbrev pub IsPlanStop : Parts → Stop → Type 0
+IsPlanStop n = StopsBy (IsPlanBreak n)
 
 -- the same of one source
-abbrev pub IsLoopStop : Parts → Source → PlanStop → Type 0
-IsLoopStop n s (Refused r) = TellsLoop n s (violation_of r)
-IsLoopStop n s Memory = Unit {0}
-
--- a refusal tells this
-abbrev pub Tells : Violation → PlanStop → Type 0
-Tells v (Refused r) = violation_of r ≡ v
-Tells v Memory = Unit {0}
+abbrev pub IsLoopStop : Parts → Source → Stop → Type 0
+IsLoopStop n s = StopsBy (TellsLoop n s)
 
 -- and of the sources in order
-abbrev pub IsFirstLoopStop : Parts → PlanStop → Type 0
-IsFirstLoopStop n (Refused r) = BreaksLoops n (violation_of r)
-IsFirstLoopStop n Memory = Unit {0}
+abbrev pub IsFirstLoopStop : Parts → Stop → Type 0
+IsFirstLoopStop n = StopsBy (BreaksLoops n)

@@ -1,6 +1,6 @@
 -- Depths by number, and the order that they give.
 use Rattle.std.specs.Prelude.{◌≡◌, ℕ, ◌<◌, ◌≤◌, ◌⊎◌, List, Contains, slice_index}
-use Rattle.sci_relation.specs.Depth.{IsDepth}
+use Rattle.sci_loop.specs.Depth.{IsDepth}
 use Rattle.sci_loop.specs.declared.table.DepTable.{DepTable}
 use Rattle.sci_loop.specs.Table.{Needs}
 use Rattle.sci_sched.specs.declared.ranks.Rank.{Rank}

@@ -1,7 +1,7 @@
 -- What is marked of a source while its row is built.
 use Rattle.std.specs.Prelude.{◌≡◌, ℕ, ◌+◌, ◌<◌, ◌≤◌, ◌↔◌, List, [], length, vec_len, Contains, slice_index, slice_index_or}
 use Rattle.std.specs.Int.{bit_at}
-use Rattle.sci_walk.specs.Lists.{plain, list_at}
+use Rattle.sci_loop.specs.Lists.{plain, list_at}
 use Rattle.sci_net.specs.declared.Source.{Source}
 use Rattle.sci_net.specs.Parts.{Parts}
 use Rattle.sci_reaction.specs.Links.{SourceFeeds}

@@ -1,6 +1,6 @@
 -- Rows, as they are built.
 use Rattle.std.specs.Prelude.{◌≡◌, ℕ, ◌<◌, ◌↔◌, true, List, [], length, map, All, Contains, slice_index, slice_index_or}
-use Rattle.sci_walk.specs.Lists.{plain, list_at}
+use Rattle.sci_loop.specs.Lists.{plain, list_at}
 use Rattle.sci_net.specs.Parts.{Parts, numbered}
 use Rattle.sci_net.specs.Sources.{source_of}
 use Rattle.sci_reaction.specs.Schedule.{Entry as PlainEntry, IsRow}

@@ -13,11 +13,9 @@ mod refusals;
 mod rows;
 mod schedule;
 mod sizes;
-mod stop;
 mod write;
 
 pub use measured::{Size, one_size};
 pub use planning::{measure, plan};
 pub use schedule::{Entry, Guard, Schedule};
-pub use stop::PlanStop;
 pub use write::write_plan;

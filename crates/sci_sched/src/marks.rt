@@ -1,16 +1,17 @@
 // What is marked of one source after the other, by number of block, while its row is built.
 ghost use Rattle.std.specs.Prelude.{◌≡◌, ◌<◌, ◌+◌, ℕ, [], All, Contains, length, vec_len, IfOk, OnOk};
-ghost use Rattle.sci_walk.specs.Lists.{plain, list_at, Adds};
+ghost use Rattle.sci_loop.specs.Lists.{plain, list_at, Adds};
 ghost use Rattle.sci_net.specs.Sources.{sources_of, source_of};
 ghost use Rattle.sci_inherit.specs.Origins.{AreOrigins};
 ghost use Rattle.sci_dep.specs.Tables.{ArePossible};
 ghost use Rattle.sci_sched.specs.Marks.{IsFitting, HaveFed, IsPutTo, PutOnward, LeavesOthers, AreSized, AreClear, MarkSource};
 
+use sci_base::NoMemory;
 use sci_base::bits::set_bit;
 use sci_inherit::{Fed, Reach};
+use sci_loop::walk::{Walk, empty_lists, push_at};
 use sci_net::Net;
-use sci_walk::{Walk, empty_lists, push_at};
-use std::alloc::{AllocError, Global};
+use std::alloc::Global;
 
 /// What a source does. The walk is over all numbers, and so are the lists and the masks, from 0, which is no block.
 #[derive(Drop)]
@@ -46,7 +47,7 @@ fn clear_fed(masks: &mut [u64], feeding: &[Fed])
 }
 
 // Puts a synchronous block at the end of the lists of the blocks that its branches reach.
-fn put(conditions: &mut Vec<Vec<u32>>, condition: u32, reached: &[u32]) -> Result<(), AllocError>
+fn put(conditions: &mut Vec<Vec<u32>>, condition: u32, reached: &[u32]) -> Result<(), NoMemory>
     requires { All (λ b. b < vec_len conditions.old) reached.now }
     ensures adds { OnOk result (Adds (IsPutTo reached.now condition) (plain conditions.old.items) (plain conditions.new.items)) }
     ensures len { OnOk result (vec_len conditions.new ≡ vec_len conditions.old) }
@@ -62,7 +63,7 @@ fn put_all(
     conditions: &mut Vec<Vec<u32>>,
     onward: &[Vec<u32>],
     blocks: &[u32],
-) -> Result<(), AllocError>
+) -> Result<(), NoMemory>
     requires blocks { All (λ c. c < length onward.now) blocks.now }
     requires reached { (c : ℕ) → All (λ b. b < vec_len conditions.old) (list_at (plain onward.now) c) }
     ensures adds { OnOk result (Adds (PutOnward (plain onward.now) blocks.now) (plain conditions.old.items) (plain conditions.new.items)) }
@@ -86,7 +87,7 @@ fn empty(conditions: &mut [Vec<u32>], blocks: &[u32])
 
 impl Marks {
     /// For so many numbers, with nothing marked.
-    pub fn new(alloc: Global, count: usize) -> Result<Marks, AllocError>
+    pub fn new(alloc: Global, count: usize) -> Result<Marks, NoMemory>
         ensures sized { IfOk result (λ m. AreSized count m) }
         ensures clear { IfOk result (λ m. AreClear m) }
     {
@@ -107,7 +108,7 @@ impl Marks {
         reach: &Reach,
         at: u32,
         blocks: &[u32],
-    ) -> Result<(), AllocError>
+    ) -> Result<(), NoMemory>
         requires reach { AreOrigins net.now reach.now }
         requires at { at < length (sources_of net.now) }
         requires blocks { ArePossible net.now (source_of net.now at) blocks.now }

@@ -5,10 +5,11 @@ ghost use Rattle.sci_reaction.specs.Equations.{HasBits};
 ghost use Rattle.sci_sched.specs.Guards.{AreGuards, HasBitsTo, IsFirstFrom, EndsRun};
 
 use crate::Guard;
+use sci_base::NoMemory;
 use sci_base::bits::set_bit;
 use sci_inherit::contains;
 use sci_net::{Feed, Net};
-use std::alloc::{AllocError, Global};
+use std::alloc::Global;
 
 // The mask with activation input `at + 1`, if the activation output feeds it.
 fn with_input(net: &Net, block: u32, feed: Feed, mask: u64, at: u32) -> u64
@@ -73,7 +74,7 @@ fn push_run(
     from: usize,
     condition: u32,
     block: u32,
-) -> Result<usize, AllocError>
+) -> Result<usize, NoMemory>
     requires least { 1 ≤ block }
     requires most { block ≤ length net.now.specs }
     requires from { from ≤ length branches.now }
@@ -101,7 +102,7 @@ pub fn guards(
     conditions: &[u32],
     branches: &[Feed],
     block: u32,
-) -> Result<Vec<Guard>, AllocError>
+) -> Result<Vec<Guard>, NoMemory>
     requires least { 1 ≤ block }
     requires most { block ≤ length net.now.specs }
     requires sorted { AllPairs (λ c d. c ≤ d) conditions.now }

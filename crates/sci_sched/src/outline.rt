@@ -9,17 +9,17 @@ ghost use Rattle.sci_sched.specs.Depths.{Outranks};
 ghost use Rattle.sci_sched.specs.Answer.{IsLoopStop, IsFirstLoopStop};
 ghost use Rattle.sci_sched.specs.Outlines.{AreOrdered, IsOutline, AreCounts, AreOutlines};
 
-use crate::PlanStop;
 use crate::depth::set_depths;
 use crate::ranks::by_depth;
 use crate::refusals::loop_stop;
 use crate::sizes::{guard_counts, guards_by};
+use sci_base::{NoMemory, Stop};
 use sci_dep::{Waits, depends, possible};
 use sci_inherit::Reach;
+use sci_loop::walk::Walk;
 use sci_loop::{DepTable, Sorted, sort};
 use sci_net::{Net, Source};
-use sci_walk::Walk;
-use std::alloc::{AllocError, Global};
+use std::alloc::Global;
 
 /// What a source without a loop may activate.
 #[derive(Drop)]
@@ -36,7 +36,7 @@ fn in_order(
     table: &DepTable,
     order: &[u32],
     depths: &mut [usize],
-) -> Result<Vec<u32>, AllocError>
+) -> Result<Vec<u32>, NoMemory>
     requires table { IsTable table.now }
     requires order { IsOrder table.now order.now }
     requires below { All (λ b. b < length depths.old) table.now.members.items }
@@ -54,7 +54,7 @@ fn ranked(
     source: Source,
     table: &DepTable,
     depths: &mut [usize],
-) -> Result<Vec<u32>, PlanStop>
+) -> Result<Vec<u32>, Stop>
     requires table { IsTableOf net.now source table.now }
     requires depths { length depths.old ≡ length net.now.specs + 1 }
     ensures ok { IfOk result (λ v. AreOrdered net.now source v.items) }
@@ -77,7 +77,7 @@ fn ordered(
     source: Source,
     table: DepTable,
     depths: &mut [usize],
-) -> Result<Vec<u32>, PlanStop>
+) -> Result<Vec<u32>, Stop>
     requires table { IsTableOf net.now source table }
     requires depths { length depths.old ≡ length net.now.specs + 1 }
     ensures ok { IfOk result (λ v. AreOrdered net.now source v.items) }
@@ -101,7 +101,7 @@ fn outline_of(
     at: u32,
     walk: &mut Walk,
     depths: &mut [usize],
-) -> Result<Outline, PlanStop>
+) -> Result<Outline, Stop>
     requires reach { AreOrigins net.now reach.now }
     requires waits { AreWaits net.now waits.now }
     requires counts { AreCounts reach.now counts.now }
@@ -120,7 +120,7 @@ fn outline_of(
     Ok(Outline { blocks, guards })
 }
 
-fn keep(outlines: &mut Vec<Outline>, outline: Outline) -> Result<(), AllocError>
+fn keep(outlines: &mut Vec<Outline>, outline: Outline) -> Result<(), NoMemory>
     ensures { OnOk result (outlines.new.items ≡ outlines.old.items ++ outline ∷ []) }
 {
     outlines.push(outline)?;
@@ -133,7 +133,7 @@ pub fn outlines(
     net: &Net,
     reach: &Reach,
     waits: &Waits,
-) -> Result<Vec<Outline>, PlanStop>
+) -> Result<Vec<Outline>, Stop>
     requires reach { AreOrigins net.now reach.now }
     requires waits { AreWaits net.now waits.now }
     ensures ok { IfOk result (λ v. AreOutlines net.now (length (sources_of net.now)) v.items) }

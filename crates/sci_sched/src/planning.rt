@@ -9,7 +9,8 @@ use crate::outline::{Outline, outlines};
 use crate::refusals::length_stop;
 use crate::rows::rows;
 use crate::sizes::total;
-use crate::{PlanStop, Schedule, Size};
+use crate::{Schedule, Size};
+use sci_base::Stop;
 use sci_dep::waits;
 use sci_inherit::{Reach, origins};
 use sci_net::Net;
@@ -25,7 +26,7 @@ struct Outlined {
 }
 
 // The outlines of all sources; or the refusal of the first that has a loop (24), or of too many entries and guards (25).
-fn outline_all(alloc: Global, net: &Net) -> Result<Outlined, PlanStop>
+fn outline_all(alloc: Global, net: &Net) -> Result<Outlined, Stop>
     ensures ok { IfOk result (λ o. AreOutlined net.now o) }
     ensures stop { IfErr result (λ e. IsPlanStop net.now e) }
 {
@@ -44,7 +45,7 @@ fn outline_all(alloc: Global, net: &Net) -> Result<Outlined, PlanStop>
 /// source's block and port (zeros for start), and then the loop from there, each block depending on the one before it and the first
 /// on the last. Or no source has a loop, and the entries and guards of all rows are more than 262,144 (25), with their number; no
 /// row is built then.
-pub fn plan(alloc: Global, net: &Net) -> Result<Schedule, PlanStop>
+pub fn plan(alloc: Global, net: &Net) -> Result<Schedule, Stop>
     ensures ok { IfOk result (λ p. IsPlan net.now (rows_of p)) }
     ensures stop { IfErr result (λ e. IsPlanStop net.now e) }
 {
@@ -55,7 +56,7 @@ pub fn plan(alloc: Global, net: &Net) -> Result<Schedule, PlanStop>
 }
 
 /// How long the schedule of a net is, of which no row is built. A refusal is that of `plan`.
-pub fn measure(alloc: Global, net: &Net) -> Result<Size, PlanStop>
+pub fn measure(alloc: Global, net: &Net) -> Result<Size, Stop>
     ensures ok { IfOk result (λ s. IsMeasured net.now s) }
     ensures stop { IfErr result (λ e. IsPlanStop net.now e) }
 {

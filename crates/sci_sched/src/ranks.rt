@@ -3,7 +3,8 @@ ghost use Rattle.std.specs.Prelude.{◌≡◌, ℕ, ◌<◌, ◌↔◌, All, All
 ghost use Rattle.std.specs.List.Sorted.{IsStrictlyIncreasing};
 ghost use Rattle.sci_sched.specs.Depths.{rank, IsBefore};
 
-use std::alloc::{AllocError, Global};
+use sci_base::NoMemory;
+use std::alloc::Global;
 
 /// Where a block stands in a row.
 #[derive(Clone, Copy, Debug, Drop, PartialEq, Eq, PartialOrd, Ord)]
@@ -12,27 +13,28 @@ pub struct Rank {
     pub block: u32,
 }
 
-fn ranks(alloc: Global, depths: &[usize], blocks: &[u32]) -> Result<Vec<Rank>, AllocError>
+fn ranks(alloc: Global, depths: &[usize], blocks: &[u32]) -> Result<Vec<Rank>, NoMemory>
     requires { All (λ b. b < length depths.now) blocks.now }
     ensures { IfOk result (λ v. v.items ≡ map (rank depths.now) blocks.now) }
 {
-    blocks
+    let ranks = blocks
         .iter()
         .map(|block| Rank {
             depth: depths[*block as usize],
             block: *block,
         })
-        .collect(alloc)
+        .collect(alloc)?;
+    Ok(ranks)
 }
 
-fn ranked(alloc: Global, ranks: &[Rank]) -> Result<Vec<u32>, AllocError>
+fn ranked(alloc: Global, ranks: &[Rank]) -> Result<Vec<u32>, NoMemory>
     ensures { IfOk result (λ v. v.items ≡ map (λ r. r.block) ranks.now) }
 {
-    ranks.iter().map(|rank| rank.block).collect(alloc)
+    Ok(ranks.iter().map(|rank| rank.block).collect(alloc)?)
 }
 
 /// The same blocks by depth and number.
-pub fn by_depth(alloc: Global, depths: &[usize], blocks: &[u32]) -> Result<Vec<u32>, AllocError>
+pub fn by_depth(alloc: Global, depths: &[usize], blocks: &[u32]) -> Result<Vec<u32>, NoMemory>
     requires below { All (λ b. b < length depths.now) blocks.now }
     requires rising { IsStrictlyIncreasing blocks.now }
     ensures exactly { IfOk result (λ v. (b : ℕ) → Contains v.items b ↔ Contains blocks.now b) }

@@ -1,27 +1,14 @@
 // Refusals of a net.
 ghost use Rattle.std.specs.Prelude.{◌≡◌, ◌<◌, ◌≤◌, ◌^◌, ◌++◌, length, slice_index, IfOk, OnOk};
-ghost use Rattle.sci_base.specs.Plain.{violation_of};
-ghost use Rattle.sci_net.specs.Parts.{path_of};
-ghost use Rattle.sci_sched.specs.Answer.{source_numbers, numbers_of, loop_violation, length_violation, Tells};
+ghost use Rattle.sci_sched.specs.Answer.{source_numbers, numbers_of, loop_violation, length_violation};
+ghost use Rattle.sci_base.specs.Stops.{IsViolation};
 
-use crate::PlanStop;
-use sci_base::{Place, Refusal, Rule};
+use sci_base::{NoMemory, Rule, Stop};
 use sci_net::{Net, Source};
-use smallvec::SmallVec;
-use std::alloc::{AllocError, Global};
-
-fn place_of(alloc: Global, net: &Net, block: u32) -> Result<Place, AllocError>
-    requires least { 1 ≤ block }
-    requires most { block ≤ length net.now.specs }
-    ensures { IfOk result (λ p. p.path.items ≡ path_of net.now block) }
-{
-    Ok(Place {
-        path: SmallVec::from_slice(alloc, net.path(block).path.as_slice())?,
-    })
-}
+use std::alloc::Global;
 
 // The block and the port of a source; zeros for start.
-fn source_numbers(alloc: Global, source: Source) -> Result<Vec<i64>, AllocError>
+fn source_numbers(alloc: Global, source: Source) -> Result<Vec<i64>, NoMemory>
     ensures { IfOk result (λ v. v.items ≡ source_numbers source) }
 {
     let mut numbers = Vec::new(alloc);
@@ -38,7 +25,7 @@ fn source_numbers(alloc: Global, source: Source) -> Result<Vec<i64>, AllocError>
     Ok(numbers)
 }
 
-fn push_numbers(detail: &mut Vec<i64>, numbers: &[u32]) -> Result<(), AllocError>
+fn push_numbers(detail: &mut Vec<i64>, numbers: &[u32]) -> Result<(), NoMemory>
     ensures { OnOk result (detail.new.items ≡ detail.old.items ++ numbers_of numbers.now) }
 {
     for number in numbers {
@@ -47,61 +34,35 @@ fn push_numbers(detail: &mut Vec<i64>, numbers: &[u32]) -> Result<(), AllocError
     Ok(())
 }
 
-fn loop_refusal(
-    alloc: Global,
-    net: &Net,
-    source: Source,
-    found: &[u32],
-) -> Result<Refusal, AllocError>
-    requires some { 0 < length found.now }
-    requires least { 1 ≤ slice_index found.now 0 }
-    requires most { slice_index found.now 0 ≤ length net.now.specs }
-    ensures { IfOk result (λ r. violation_of r ≡ loop_violation net.now source found.now) }
+// What the refusal of a loop tells: the source, and the loop.
+fn loop_detail(alloc: Global, source: Source, found: &[u32]) -> Result<Vec<i64>, NoMemory>
+    ensures { IfOk result (λ v. v.items ≡ source_numbers source ++ numbers_of found.now) }
 {
     let mut detail = source_numbers(alloc, source)?;
     push_numbers(&mut detail, found)?;
-    Ok(Refusal {
-        rule: Rule::AlgebraicLoop,
-        place: place_of(alloc, net, found[0])?,
-        detail,
-    })
+    Ok(detail)
 }
 
 /// The refusal of a loop of a source.
-pub fn loop_stop(alloc: Global, net: &Net, source: Source, found: &[u32]) -> PlanStop
+pub fn loop_stop(alloc: Global, net: &Net, source: Source, found: &[u32]) -> Stop
     requires some { 0 < length found.now }
     requires least { 1 ≤ slice_index found.now 0 }
     requires most { slice_index found.now 0 ≤ length net.now.specs }
-    ensures { Tells (loop_violation net.now source found.now) result }
+    ensures { IsViolation (loop_violation net.now source found.now) result }
 {
-    match loop_refusal(alloc, net, source, found) {
-        Ok(refusal) => PlanStop::Refused(refusal),
-        Err(_) => PlanStop::Memory,
+    match loop_detail(alloc, source, found) {
+        Ok(detail) => {
+            let place = net.path(found[0]).path.as_slice();
+            Stop::by(alloc, Rule::AlgebraicLoop, place, &detail)
+        }
+        Err(NoMemory) => Stop::Memory,
     }
-}
-
-fn length_refusal(alloc: Global, count: u64) -> Result<Refusal, AllocError>
-    requires { count < 2 ^ 63 }
-    ensures { IfOk result (λ r. violation_of r ≡ length_violation count) }
-{
-    let mut detail = Vec::new(alloc);
-    detail.push(count as i64)?;
-    Ok(Refusal {
-        rule: Rule::ScheduleTooLong,
-        place: Place {
-            path: SmallVec::new(alloc),
-        },
-        detail,
-    })
 }
 
 /// The refusal of schedules that have so many entries and guards.
-pub fn length_stop(alloc: Global, count: u64) -> PlanStop
+pub fn length_stop(alloc: Global, count: u64) -> Stop
     requires { count < 2 ^ 63 }
-    ensures { Tells (length_violation count) result }
+    ensures { IsViolation (length_violation count) result }
 {
-    match length_refusal(alloc, count) {
-        Ok(refusal) => PlanStop::Refused(refusal),
-        Err(_) => PlanStop::Memory,
-    }
+    Stop::by(alloc, Rule::ScheduleTooLong, &[], &[count as i64])
 }

@@ -13,12 +13,13 @@ use crate::Entry;
 use crate::marks::Marks;
 use crate::masks::guards;
 use crate::outline::Outline;
+use sci_base::NoMemory;
 use sci_inherit::Reach;
 use sci_net::Net;
-use std::alloc::{AllocError, Global};
+use std::alloc::Global;
 
 // The same blocks by number.
-fn by_number(alloc: Global, blocks: &[u32]) -> Result<Vec<u32>, AllocError>
+fn by_number(alloc: Global, blocks: &[u32]) -> Result<Vec<u32>, NoMemory>
     ensures exactly { IfOk result (λ v. (c : ℕ) → Contains v.items c ↔ Contains blocks.now c) }
     ensures sorted { IfOk result (λ v. AllPairs (λ c d. c ≤ d) v.items) }
 {
@@ -34,7 +35,7 @@ fn entry_for(
     reach: &Reach,
     marks: &Marks,
     block: u32,
-) -> Result<Entry, AllocError>
+) -> Result<Entry, NoMemory>
     requires reach { AreOrigins net.now reach.now }
     requires marks { AreSized (length net.now.specs + 1) marks.now }
     requires least { 1 ≤ block }
@@ -60,7 +61,7 @@ fn entries(
     reach: &Reach,
     marks: &Marks,
     blocks: &[u32],
-) -> Result<Vec<Entry>, AllocError>
+) -> Result<Vec<Entry>, NoMemory>
     requires reach { AreOrigins net.now reach.now }
     requires marks { AreSized (length net.now.specs + 1) marks.now }
     requires blocks { All (IsBlock net.now) blocks.now }
@@ -81,7 +82,7 @@ fn row(
     at: u32,
     outline: &Outline,
     marks: &mut Marks,
-) -> Result<Vec<Entry>, AllocError>
+) -> Result<Vec<Entry>, NoMemory>
     requires reach { AreOrigins net.now reach.now }
     requires at { at < length (sources_of net.now) }
     requires outline { IsOutline net.now (source_of net.now at) outline.now }
@@ -104,7 +105,7 @@ pub fn rows(
     net: &Net,
     reach: &Reach,
     outlines: &[Outline],
-) -> Result<Vec<Vec<Entry>>, AllocError>
+) -> Result<Vec<Vec<Entry>>, NoMemory>
     requires reach { AreOrigins net.now reach.now }
     requires outlines { AreOutlines net.now (length (sources_of net.now)) outlines.now }
     ensures { IfOk result (λ v. IsSchedule net.now (lists_of v.items)) }

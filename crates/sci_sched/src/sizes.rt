@@ -5,9 +5,10 @@ ghost use Rattle.sci_sched.specs.Guards.{is_of};
 ghost use Rattle.sci_sched.specs.Outlines.{AddsBranches, AreCounts, outline_size};
 
 use crate::outline::Outline;
+use sci_base::NoMemory;
 use sci_inherit::Reach;
 use sci_net::{Feed, Net};
-use std::alloc::{AllocError, Global};
+use std::alloc::Global;
 
 // Counts each of these branches at the number of its block.
 fn count_branches(counts: &mut [u64], branches: &[Feed])
@@ -22,7 +23,7 @@ fn count_branches(counts: &mut [u64], branches: &[Feed])
 
 /// By number, from 0 on, how many guards a block gives at each source that may activate it: one for each of its branches and each block
 /// that the branch reaches, which the source may activate too.
-pub fn guard_counts(alloc: Global, net: &Net, reach: &Reach) -> Result<Vec<u64>, AllocError>
+pub fn guard_counts(alloc: Global, net: &Net, reach: &Reach) -> Result<Vec<u64>, NoMemory>
     requires { AreOrigins net.now reach.now }
     ensures { IfOk result (λ v. AreCounts reach.now v.items) }
 {

@@ -4,8 +4,9 @@ ghost use Rattle.std.specs.List.Sorted.{IsStrictlyIncreasing};
 ghost use Rattle.sci_pending.specs.Timer.{event_delay, IsNet};
 ghost use Rattle.sci_sim.specs.Targets.{row, Adds, AddsTimer, IsTurnedRound};
 
+use sci_base::NoMemory;
 use sci_pending::Timer;
-use std::alloc::{AllocError, Global};
+use std::alloc::Global;
 use std::marker::Model;
 
 /// A block whose activation output a source programs, and the ticks to its event.
@@ -32,7 +33,7 @@ impl Model for Targets {
 }
 
 impl Targets {
-    fn empty(alloc: Global, rows: usize) -> Result<Targets, AllocError>
+    fn empty(alloc: Global, rows: usize) -> Result<Targets, NoMemory>
         ensures { IfOk result (λ t. t ≡ replicate rows []) }
     {
         let mut made = Vec::with_capacity(alloc, rows)?;
@@ -42,7 +43,7 @@ impl Targets {
         Ok(Targets { rows: made })
     }
 
-    fn add(&mut self, source: u32, target: Target) -> Result<(), AllocError>
+    fn add(&mut self, source: u32, target: Target) -> Result<(), NoMemory>
         requires { source < length self.old }
         ensures { OnOk result (self.new ≡ slice_set self.old source (row self.old source ++ target ∷ [])) }
     {
@@ -50,7 +51,7 @@ impl Targets {
         Ok(())
     }
 
-    fn add_all(&mut self, sources: &[u32], target: Target) -> Result<(), AllocError>
+    fn add_all(&mut self, sources: &[u32], target: Target) -> Result<(), NoMemory>
         requires rising { IsStrictlyIncreasing sources.now }
         requires in_range { All (λ s. s < length self.old) sources.now }
         ensures { OnOk result (Adds self.old self.new sources.now target) }
@@ -61,7 +62,7 @@ impl Targets {
         Ok(())
     }
 
-    fn add_timer(&mut self, timer: &Timer, block: u32) -> Result<(), AllocError>
+    fn add_timer(&mut self, timer: &Timer, block: u32) -> Result<(), NoMemory>
         requires rising { IsStrictlyIncreasing timer.now.fed_by.items }
         requires in_range { All (λ s. s < length self.old) timer.now.fed_by.items }
         ensures { OnOk result (AddsTimer self.old self.new (event_delay timer.now) block) }
@@ -73,7 +74,7 @@ impl Targets {
     }
 
     /// The targets of the sources of a net.
-    pub fn of_net(alloc: Global, timers: &[Timer]) -> Result<Targets, AllocError>
+    pub fn of_net(alloc: Global, timers: &[Timer]) -> Result<Targets, NoMemory>
         requires net { IsNet (map event_delay timers.now) }
         requires count { length timers.now < 2 ^ 32 }
         ensures { IfOk result (λ t. IsTurnedRound t (map event_delay timers.now)) }

@@ -117,9 +117,6 @@ one_input n b net least most h = let f = timer_form n b net least most h in omeg
 pub each_timer : (n : Parts) → first_unbuilt n ≡ None → (k : ℕ) → k < length n.specs → is_timer (spec_of n (k + 1)).kind ≡ true
 each_timer n h k l = all_to_at (is_built_at n) (length n.specs) (none_is _ h) k l
 
-pub one_activation : (n : Parts) (k : ℕ) → IsTyped n → first_unbuilt n ≡ None → k < length n.specs → 1 ≤ (spec_of n (k + 1)).evtin
-one_activation n k net h l = one_input n (k + 1) net (omega arith) (omega (arith, l)) (each_timer n h k l)
-
 -- the search for another block
 pub found_other : (n : Parts) (k : ℕ) → first_not (is_built_at n) k ≡ None → is_timer (spec_of n (k + 1)).kind ≡ false → k < length n.specs → first_unbuilt n ≡ Some k
 found_other n k h other l = found (is_built_at n) k (length n.specs) h other l

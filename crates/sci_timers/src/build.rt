@@ -5,12 +5,13 @@ ghost use Rattle.sci_pending.specs.Timer.{event_delay, IsNet};
 ghost use Rattle.sci_timers.specs.Timers.{is_timer, block_of, timer_of, timers_of};
 ghost use Rattle.sci_timers.specs.Built.{first_unbuilt};
 
+use sci_base::NoMemory;
 use sci_net::{Feed, Net};
 use sci_pending::Timer;
-use std::alloc::{AllocError, Global};
+use std::alloc::Global;
 
 // The blocks whose events feed, in the order of the feeds.
-fn sources(alloc: Global, feeds: &[Feed]) -> Result<Vec<u32>, AllocError>
+fn sources(alloc: Global, feeds: &[Feed]) -> Result<Vec<u32>, NoMemory>
     ensures { IfOk result (λ v. v.items ≡ map block_of feeds.now) }
 {
     let mut blocks = Vec::new(alloc);
@@ -21,7 +22,7 @@ fn sources(alloc: Global, feeds: &[Feed]) -> Result<Vec<u32>, AllocError>
 }
 
 #[tactic(auto, using(crate::proofs::TimerForms::one_input))]
-fn timer_of(alloc: Global, net: &Net, block: u32) -> Result<Timer, AllocError>
+fn timer_of(alloc: Global, net: &Net, block: u32) -> Result<Timer, NoMemory>
     requires least { 1 ≤ block }
     requires most { block ≤ length net.now.specs }
     requires timer { is_timer (spec_of net.now block).kind ≡ true }
@@ -39,7 +40,7 @@ fn timer_of(alloc: Global, net: &Net, block: u32) -> Result<Timer, AllocError>
 
 /// The timers of all blocks, by number.
 #[tactic(auto, using(crate::proofs::TimerForms::each_timer, crate::proofs::TimerForms::next_timer))]
-pub(crate) fn timers(alloc: Global, net: &Net) -> Result<Vec<Timer>, AllocError>
+pub(crate) fn timers(alloc: Global, net: &Net) -> Result<Vec<Timer>, NoMemory>
     requires { first_unbuilt net.now ≡ None }
     ensures timers { IfOk result (λ ts. map event_delay ts.items ≡ timers_of net.now) }
     ensures net { IfOk result (λ ts. IsNet (map event_delay ts.items)) }

@@ -1,7 +1,6 @@
 -- A tree has at most one flat net.
-use Rattle.std.proofs.Common.{◌≡◌, ℕ, zero, suc, ◌+◌, ◌≤◌, ◌<◌, List, [], ◌∷◌, length, map, get_or, refl, sym, ◌∙◌, ap, subst, arith, inl, inr, ◌⊎◌, true, pos}
-use Rattle.std.specs.Prelude.{Result, Ok, Err, Contains, slice_index_or, nat_lt, nat_eq, ◌&&◌}
-use Rattle.sci_base.specs.Plain.{Violation}
+use Rattle.std.proofs.Common.{◌≡◌, ℕ, zero, suc, ◌<◌, List, [], ◌∷◌, length, map, refl, sym, ◌∙◌, ap, subst, arith, inl, inr, ◌⊎◌, true, pos}
+use Rattle.std.specs.Prelude.{Ok, Err, Contains, slice_index_or, nat_lt, nat_eq, ◌&&◌}
 use Rattle.sci_base.specs.Outcome.{Outcome, ◌>>=◌}
 use Rattle.sci_diagram.specs.Objects.{Objects}
 use Rattle.sci_forms.specs.declared.spec.Spec.{Spec}
@@ -9,13 +8,12 @@ use Rattle.sci_forms.proofs.TestLemmas.{both_true, either_true, nat_lt_told, nat
 use Rattle.sci_net.specs.declared.Wire.{Wire}
 use Rattle.sci_net.specs.declared.Feed.{Feed}
 use Rattle.sci_net.specs.Parts.{Parts, numbered, no_wire, no_spec, spec_of, wire_of, feeds_of, IsBlock, IsInput, IsActivationInput, precedes, AreRising}
-use Rattle.sci_parts.specs.declared.class.PortClass.TheVariants.{Input, Output, ActivationInput, ActivationOutput}
-use Rattle.sci_parts.specs.Blocks.{Placed, placed, parts_of}
-use Rattle.sci_parts.specs.Wiring.{links_of}
-use Rattle.sci_steps.specs.Ports.{Port, port, tree_steps}
-use Rattle.sci_reach.specs.Chain.{Chain}
-use Rattle.sci_single.proofs.Source.{one_source}
-use Rattle.sci_flat.specs.Flat.{blocks, block_at, FedBy, IsWire, IsFeed, IsFeedList, IsFlatNet}
+use Rattle.sci_blocks.specs.declared.class.PortClass.TheVariants.{Input}
+use Rattle.sci_blocks.specs.Blocks.{Placed, parts_of}
+use Rattle.sci_blocks.specs.Wiring.{links_of}
+use Rattle.sci_flat.specs.Ports.{port}
+use Rattle.sci_flat.proofs.Source.{one_source}
+use Rattle.sci_flat.specs.Flat.{blocks, block_at, IsWire, IsFeed, IsFlatNet}
 
 -- ---- lists
 

@@ -1,5 +1,5 @@
 -- A net has at most one schedule, and what forbids one is alike.
-use Rattle.std.proofs.Common.{◌≡◌, ◌⊎◌, ◌<◌, ◌≤◌, ◌++◌, inl, inr, refl, sym, ◌∙◌, ap, subst, arith, ℕ, ℤ, List, [], ◌∷◌, length, take}
+use Rattle.std.proofs.Common.{◌≡◌, ◌<◌, ◌++◌, inl, inr, refl, sym, ◌∙◌, ap, arith, ℕ, ℤ, List, length, take}
 use Rattle.std.proofs.lemmas.Bool.{cases_lt}
 use Rattle.sci_base.specs.Plain.{Violation}
 use Rattle.sci_net.specs.declared.Source.{Source}
@@ -7,9 +7,9 @@ use Rattle.sci_net.specs.declared.Source.TheVariants.{Start, Port}
 use Rattle.sci_net.specs.Parts.{Parts}
 use Rattle.sci_net.specs.Net.{IsNet}
 use Rattle.sci_net.specs.Sources.{sources_of, source_of}
-use Rattle.sci_reaction.specs.Schedule.{Entry, IsSchedule}
+use Rattle.sci_reaction.specs.Schedule.{Entry}
 use Rattle.sci_reaction.proofs.Schedules.{one_schedule}
-use Rattle.sci_sched.specs.Answer.{AreLoopFree, IsPlan, IsPlanBreak, BreaksLoops, BreaksLength, TellsLoop, source_numbers, numbers_of, loop_violation, length_violation}
+use Rattle.sci_sched.specs.Answer.{AreLoopFree, IsPlan, IsPlanBreak, BreaksLoops, BreaksLength, TellsLoop, source_numbers, numbers_of, length_violation}
 use Rattle.sci_sched.specs.Size.{size_of}
 use Rattle.sci_verdict.specs.Laws.{AreLoops, AreAlike}
 

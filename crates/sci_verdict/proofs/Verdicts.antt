@@ -1,5 +1,5 @@
 -- Of each diagram's file at most one verdict holds.
-use Rattle.std.proofs.Common.{◌≡◌, ◌⊎◌, inl, inr, refl, sym, ◌∙◌, ap, subst, ℕ, List, []}
+use Rattle.std.proofs.Common.{◌≡◌, inl, refl, ◌∙◌, ap, subst, ℕ, List}
 use Rattle.std.specs.Prelude.{Result, Ok, Err, Option, Some, None}
 use Rattle.sci_base.specs.Plain.{Violation}
 use Rattle.sci_diagram.specs.Objects.{Objects}
@@ -9,8 +9,8 @@ use Rattle.sci_flat.specs.Flat.{IsFlatNet}
 use Rattle.sci_flat.specs.Refused.{Breaks as IsNotFlat}
 use Rattle.sci_flat.proofs.Verdicts.{verdict, violation}
 use Rattle.sci_verdict.proofs.OneFlat.{one_flat}
-use Rattle.sci_values.specs.declared.Verdict.{Verdict}
-use Rattle.sci_values.specs.declared.Verdict.TheVariants.{Conflict, Open, Values}
+use Rattle.sci_infer.specs.declared.values.Verdict.{Verdict}
+use Rattle.sci_infer.specs.declared.values.Verdict.TheVariants.{Conflict, Open, Values}
 use Rattle.sci_net.specs.Flat.{IsFlat}
 use Rattle.sci_net.specs.Net.{IsNet}
 use Rattle.sci_infer.specs.Typing.{Decides}
@@ -26,7 +26,7 @@ use Rattle.sci_verdict.proofs.OnePlan.{one_plan, one_plan_break, plan_or_not}
 use Rattle.sci_pending.specs.Timer.{EventDelay}
 use Rattle.sci_timers.specs.Built.{built}
 use Rattle.sci_verdict.specs.Verdict.{GivesFlat, GivesNet, BreaksNet, unread, not_flat, not_typed, Plan, Accepts, Breaks, no_net, no_plan, AcceptsTimers, BreaksTimers, no_diagram, unbuilt}
-use Rattle.sci_verdict.specs.Laws.{AreLoops, AreAlike, OneVerdict, OneVerdictOfTimers}
+use Rattle.sci_verdict.specs.Laws.{AreAlike, OneVerdict, OneVerdictOfTimers}
 
 same_tree : (bytes : List ℕ) (t u : Objects) → IsDiagram bytes t → IsDiagram bytes u → t ≡ u
 same_tree bytes t u h k = cc (h, k)

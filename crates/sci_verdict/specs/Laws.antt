@@ -2,8 +2,7 @@
 use Rattle.std.specs.Prelude.{◌≡◌, ◌⊎◌, ℕ, List, take}
 use Rattle.sci_base.specs.Plain.{Violation}
 use Rattle.sci_base.specs.declared.refusal.Rule.TheVariants.{AlgebraicLoop}
-use Rattle.sci_pending.specs.Timer.{EventDelay}
-use Rattle.sci_verdict.specs.Verdict.{Plan, Accepts, Breaks, AcceptsTimers, BreaksTimers}
+use Rattle.sci_verdict.specs.Verdict.{Accepts, Breaks, AcceptsTimers, BreaksTimers}
 
 -- both tell a loop of one source, whose block and port are the first two details
 pub record AreLoops (v w : Violation) : Type 0 where

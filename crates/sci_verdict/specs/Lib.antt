@@ -1,3 +1,2 @@
 pub mod Verdict
 pub mod Laws
-pub mod Passing

@@ -1,6 +1,6 @@
 -- The verdict on a diagram's file: its net with its schedules, or the first rule that it breaks.
 use Rattle.std.specs.Prelude.{◌≡◌, ℕ, List, Result, Ok, Err}
-use Rattle.sci_base.specs.Plain.{Violation, violation_of}
+use Rattle.sci_base.specs.Plain.{Violation}
 use Rattle.sci_diagram.specs.Objects.{Objects}
 use Rattle.sci_diagram.specs.Reading.{Accepts as IsDiagram, Breaks as IsNoDiagram}
 use Rattle.sci_net.specs.Parts.{Parts}
@@ -15,8 +15,8 @@ use Rattle.sci_pending.specs.Timer.{EventDelay}
 use Rattle.sci_timers.specs.Built.{built}
 use Rattle.sci_verdict.specs.declared.checked.Checked.{Checked}
 use Rattle.sci_verdict.specs.declared.checked.Measured.{Measured}
-use Rattle.sci_verdict.specs.declared.stop.VerdictStop.{VerdictStop}
-use Rattle.sci_verdict.specs.declared.stop.VerdictStop.TheVariants.{Refused, Memory}
+use Rattle.sci_base.specs.declared.stop.Stop.{Stop}
+use Rattle.sci_base.specs.Stops.{StopsBy}
 
 -- the bytes are a diagram that gives this flat net
 pub record GivesFlat (bytes : List ℕ) (n : Parts) : Type 0 where
@@ -71,25 +71,21 @@ pub data BreaksTimers (bytes : List ℕ) (v : Violation) : Type 0 where
   unbuilt : (p : Plan) → Accepts bytes p → built p.net ≡ Err v → BreaksTimers bytes v
 
 -- what an answer says; want of memory may come at any time
-abbrev pub IsTyped : List ℕ → Result Parts VerdictStop → Type 0
+abbrev pub IsTyped : List ℕ → Result Parts Stop → Type 0
 IsTyped bytes (Ok n) = GivesNet bytes n
-IsTyped bytes (Err (Refused r)) = BreaksNet bytes (violation_of r)
-IsTyped bytes (Err Memory) = Unit {0}
+IsTyped bytes (Err e) = StopsBy (BreaksNet bytes) e
 
 abbrev pub plan_of : Checked → Plan
 plan_of c = record { net = c.net; rows = rows_of c.schedule }
 
-abbrev pub IsChecked : List ℕ → Result Checked VerdictStop → Type 0
+abbrev pub IsChecked : List ℕ → Result Checked Stop → Type 0
 IsChecked bytes (Ok c) = Accepts bytes (plan_of c)
-IsChecked bytes (Err (Refused r)) = Breaks bytes (violation_of r)
-IsChecked bytes (Err Memory) = Unit {0}
+IsChecked bytes (Err e) = StopsBy (Breaks bytes) e
 
-abbrev pub IsMeasured : List ℕ → Result Measured VerdictStop → Type 0
+abbrev pub IsMeasured : List ℕ → Result Measured Stop → Type 0
 IsMeasured bytes (Ok m) = AcceptsSize bytes m
-IsMeasured bytes (Err (Refused r)) = Breaks bytes (violation_of r)
-IsMeasured bytes (Err Memory) = Unit {0}
+IsMeasured bytes (Err e) = StopsBy (Breaks bytes) e
 
-abbrev pub IsJudged : List ℕ → Result (List EventDelay) VerdictStop → Type 0
+abbrev pub IsJudged : List ℕ → Result (List EventDelay) Stop → Type 0
 IsJudged bytes (Ok timers) = AcceptsTimers bytes timers
-IsJudged bytes (Err (Refused r)) = BreaksTimers bytes (violation_of r)
-IsJudged bytes (Err Memory) = Unit {0}
+IsJudged bytes (Err e) = StopsBy (BreaksTimers bytes) e

@@ -4,11 +4,11 @@
 ghost use Rattle.sci_verdict.specs.Laws.{OneVerdict, OneVerdictOfTimers};
 
 mod checked;
-mod stop;
+#[cfg(test)]
+mod tests;
 mod verdict;
 
 pub use checked::{Checked, Measured};
-pub use stop::VerdictStop;
 pub use verdict::{check, measure, timer_net, typed_net};
 
 /// Of each file at most one verdict holds, but that any loop of the least source that has one may be told.

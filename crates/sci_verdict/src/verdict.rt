@@ -3,7 +3,7 @@ ghost use Rattle.std.specs.Prelude.{◌≤◌, length};
 ghost use Rattle.sci_verdict.specs.Verdict.{IsTyped, IsChecked, IsMeasured, IsJudged};
 
 use crate::checked::{Checked, Measured};
-use crate::stop::VerdictStop;
+use sci_base::Stop;
 use sci_diagram::read;
 use sci_flat::flatten;
 use sci_infer::infer;
@@ -15,19 +15,18 @@ use std::alloc::Global;
 
 /// The typed net of a diagram's file, or the first rule that it breaks: of the file's form (1 to 6), of blocks and links (14, 7,
 /// 9, 10, 11, 8; 12, 13), of what feeds each input (15, 16), of types and sizes (17 to 23).
-pub fn typed_net(alloc: Global, bytes: &[u8]) -> Result<Net, VerdictStop>
+pub fn typed_net(alloc: Global, bytes: &[u8]) -> Result<Net, Stop>
     requires { length bytes.now ≤ 16777216 }
     ensures { IsTyped bytes.now result }
 {
     let diagram = read(alloc, bytes)?;
     let flat = flatten(alloc, &diagram)?;
-    let net = infer(alloc, &flat)?;
-    Ok(net)
+    infer(alloc, flat)
 }
 
 /// The typed net of a diagram's file with its static schedules, or the first rule that it breaks: one of those of `typed_net`, or
 /// else a loop at the least source that has one (24), or schedules that are too long (25).
-pub fn check(alloc: Global, bytes: &[u8]) -> Result<Checked, VerdictStop>
+pub fn check(alloc: Global, bytes: &[u8]) -> Result<Checked, Stop>
     requires { length bytes.now ≤ 16777216 }
     ensures { IsChecked bytes.now result }
 {
@@ -38,7 +37,7 @@ pub fn check(alloc: Global, bytes: &[u8]) -> Result<Checked, VerdictStop>
 
 /// The typed net of a diagram's file with the size of its static schedules, which are not built; or the first rule that it breaks, one of
 /// those of `check`.
-pub fn measure(alloc: Global, bytes: &[u8]) -> Result<Measured, VerdictStop>
+pub fn measure(alloc: Global, bytes: &[u8]) -> Result<Measured, Stop>
     requires { length bytes.now ≤ 16777216 }
     ensures { IsMeasured bytes.now result }
 {
@@ -48,12 +47,11 @@ pub fn measure(alloc: Global, bytes: &[u8]) -> Result<Measured, VerdictStop>
 }
 
 /// The net of timers of a diagram's file, or the first rule that it breaks: one of those of `check`, or else rule 30, at the
-/// first block that is no delayed event, or without a place where the timers have too many feeding events.
-pub fn timer_net(alloc: Global, bytes: &[u8]) -> Result<TimerNet, VerdictStop>
+/// first block that is no delayed event.
+pub fn timer_net(alloc: Global, bytes: &[u8]) -> Result<TimerNet, Stop>
     requires { length bytes.now ≤ 16777216 }
     ensures { IsJudged bytes.now result }
 {
     let measured = measure(alloc, bytes)?;
-    let timers = timers_of(alloc, &measured.net)?;
-    Ok(timers)
+    timers_of(alloc, &measured.net)
 }

@@ -11,5 +11,7 @@ use Rattle.scicos.specs.declared.prepare.Prepared.{Prepared}
 use Rattle.scicos.proofs.Causes.{met_by}
 
 pub met_either : (p : Prepared) (words : List (List ℕ)) (old new : FolderState) (out out' err err' : SinkState) (s : ℕ) → Reaches words old new (answer_of p) → (MayLack p → Reaches words old new no_memory) → Delivers p out out' err err' s → Meets words old new out out' err err' s
-met_either p words old new out out' err err' s reaches lacks (inl w) = met_by words old new out out' err err' s (answer_of p) reaches w
-met_either p words old new out out' err err' s reaches lacks (inr (may, w)) = met_by words old new out out' err err' s no_memory (lacks may) w
+met_either p words old new out out' err err' s reaches lacks (inl w) = met_by words old new out out' err err' s reaches.0 (answer_of p) reaches.1 w
+met_either p words old new out out' err err' s reaches lacks (inr (may, w)) =
+    let lacked = lacks may in
+    met_by words old new out out' err err' s lacked.0 no_memory lacked.1 w

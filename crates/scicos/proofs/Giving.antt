@@ -7,9 +7,9 @@ use Rattle.sci_base.specs.declared.observation.Obs.{Obs}
 use Rattle.sci_base.specs.declared.observation.Obs.TheVariants.{Start}
 use Rattle.sci_io.specs.Causes.{Rose}
 use Rattle.sci_io.specs.declared.sink.Failed.{Failed}
-use Rattle.sci_io.specs.Taken.{SinkState, Advances, TakesFront, Writes, followed}
+use Rattle.sci_io.specs.Taken.{SinkState, Advances, TakesFront, Writes}
 use Rattle.sci_io.proofs.Advance.{then_writes, same_text, all_taken}
-use Rattle.sci_report.specs.Line.{refused_line, head_text}
+use Rattle.scicos.specs.Line.{refused_line, head_text}
 use Rattle.sci_trace.specs.Lines.{text, line, stops}
 use Rattle.sci_sim.specs.declared.ready.RunEnd.{RunEnd}
 use Rattle.sci_sim.specs.Ended.{is_stopped}
@@ -19,10 +19,9 @@ use Rattle.c_mean.specs.declared.start.RunStop.{RunStop}
 use Rattle.c_mean.specs.declared.start.RunStop.TheVariants as causes
 use Rattle.c_mean.specs.Meaning.{Ran as Observed}
 use Rattle.c_mean.specs.Answering.{end_of}
-use Rattle.scicos.specs.Answer.{Answer, IsDone, says, prints, ran, run_status, write_fault_line, no_memory_line, undefined_line, no_memory, c_status, c_err, c_ran}
-use Rattle.scicos.specs.Written.{Took, Cut, Given, CutShort, GivenOut, CutOut, Written}
-use Rattle.scicos.specs.Deliver.{Gives, Said, Ran, Finished, RanC, FinishedC}
-use Rattle.scicos.proofs.Causes.{done_c}
+use Rattle.scicos.specs.Answer.{says, prints, ran, run_status, write_fault_line, no_memory_line, undefined_line, no_memory, c_status, c_err, c_ran}
+use Rattle.scicos.specs.Written.{Took, Cut, Given, CutShort, Written}
+use Rattle.scicos.specs.Deliver.{Gives, Said, Ran, Finished, RunsOut, RanC, FinishedC}
 
 pub some_text : (t : List ℕ) → 0 < length t → t ≢ []
 some_text t h = λ e. omega (arith, h, ap length e)
@@ -55,25 +54,9 @@ not_flushed {old = old} {new = new} t r s e f is was w =
 pub none_given : (s : SinkState) → Given s s []
 none_given s = inl (refl, refl)
 
--- of a sink alone, where a command isn't a run that observed nothing
-given_out : (a : Answer) (old new : SinkState) → Given old new a.out → GivenOut a old new
-given_out a old new h = inl h
-
-cut_out : (a : Answer) (old new : SinkState) → CutShort old new a.out → CutOut a old new
-cut_out a old new h = inl h
-
--- of a run, whatever it observed
-run_given : (a : Answer) (old new : SinkState) (t : List ℕ) → a.out ≡ t → IsDone a.status → Took old new t → GivenOut a old new
-run_given a old new [] is done took = inr (done, is, took)
-run_given a old new (x ∷ xs) is done took = inl (inr ((λ e. absurd (cc (e, is))), subst (λ (t : List ℕ). Took old new t) (sym is) took))
-
-run_cut : (a : Answer) (old new : SinkState) (t : List ℕ) → a.out ≡ t → IsDone a.status → Cut old new t → CutOut a old new
-run_cut a old new [] is done cut = inr (done, is, cut)
-run_cut a old new (x ∷ xs) is done cut = inl ((λ e. absurd (cc (e, is))), subst (λ (t : List ℕ). Cut old new t) (sym is) cut)
-
 pub said_written : (status : ℕ) (t : List ℕ) (out err err' : SinkState) (answer : ℕ) → Said status t err err' answer → Written (says status t) out out err err' answer
-said_written status t out err err' answer (some, inl h) = inl (h.0, inl (none_given out), inr (some, h.1))
-said_written status t out err err' answer (some, inr h) = inr (inr (h.0, inl (none_given out), (some, h.1)))
+said_written status t out err err' answer (some, inl h) = inl (h.0, none_given out, inr (some, h.1))
+said_written status t out err err' answer (some, inr h) = inr (inr (h.0, none_given out, (some, h.1)))
 
 pub fault_told : (err err' : SinkState) (answer : ℕ) → Said 4 write_fault_line err err' answer → (answer ≡ 4) × (Given err err' write_fault_line ⊎ CutShort err err' write_fault_line)
 fault_told err err' answer (some, inl h) = (h.0, inl (inr (some, h.1)))
@@ -81,31 +64,31 @@ fault_told err err' answer (some, inr h) = (h.0, inr (some, h.1))
 
 -- what is told of a diagram, which may be nothing
 pub silent_written : (t : List ℕ) (out err : SinkState) → t ≡ [] → Written (prints t) out out err err 0
-silent_written t out err none = inl (refl, inl (inl (none, refl)), none_given err)
+silent_written t out err none = inl (refl, inl (none, refl), none_given err)
 
 pub told_written : (t : List ℕ) (out out' err : SinkState) → t ≢ [] → Took out out' t → Written (prints t) out out' err err 0
-told_written t out out' err some h = inl (refl, inl (inr (some, h)), none_given err)
+told_written t out out' err some h = inl (refl, inr (some, h), none_given err)
 
 pub told_cut : (t : List ℕ) (out out' err err' : SinkState) (answer : ℕ) → t ≢ [] → Cut out out' t → Said 4 write_fault_line err err' answer → Written (prints t) out out' err err' answer
 told_cut t out out' err err' answer some h said =
     let told = fault_told err err' answer said in
-    inr (inl (told.0, inl (some, h), told.1))
+    inr (inl (told.0, (some, h), told.1))
 
 -- a text was printed on out, or cut
 pub printed_written : (t : List ℕ) (out out' err : SinkState) → 0 < length t → Took out out' t → Written (prints t) out out' err err 0
-printed_written t out out' err some h = inl (refl, inl (inr (some_text t some, h)), none_given err)
+printed_written t out out' err some h = inl (refl, inr (some_text t some, h), none_given err)
 
 pub cut_written : (t : List ℕ) (out out' err err' : SinkState) (answer : ℕ) → 0 < length t → Cut out out' t → Said 4 write_fault_line err err' answer → Written (prints t) out out' err err' answer
 cut_written t out out' err err' answer some h said =
     let told = fault_told err err' answer said in
-    inr (inl (told.0, inl (some_text t some, h), told.1))
+    inr (inl (told.0, (some_text t some, h), told.1))
 
 pub ran_written : (os : List Obs) (out out' err err' : SinkState) (answer : ℕ) (r : Result RunEnd Failed) → Ran (Start ∷ os) out out' r → Finished r err err' answer → Written (ran (Start ∷ os)) out out' err err' answer
 ran_written os out out' err err' answer (Ok e) p h =
-    inl (h.0 ∙ ap run_status p.0, inl (inr (some_trace os, p.1)), inl (refl, h.1))
+    inl (h.0 ∙ ap run_status p.0, inr (some_trace os, p.1), inl (refl, h.1))
 ran_written os out out' err err' answer (Err e) p h =
     let told = fault_told err err' answer h in
-    inr (inl (told.0, inl (some_trace os, p), told.1))
+    inr (inl (told.0, (some_trace os, p), told.1))
 
 -- a run failed to be written
 pub ran_cut : {T E : Type 0} (old new : SinkState) (os : List Obs) (r : Result T E) (s : Result RunEnd Failed) (e : E) (f : Failed) → r ≡ Err e → s ≡ Err f → Gives old new (text os) r → Ran os old new s
@@ -115,28 +98,47 @@ ran_cut old new os r s e f is was h = subst (λ q. Ran os old new q) (sym was) (
 pub ran_whole : {T E : Type 0} (old new : SinkState) (os : List Obs) (end : RunEnd) (s : Result T E) (x : T) → s ≡ Ok x → Gives old new (text os) s → stops os ≡ is_stopped end → Ran os old new (Ok end)
 ran_whole old new os end s x is h stopped = (sym stopped, subst (λ q. Gives old new (text os) q) is h)
 
+-- a run failed as it wrote
+pub ran_failed : {T E : Type 0} {old new : SinkState} (os : List Obs) (r : Result T E) (s : Result RunEnd Failed) (e : E) (f : Failed) → r ≡ Err e → s ≡ Err f → Writes old new (text os) r → Ran os old new s
+ran_failed {old = old} {new = new} os r s e f is was w = ran_cut old new os r s e f is was (not_flushed (text os) r r e e is is w)
+
+-- a run was written and not flushed
+pub ran_unflushed : {T E U F : Type 0} {old mid new : SinkState} (os : List Obs) (r : Result T E) (s : Result U F) (q : Result RunEnd Failed) (x : T) (e : F) (f : Failed) → r ≡ Ok x → s ≡ Err e → q ≡ Err f → Writes old mid (text os) r → Writes mid new [] s → OnOk s (new.held ≡ []) → Ran os old new q
+ran_unflushed {old = old} {new = new} os r s q x e f ok is was first second empty = ran_cut old new os s q e f is was (flushed (text os) r s x ok first second empty)
+
+-- and flushed
+pub ran_flushed : {T E U F : Type 0} {old mid new : SinkState} (os : List Obs) (end : RunEnd) (r : Result T E) (s : Result U F) (x : T) (y : U) → r ≡ Ok x → s ≡ Ok y → Writes old mid (text os) r → Writes mid new [] s → OnOk s (new.held ≡ []) → stops os ≡ is_stopped end → Ran os old new (Ok end)
+ran_flushed {old = old} {new = new} os end r s x y ok is first second empty stopped = ran_whole old new os end s y is (flushed (text os) r s x ok first second empty) stopped
+
 -- ---- of a C program
+
+-- it observes something, and was run on out
+pub c_observed : (r : Observed) (out out' : SinkState) (q : Result CEnd RunStop) → text r.seen ≢ [] → RunsOut r out out' q → RanC r out out' q
+c_observed r out out' (Ok e) some h = (h.0, inr (some, h.1))
+c_observed r out out' (Err causes.Failed) some h = (some, h)
+c_observed r out out' (Err causes.Memory) some h = h
+
+-- it observes nothing, and was not run on out
+pub c_silent : (r : Observed) (e : CEnd) (out : SinkState) → text r.seen ≡ [] → e ≡ end_of r.how → RanC r out out (Ok e)
+c_silent r e out none is = (is, inl (none, refl))
 
 pub some_statement : (n : ℕ) → undefined_line n ≢ []
 unfolding undefined_line
 some_statement n = λ e. absurd (cc e)
 
-c_done : (r : Observed) (e : CEnd) → e ≡ end_of r.how → IsDone (c_ran r).status
-c_done r e is = subst (λ (x : CEnd). IsDone (c_status x)) is (done_c e)
-
 -- it came to an end without a line on err
-c_quiet : (r : Observed) (e : CEnd) (out out' err err' : SinkState) (answer : ℕ) → c_err e ≡ [] → answer ≡ c_status e → e ≡ end_of r.how → Took out out' (text r.seen) → err' ≡ err → Written (c_ran r) out out' err err' answer
-c_quiet r e out out' err err' answer none status is took same =
-    inl (status ∙ ap c_status is, run_given (c_ran r) out out' (text r.seen) refl (c_done r e is) took, inl (sym (ap c_err is) ∙ none, same))
+c_quiet : (r : Observed) (e : CEnd) (out out' err err' : SinkState) (answer : ℕ) → c_err e ≡ [] → answer ≡ c_status e → e ≡ end_of r.how → Given out out' (text r.seen) → err' ≡ err → Written (c_ran r) out out' err err' answer
+c_quiet r e out out' err err' answer none status is given same =
+    inl (status ∙ ap c_status is, given, inl (sym (ap c_err is) ∙ none, same))
 
 -- or with one
-c_undefined : (r : Observed) (n : ℕ) (out out' err err' : SinkState) (answer : ℕ) → Undefined n ≡ end_of r.how → Took out out' (text r.seen) → Said 7 (undefined_line n) err err' answer → Written (c_ran r) out out' err err' answer
-c_undefined r n out out' err err' answer is took (some, inl h) =
+c_undefined : (r : Observed) (n : ℕ) (out out' err err' : SinkState) (answer : ℕ) → Undefined n ≡ end_of r.how → Given out out' (text r.seen) → Said 7 (undefined_line n) err err' answer → Written (c_ran r) out out' err err' answer
+c_undefined r n out out' err err' answer is given (some, inl h) =
     let line : undefined_line n ≡ (c_ran r).err = ap c_err is in
-    inl (h.0 ∙ ap c_status is, run_given (c_ran r) out out' (text r.seen) refl (c_done r (Undefined n) is) took, subst (λ (t : List ℕ). Given err err' t) line (inr (some, h.1)))
-c_undefined r n out out' err err' answer is took (some, inr h) =
+    inl (h.0 ∙ ap c_status is, given, subst (λ (t : List ℕ). Given err err' t) line (inr (some, h.1)))
+c_undefined r n out out' err err' answer is given (some, inr h) =
     let line : undefined_line n ≡ (c_ran r).err = ap c_err is in
-    inr (inr (h.0, run_given (c_ran r) out out' (text r.seen) refl (c_done r (Undefined n) is) took, subst (λ (t : List ℕ). CutShort err err' t) line (some, h.1)))
+    inr (inr (h.0, given, subst (λ (t : List ℕ). CutShort err err' t) line (some, h.1)))
 
 -- memory lacked before it observed anything
 c_lacks : (out out' err err' : SinkState) (answer : ℕ) → out' ≡ out → Said 5 no_memory_line err err' answer → Written no_memory out out' err err' answer
@@ -148,5 +150,5 @@ c_written r out out' err err' answer (Ok Stop) p h = inl (c_quiet r Stop out out
 c_written r out out' err err' answer (Ok (Undefined n)) p h = inl (c_undefined r n out out' err err' answer p.0 p.1 h)
 c_written r out out' err err' answer (Err causes.Failed) p h =
     let told = fault_told err err' answer h in
-    inl (inr (inl (told.0, run_cut (c_ran r) out out' (text r.seen) refl (done_c (end_of r.how)) p, told.1)))
+    inl (inr (inl (told.0, p, told.1)))
 c_written r out out' err err' answer (Err causes.Memory) p h = inr (tt, c_lacks out out' err err' answer p h)

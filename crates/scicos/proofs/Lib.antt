@@ -1,9 +1,14 @@
 mod Spoken
 mod Whole
 mod Giving
-mod Coming
+mod Ends
 mod Causes
 mod OneAnswer
 mod Delivered
 mod Silent
 mod Blamed
+mod Probing
+mod Courses
+mod Looking
+mod Steps
+mod Pieces

@@ -6,7 +6,7 @@ use Rattle.sci_net.specs.Parts.{Parts, spec_of, path_of}
 use Rattle.sci_net.specs.Sources.{sources_of, sources_from}
 use Rattle.sci_reaction.specs.Schedule.{Entry}
 use Rattle.sci_sched.specs.Text.{source_text, row_text, plan_text}
-use Rattle.sci_map.specs.Map.{number_text, block_line, lines_from, map_text}
+use Rattle.scicos.specs.Map.{number_text, block_line, lines_from, map_text}
 use Rattle.scicos.specs.Answer.{counts_line}
 
 pub counts_some : (blocks sources entries guards : ℕ) → counts_line blocks sources entries guards ≢ []

@@ -1,8 +1,9 @@
 -- The whole bytes of a file, of which at most one byte past the limit is read.
-use Rattle.std.proofs.Common.{◌≡◌, ◌≤◌, ◌<◌, ◌+◌, min, ℕ, List, length, take, Option, Some, None, option_map, refl, sym, ◌∙◌, ap, subst, arith}
+use Rattle.std.proofs.Common.{◌≡◌, ◌≤◌, ◌<◌, ◌+◌, min, ℕ, List, length, take, Option, Some, None, option_map, refl, sym, ◌∙◌, ap, subst, arith, [], ◌∷◌, ◌++◌, ◌⊎◌, inl, inr}
 use Rattle.std.proofs.lemmas.List.{take_all, length-take}
-use Rattle.sci_io.specs.Files.{Files, file_named, IsFrontOf}
-use Rattle.scicos.specs.Due.{Holds}
+use Rattle.sci_io.specs.Files.{Files, FolderState, file_named, IsFrontOf}
+use Rattle.scicos.specs.Course.{Holds}
+use Rattle.scicos.specs.Look.{MayAsk}
 
 pub whole_named : (o : Option (List ℕ)) (n : ℕ) (read : List ℕ) → option_map (λ (bytes : List ℕ). take n bytes) o ≡ Some read → (whole : List ℕ) × (o ≡ Some whole) × (read ≡ take n whole)
 whole_named None n read h = absurd (cc h)
@@ -24,3 +25,8 @@ short_whole files name limit read h short =
     let e : length read ≡ min (limit + 1) (length w.0) = ap length w.2 ∙ length-take (limit + 1) w.0 in
     let same : read ≡ w.0 = w.2 ∙ take_all (limit + 1) w.0 (omega (arith, e, short)) in
     subst (λ (l : List ℕ). Holds files name l) (sym same) w.1
+
+-- memory lacked before the file was asked for, or behind it
+pub may_ask : {T : Type 0} (old new : FolderState) (name : List ℕ) → ((new.asked ≡ old.asked) ⊎ ((new.asked ≡ old.asked ++ name ∷ []) × T)) × (new.faults ≡ old.faults) → MayAsk old new name
+may_ask old new name (inl h, same) = (inl h, same)
+may_ask old new name (inr h, same) = (inr h.0, same)

@@ -2,12 +2,12 @@
 use Rattle.std.specs.Prelude.{ℕ, ◌≡◌, ◌⊎◌, List, [], ◌++◌, length, codes, decimal, Bool, true, false}
 use Rattle.sci_base.specs.Plain.{Violation}
 use Rattle.sci_base.specs.declared.observation.Obs.{Obs}
-use Rattle.sci_report.specs.Line.{refused_line}
+use Rattle.scicos.specs.Line.{refused_line}
 use Rattle.sci_trace.specs.Lines.{text, stops}
 use Rattle.sci_net.specs.Sources.{sources_of}
 use Rattle.sci_sched.specs.Size.{entry_count, guard_count}
 use Rattle.sci_sched.specs.Text.{plan_text}
-use Rattle.sci_map.specs.Map.{map_text}
+use Rattle.scicos.specs.Map.{map_text}
 use Rattle.sci_verdict.specs.Verdict.{Plan}
 use Rattle.sci_pending.specs.Run.{trace}
 use Rattle.sci_pending.specs.Timer.{EventDelay}

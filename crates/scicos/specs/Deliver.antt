@@ -1,5 +1,5 @@
 -- What the steps of writing leave on a sink.
-use Rattle.std.specs.Prelude.{ℕ, ◌≡◌, ◌≢◌, ◌⊎◌, List, [], Result, Ok, Err}
+use Rattle.std.specs.Prelude.{ℕ, ◌≡◌, ◌≢◌, ◌⊎◌, List, [], Result, Ok, Err, Option, Some, None}
 use Rattle.sci_base.specs.declared.observation.Obs.{Obs}
 use Rattle.sci_io.specs.Taken.{SinkState}
 use Rattle.sci_io.specs.declared.sink.Failed.{Failed}
@@ -7,7 +7,7 @@ use Rattle.sci_sim.specs.declared.ready.RunEnd.{RunEnd}
 use Rattle.sci_sim.specs.Ended.{is_stopped}
 use Rattle.sci_trace.specs.Lines.{text, stops}
 use Rattle.scicos.specs.Answer.{write_fault_line, no_memory_line, undefined_line, no_memory, run_status}
-use Rattle.scicos.specs.Written.{Took, Cut, Written}
+use Rattle.scicos.specs.Written.{Took, Cut, Given, CutShort, Written}
 use Rattle.scicos.specs.Prepare.{answer_of, MayLack}
 use Rattle.scicos.specs.declared.prepare.Prepared.{Prepared}
 use Rattle.c_mean.specs.Meaning.{Ran as Observed}
@@ -36,11 +36,23 @@ abbrev pub Finished : Result RunEnd Failed → SinkState → SinkState → ℕ �
 Finished (Ok end) err err' answer = (answer ≡ run_status (is_stopped end)) × (err' ≡ err)
 Finished (Err _) err err' answer = Said 4 write_fault_line err err' answer
 
--- a C program was run on out; where memory lacked, out is as it was
+-- a C program was run on out, which was flushed; where memory lacked, out is as it was
+abbrev pub RunsOut : Observed → SinkState → SinkState → Result CEnd RunStop → Type 0
+RunsOut r out out' (Ok end) = (end ≡ end_of r.how) × Took out out' (text r.seen)
+RunsOut r out out' (Err causes.Failed) = Cut out out' (text r.seen)
+RunsOut r out out' (Err causes.Memory) = out' ≡ out
+
+-- a C program was run; where it observes nothing, or memory lacked, out is as it was
 abbrev pub RanC : Observed → SinkState → SinkState → Result CEnd RunStop → Type 0
-RanC r out out' (Ok end) = (end ≡ end_of r.how) × Took out out' (text r.seen)
-RanC r out out' (Err causes.Failed) = Cut out out' (text r.seen)
+RanC r out out' (Ok end) = (end ≡ end_of r.how) × Given out out' (text r.seen)
+RanC r out out' (Err causes.Failed) = CutShort out out' (text r.seen)
 RanC r out out' (Err causes.Memory) = out' ≡ out
+
+-- how a C program ends that observes nothing, or that it observes something; or want of memory
+abbrev pub IsSilence : {E : Type 0} → Observed → Result (Option CEnd) E → Type 0
+IsSilence r (Ok (Some end)) = (text r.seen ≡ []) × (end ≡ end_of r.how)
+IsSilence r (Ok None) = text r.seen ≢ []
+IsSilence r (Err _) = Unit {0}
 
 -- after such a run: its status; where it has no meaning, or out failed, or memory lacked, a line put on err
 abbrev pub FinishedC : Result CEnd RunStop → SinkState → SinkState → ℕ → Type 0

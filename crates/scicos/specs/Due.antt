@@ -1,74 +1,31 @@
 -- What is due of the words and the files.
-use Rattle.std.specs.Prelude.{ℕ, ◌≡◌, ◌≤◌, ◌<◌, ◌⊎◌, pos, length, List, [], ◌∷◌, Some, None}
-use Rattle.sci_base.specs.Plain.{Violation}
-use Rattle.sci_base.specs.declared.refusal.Rule.TheVariants.{FileTooLong}
-use Rattle.sci_io.specs.Files.{Files, file_named}
+use Rattle.std.specs.Prelude.{ℕ, ℤ, ◌≡◌, ◌⊎◌, pos, List, [], ◌∷◌}
+use Rattle.sci_io.specs.Files.{Files}
 use Rattle.sci_pending.specs.Timer.{EventDelay}
 use Rattle.c_ast.specs.Syntax.{Whole}
 use Rattle.c_mean.specs.Meaning.{meaning}
-use Rattle.sci_verdict.specs.Verdict.{Accepts, Breaks, AcceptsTimers, BreaksTimers}
+use Rattle.sci_verdict.specs.Verdict.{Plan, Accepts, Breaks, AcceptsTimers, BreaksTimers}
 use Rattle.scicos.specs.Inputs.{AcceptsInputs, BreaksInputs, AcceptsColumns, BreaksColumns}
 use Rattle.scicos.specs.Program.{AcceptsC, BreaksC}
 use Rattle.scicos.specs.Host.{host_text}
 use Rattle.scicos.specs.Words.{Request, report, simulate, run_c, host, Spells, NoCommand}
-use Rattle.scicos.specs.Answer.{Answer, usage, prints, refused, report_text, simulated, c_ran}
+use Rattle.scicos.specs.Answer.{Answer, usage, prints, report_text, simulated, c_ran}
+use Rattle.scicos.specs.Course.{diagram_slot, inputs_slot, c_slot, Course, gives, reads, DueOn}
 
--- the file of this name holds these bytes, where the folder tells
-abbrev pub Holds : Files → List ℕ → List ℕ → Type 0
-Holds None name bytes = Unit {0}
-Holds (Some all) name bytes = file_named all name ≡ Some bytes
+-- what comes behind the diagram of a simulation, and behind a C file
+abbrev pub behind_timers : List ℕ → (until limit : ℕ) → List EventDelay → Course
+behind_timers i until limit timers = reads (Unit {0}) inputs_slot i AcceptsInputs BreaksInputs (λ _. gives (λ a. a ≡ simulated timers until limit))
 
--- a file of a command: whether it is the first or the second, and its limit in bytes
-pub record Slot : Type 0 where
-  pub which : ℕ
-  pub longest : ℕ
+abbrev pub behind_program : List ℕ → (until limit : ℕ) → Whole → Course
+behind_program i until limit program = reads (List (List ℤ)) inputs_slot i AcceptsColumns BreaksColumns (λ columns. gives (λ a. a ≡ c_ran (meaning program columns (pos until) (pos limit))))
 
--- a diagram, an input file, and a C file
-abbrev pub diagram_slot : Slot
-diagram_slot = record { which = 1; longest = 16777216 }
+-- the files of a command with their rules, in the order in which they are read, and what is due of them
+abbrev pub course_of : Request → Course
+course_of (report r d) = reads Plan diagram_slot d Accepts Breaks (λ p. gives (λ a. a ≡ prints (report_text r p)))
+course_of (simulate d i until limit) = reads (List EventDelay) diagram_slot d AcceptsTimers BreaksTimers (behind_timers i until limit)
+course_of (run_c c i until limit) = reads Whole c_slot c AcceptsC BreaksC (behind_program i until limit)
+course_of host = gives (λ a. a ≡ prints host_text)
 
-abbrev pub inputs_slot : Slot
-inputs_slot = record { which = 2; longest = 16777216 }
-
-abbrev pub c_slot : Slot
-c_slot = record { which = 1; longest = 67108864 }
-
--- the file is too long
-abbrev pub too_long : Slot → Violation
-too_long slot = record { rule = FileTooLong; place = []; detail = pos slot.which ∷ pos slot.longest ∷ [] }
-
--- the file passes its rules, and makes this
-abbrev pub Passes : {A : Type 0} → (List ℕ → A → Type 0) → Slot → Files → List ℕ → A → Type 0
-Passes accepts slot files name made = (bytes : List ℕ) × Holds files name bytes × (length bytes ≤ slot.longest) × accepts bytes made
-
--- the file fails so: its length first, and then its rules
-abbrev pub Fails : (List ℕ → Violation → Type 0) → Slot → Files → List ℕ → Violation → Type 0
-Fails breaks slot files name v = (bytes : List ℕ) × Holds files name bytes × (((slot.longest < length bytes) × (v ≡ too_long slot)) ⊎ ((length bytes ≤ slot.longest) × breaks bytes v))
-
--- After these names were read: a refusal where the file fails, and what comes next where it passes.
-abbrev pub Judged : {A : Type 0} → (Violation → Type 0) → (A → Type 0) → List (List ℕ) → (A → Type 0) → List (List ℕ) → Answer → Type 0
-Judged {A = A} fails passes read next names a = ((v : Violation) × fails v × (a ≡ refused v) × (names ≡ read)) ⊎ ((made : A) × passes made × next made)
-
--- what is due of a simulation whose diagram passes
-abbrev pub DueBehind : Files → List EventDelay → List ℕ → List ℕ → (until limit : ℕ) → List (List ℕ) → Answer → Type 0
-DueBehind files timers d i until limit names a =
-    Judged (Fails BreaksInputs inputs_slot files i) (Passes AcceptsInputs inputs_slot files i) (d ∷ i ∷ []) (λ (_ : Unit {0}). (a ≡ simulated timers until limit) × (names ≡ d ∷ i ∷ [])) names a
-
--- what is due of a C file that passes
-abbrev pub DueBehindC : Files → Whole → List ℕ → List ℕ → (until limit : ℕ) → List (List ℕ) → Answer → Type 0
-DueBehindC files program c i until limit names a =
-    Judged (Fails BreaksColumns inputs_slot files i) (Passes AcceptsColumns inputs_slot files i) (c ∷ i ∷ []) (λ columns. (a ≡ c_ran (meaning program columns (pos until) (pos limit))) × (names ≡ c ∷ i ∷ [])) names a
-
--- what is due of a command, after these names were read
-abbrev pub DueOf : Files → Request → List (List ℕ) → Answer → Type 0
-DueOf files (report r d) names a =
-    Judged (Fails Breaks diagram_slot files d) (Passes Accepts diagram_slot files d) (d ∷ []) (λ p. (a ≡ prints (report_text r p)) × (names ≡ d ∷ [])) names a
-DueOf files (simulate d i until limit) names a =
-    Judged (Fails BreaksTimers diagram_slot files d) (Passes AcceptsTimers diagram_slot files d) (d ∷ []) (λ timers. DueBehind files timers d i until limit names a) names a
-DueOf files (run_c c i until limit) names a =
-    Judged (Fails BreaksC c_slot files c) (Passes AcceptsC c_slot files c) (c ∷ []) (λ program. DueBehindC files program c i until limit names a) names a
-DueOf files host names a = (a ≡ prints host_text) × (names ≡ [])
-
--- The answer that is due of these words, and the names that are read for it.
-abbrev pub Due : Files → List (List ℕ) → List (List ℕ) → Answer → Type 0
-Due files words names a = (NoCommand words × (a ≡ usage) × (names ≡ [])) ⊎ ((c : Request) × Spells words c × DueOf files c names a)
+-- The answer that is due of these words where the command's files have these bytes, and the names that are read for it.
+abbrev pub Due : Files → List (List ℕ) → (bytes names : List (List ℕ)) → Answer → Type 0
+Due files words bytes names a = (NoCommand words × (a ≡ usage) × (names ≡ [])) ⊎ ((c : Request) × Spells words c × DueOn files (course_of c) bytes names a)

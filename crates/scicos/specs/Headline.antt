@@ -5,26 +5,27 @@ use Rattle.sci_io.specs.Files.{FolderState}
 use Rattle.sci_io.specs.Taken.{SinkState}
 use Rattle.scicos.specs.Words.{Request, Spells, NoCommand, files_of}
 use Rattle.scicos.specs.Answer.{Answer, IsDone}
-use Rattle.scicos.specs.Due.{Due}
-use Rattle.scicos.specs.Reached.{ReadsFiles, AsksFront, Reaches}
-use Rattle.scicos.specs.Written.{Given, GivenOut, Written}
+use Rattle.scicos.specs.Course.{ReadsFiles}
+use Rattle.scicos.specs.Due.{course_of, Due}
+use Rattle.scicos.specs.Reached.{ReachesBy, AsksFrontOf}
+use Rattle.scicos.specs.Written.{Given, Written}
 
 -- no fault rose
 abbrev pub Quiet : ℕ → ℕ → Type 0
 Quiet before now = Rose before now → ⊥
 
--- The answer that is due was given whole, and the names asked for are those that are read for it.
-abbrev pub GivesDue : List (List ℕ) → FolderState → FolderState → SinkState → SinkState → SinkState → SinkState → ℕ → Type 0
-GivesDue words folder folder' out out' err err' status =
-    (a : Answer) × (names : List (List ℕ)) × Due folder.files words names a × (folder'.asked ≡ folder.asked ++ names) × (status ≡ a.status) × GivenOut a out out' × Given err err' a.err
+-- The answer that is due of the files' bytes was given whole, and the names asked for are those that are read for it.
+abbrev pub GivesDue : List (List ℕ) → List (List ℕ) → FolderState → FolderState → SinkState → SinkState → SinkState → SinkState → ℕ → Type 0
+GivesDue words bytes folder folder' out out' err err' status =
+    (a : Answer) × (names : List (List ℕ)) × Due folder.files words bytes names a × (folder'.asked ≡ folder.asked ++ names) × (status ≡ a.status) × Given out out' a.out × Given err err' a.err
 
 -- the words are a command that reads files
 abbrev pub NamesFiles : List (List ℕ) → Type 0
-NamesFiles words = (c : Request) × Spells words c × ReadsFiles c
+NamesFiles words = (c : Request) × Spells words c × ReadsFiles (course_of c)
 
 -- nothing was asked for, or a front of the files of the command, a later one only where the earlier pass
-abbrev pub AsksInOrder : List (List ℕ) → FolderState → FolderState → Type 0
-AsksInOrder words folder folder' = (folder'.asked ≡ folder.asked) ⊎ ((c : Request) × Spells words c × AsksFront folder folder' c)
+abbrev pub AsksInOrder : List (List ℕ) → List (List ℕ) → FolderState → FolderState → Type 0
+AsksInOrder words bytes folder folder' = (folder'.asked ≡ folder.asked) ⊎ ((c : Request) × Spells words c × AsksFrontOf folder folder' bytes c)
 
 -- all the files of the command were asked for
 abbrev pub AsksAll : List (List ℕ) → FolderState → FolderState → Type 0
@@ -32,12 +33,14 @@ AsksAll words folder folder' = (c : Request) × Spells words c × (folder'.asked
 
 -- Of a call on these words, with the folder and the two sinks before and after, and its status.
 pub record Meets (words : List (List ℕ)) (folder folder' : FolderState) (out out' err err' : SinkState) (status : ℕ) : Type 0 where
-  -- the answer that is due, or a read fault, or want of memory, is written as far as the sinks take it
-  pub answer : (a : Answer) × Reaches words folder folder' a × Written a out out' err err' status
+  -- the bytes of the command's files, in the order in which they are read: those that the folder tells of each, where it tells
+  pub bytes : List (List ℕ)
+  -- the answer that is due of them, or a read fault, or want of memory, is written as far as the sinks take it
+  pub answer : (a : Answer) × ReachesBy words folder folder' bytes a × Written a out out' err err' status
   -- where no fault rose, it is the one that is due, memory aside
-  pub complete : Quiet folder.faults folder'.faults → Quiet out.faults out'.faults → Quiet err.faults err'.faults → GivesDue words folder folder' out out' err err' status ⊎ (status ≡ 5)
-  pub done : IsDone status → GivesDue words folder folder' out out' err err' status × AsksAll words folder folder'
-  pub refused : status ≡ 1 → GivesDue words folder folder' out out' err err' status
+  pub complete : Quiet folder.faults folder'.faults → Quiet out.faults out'.faults → Quiet err.faults err'.faults → GivesDue words bytes folder folder' out out' err err' status ⊎ (status ≡ 5)
+  pub done : IsDone status → GivesDue words bytes folder folder' out out' err err' status × AsksAll words folder folder'
+  pub refused : status ≡ 1 → GivesDue words bytes folder folder' out out' err err' status
   pub usage : status ≡ 2 → NoCommand words
   pub no_command : NoCommand words → (status ≡ 2) ⊎ (status ≡ 4)
   pub read_fault : status ≡ 3 → Rose folder.faults folder'.faults
@@ -46,4 +49,4 @@ pub record Meets (words : List (List ℕ)) (folder folder' : FolderState) (out o
   pub a_write_failed : ((out.faults < out'.faults) ⊎ (err.faults < err'.faults)) → status ≡ 4
   pub no_memory : status ≡ 5 → NamesFiles words
   pub nothing_out : ((status ≡ 1) ⊎ (status ≡ 2)) ⊎ ((status ≡ 3) ⊎ (status ≡ 5)) → out' ≡ out
-  pub in_order : AsksInOrder words folder folder'
+  pub in_order : AsksInOrder words bytes folder folder'

@@ -2,7 +2,7 @@
 use Rattle.std.specs.Prelude.{ℕ, ℤ, ◌≡◌, ◌⊎◌, List, [], Ok, Err, codes}
 use Rattle.sci_base.specs.Plain.{Violation, of_the_whole}
 use Rattle.sci_base.specs.declared.refusal.Rule.TheVariants.{Unbuilt}
-use Rattle.sci_inputs.specs.Reading.{judge}
+use Rattle.sci_trace.specs.Reading.{judge}
 
 -- ---- of a simulation: so far no block takes inputs, and it is the empty list alone
 

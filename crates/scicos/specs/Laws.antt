@@ -1,6 +1,7 @@
 -- Laws of what is due.
 use Rattle.std.specs.Prelude.{ℕ, ◌≡◌, ◌⊎◌, List, Some}
 use Rattle.sci_base.specs.Plain.{Violation}
+use Rattle.sci_io.specs.Files.{Files}
 use Rattle.sci_verdict.specs.Laws.{AreLoops}
 use Rattle.scicos.specs.Answer.{Answer, refused}
 use Rattle.scicos.specs.Due.{Due}
@@ -19,4 +20,8 @@ AreOneAnswer a b = (a ≡ b) ⊎ TellLoops a b
 -- Where the files are told, at most one answer is due of the words, with one list of names; but that any loop of the least source that
 -- has one may be told.
 abbrev pub OneAnswer : Type 0
-OneAnswer = (all : List (List ℕ × List ℕ)) (words : List (List ℕ)) (names others : List (List ℕ)) (a b : Answer) → Due (Some all) words names a → Due (Some all) words others b → AreOneAnswer a b × (names ≡ others)
+OneAnswer = (all : List (List ℕ × List ℕ)) (words bytes other_bytes names others : List (List ℕ)) (a b : Answer) → Due (Some all) words bytes names a → Due (Some all) words other_bytes others b → AreOneAnswer a b × (names ≡ others)
+
+-- The same of any files, told or not, whose bytes are these.
+abbrev pub OneAnswerOfBytes : Type 0
+OneAnswerOfBytes = (files : Files) (words bytes names others : List (List ℕ)) (a b : Answer) → Due files words bytes names a → Due files words bytes others b → AreOneAnswer a b × (names ≡ others)

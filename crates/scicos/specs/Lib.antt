@@ -1,12 +1,17 @@
+pub mod Line
+pub mod Map
 pub mod Words
 pub mod Inputs
 pub mod Program
 pub mod Host
 pub mod Answer
+pub mod Course
 pub mod Due
 pub mod Reached
 pub mod Written
 pub mod Deliver
+pub mod Probe
+pub mod Judged
 pub mod Look
 pub mod Prepare
 pub mod Headline

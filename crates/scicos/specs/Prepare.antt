@@ -1,17 +1,17 @@
 -- The answer that a prepared command writes.
-use Rattle.std.specs.Prelude.{◌≡◌, ◌≤◌, ◌<◌, ◌^◌, ◌⊎◌, List, length, ℕ, pos}
-use Rattle.sci_base.specs.Plain.{Violation, violation_of}
+use Rattle.std.specs.Prelude.{◌≡◌, ◌≤◌, ◌<◌, ◌^◌, ◌⊎◌, length, ℕ, pos, Result, Ok, Err}
+use Rattle.sci_base.specs.Plain.{violation_of}
 use Rattle.sci_io.specs.Files.{FolderState}
 use Rattle.sci_pending.specs.Run.{trace}
 use Rattle.sci_sim.specs.Running.{IsAtStart}
-use Rattle.sci_pending.specs.Timer.{EventDelay}
-use Rattle.c_ast.specs.Syntax.{Whole}
 use Rattle.c_ast.specs.View.{whole_of}
 use Rattle.c_mean.specs.Meaning.{meaning}
-use Rattle.scicos.specs.Inputs.{AcceptsInputs, BreaksInputs, AcceptsColumns, BreaksColumns}
-use Rattle.scicos.specs.Answer.{Answer, usage, prints, refused, read_fault, no_memory, ran, simulated, c_ran}
-use Rattle.scicos.specs.Due.{inputs_slot, Passes, Fails}
-use Rattle.scicos.specs.Look.{Asks, AsksInVain, MayAsk, told_text, HasRows}
+use Rattle.scicos.specs.Answer.{Answer, usage, prints, refused, read_fault, no_memory, ran, c_ran}
+use Rattle.scicos.specs.Course.{Course}
+use Rattle.scicos.specs.Reached.{ReachesTo}
+use Rattle.scicos.specs.Judged.{told_text, HasRows}
+use Rattle.scicos.specs.declared.look.LookStop.{LookStop}
+use Rattle.scicos.specs.declared.look.LookStop.TheVariants as stops
 use Rattle.scicos.specs.declared.prepare.Prepared.{Prepared}
 use Rattle.scicos.specs.declared.prepare.Prepared.TheVariants.{Usage, Refused, ReadFault, Memory, Print, Report as Tell, Simulate, RunC}
 
@@ -47,16 +47,27 @@ MayLack (Tell t) = ⊥
 MayLack (Simulate ready until limit) = ⊥
 MayLack (RunC program columns until limit) = Unit {0}
 
--- What a run comes to once its first file passes: the input file fails, or passes and gives an answer; it cannot be read; or memory lacks.
-abbrev pub ComesTo : {A : Type 0} → (List ℕ → Violation → Type 0) → (List ℕ → A → Type 0) → FolderState → FolderState → List ℕ → (A → Answer) → Answer → Type 0
-ComesTo {A = A} breaks accepts old new i due a =
-    (((v : Violation) × Fails breaks inputs_slot old.files i v × (a ≡ refused v)) × Asks old new i)
-    ⊎ (((made : A) × Passes accepts inputs_slot old.files i made × (a ≡ due made)) × Asks old new i)
-    ⊎ ((AsksInVain old new i × (a ≡ read_fault))
-    ⊎ (MayAsk old new i × (a ≡ no_memory)))
+-- a file that gives nothing
+abbrev pub stop_answer : LookStop → Answer
+stop_answer (stops.Refused r) = refused (violation_of r)
+stop_answer stops.Fault = read_fault
+stop_answer stops.Memory = no_memory
 
-abbrev pub SimulationComesTo : FolderState → FolderState → List EventDelay → List ℕ → (until limit : ℕ) → Answer → Type 0
-SimulationComesTo old new timers i until limit a = ComesTo BreaksInputs AcceptsInputs old new i (λ (_ : Unit {0}). simulated timers until limit) a
+-- the answer of a command whose files were looked at
+abbrev pub looked_answer : Result Prepared LookStop → Answer
+looked_answer (Ok p) = answer_of p
+looked_answer (Err e) = stop_answer e
 
-abbrev pub RunComesTo : FolderState → FolderState → Whole → List ℕ → (until limit : ℕ) → Answer → Type 0
-RunComesTo old new program i until limit a = ComesTo BreaksColumns AcceptsColumns old new i (λ columns. c_ran (meaning program columns (pos until) (pos limit))) a
+abbrev pub IsLookedAt : Result Prepared LookStop → Type 0
+IsLookedAt (Ok p) = IsPrepared p
+IsLookedAt (Err e) = Unit {0}
+
+abbrev pub LooksMayLack : Result Prepared LookStop → Type 0
+LooksMayLack (Ok p) = MayLack p
+LooksMayLack (Err e) = ⊥
+
+-- What a command whose files were looked at comes to: its answer, and, where memory may lack when it begins, that it does.
+pub record LooksAt (old new : FolderState) (course : Course) (result : Result Prepared LookStop) : Type 0 where
+  pub reaches : ReachesTo old new course (looked_answer result)
+  pub prepared : IsLookedAt result
+  pub lacks : LooksMayLack result → ReachesTo old new course no_memory

@@ -1,52 +1,48 @@
 -- What a call comes to before it writes, and the files that it asked for.
 use Rattle.std.specs.Prelude.{ℕ, ◌≡◌, ◌⊎◌, ◌++◌, List, [], ◌∷◌}
 use Rattle.sci_io.specs.Causes.{Rose}
-use Rattle.sci_io.specs.Files.{Files, FolderState}
-use Rattle.sci_pending.specs.Timer.{EventDelay}
-use Rattle.sci_verdict.specs.Verdict.{AcceptsTimers}
-use Rattle.c_ast.specs.Syntax.{Whole}
-use Rattle.scicos.specs.Program.{AcceptsC}
-use Rattle.scicos.specs.Words.{Request, report, simulate, run_c, host, Spells, NoCommand, files_of}
+use Rattle.sci_io.specs.Files.{FolderState}
+use Rattle.scicos.specs.Words.{Request, Spells, NoCommand, files_of}
 use Rattle.scicos.specs.Answer.{Answer, usage, read_fault, no_memory}
-use Rattle.scicos.specs.Due.{DueOf, Passes, diagram_slot, c_slot}
+use Rattle.scicos.specs.Course.{Course, ReadsFiles, DueOn, AsksFront}
+use Rattle.scicos.specs.Due.{course_of}
 
--- a command that reads files
-abbrev pub ReadsFiles : Request → Type 0
-ReadsFiles (report r d) = Unit {0}
-ReadsFiles (simulate d i until limit) = Unit {0}
-ReadsFiles (run_c c i until limit) = Unit {0}
-ReadsFiles host = ⊥
-
--- a later file is asked for only where the earlier one passes its rules
-abbrev pub EarlierPass : Files → Request → List (List ℕ) → Type 0
-EarlierPass files (report r d) names = Unit {0}
-EarlierPass files (simulate d i until limit) [] = Unit {0}
-EarlierPass files (simulate d i until limit) (n ∷ []) = Unit {0}
-EarlierPass files (simulate d i until limit) (n ∷ m ∷ names) = (timers : List EventDelay) × Passes AcceptsTimers diagram_slot files d timers
-EarlierPass files (run_c c i until limit) [] = Unit {0}
-EarlierPass files (run_c c i until limit) (n ∷ []) = Unit {0}
-EarlierPass files (run_c c i until limit) (n ∷ m ∷ names) = (program : Whole) × Passes AcceptsC c_slot files c program
-EarlierPass files host names = Unit {0}
-
--- the names asked for are a front of the files of the command
-abbrev pub AsksFront : FolderState → FolderState → Request → Type 0
-AsksFront old new c = (names : List (List ℕ)) × (rest : List (List ℕ)) × (files_of c ≡ names ++ rest) × (new.asked ≡ old.asked ++ names) × EarlierPass old.files c names
-
--- the answer that is due
-abbrev pub ReachesDue : FolderState → FolderState → Request → Answer → Type 0
-ReachesDue old new c a = (names : List (List ℕ)) × DueOf old.files c names a × (new.asked ≡ old.asked ++ names) × (new.faults ≡ old.faults)
+-- the answer that is due of the files' bytes
+abbrev pub ReachesDue : FolderState → FolderState → Course → List (List ℕ) → Answer → Type 0
+ReachesDue old new course bytes a = (names : List (List ℕ)) × DueOn old.files course bytes names a × (new.asked ≡ old.asked ++ names) × (new.faults ≡ old.faults)
 
 -- a read failed, and the folder's faults rose
-abbrev pub ReadFault : FolderState → FolderState → Request → Answer → Type 0
-ReadFault old new c a = ReadsFiles c × Rose old.faults new.faults × AsksFront old new c × (a ≡ read_fault)
+abbrev pub ReadFault : FolderState → FolderState → Course → List (List ℕ) → Answer → Type 0
+ReadFault old new course bytes a =
+    Rose old.faults new.faults × (name : List ℕ) × (names : List (List ℕ)) × AsksFront old.files course bytes (name ∷ names) × (new.asked ≡ old.asked ++ name ∷ names) × (a ≡ read_fault)
 
 -- there was no memory
-abbrev pub OutOfMemory : FolderState → FolderState → Request → Answer → Type 0
-OutOfMemory old new c a = ReadsFiles c × (new.faults ≡ old.faults) × AsksFront old new c × (a ≡ no_memory)
+abbrev pub OutOfMemory : FolderState → FolderState → Course → List (List ℕ) → Answer → Type 0
+OutOfMemory old new course bytes a = (new.faults ≡ old.faults) × (names : List (List ℕ)) × AsksFront old.files course bytes names × (new.asked ≡ old.asked ++ names) × (a ≡ no_memory)
 
-abbrev pub ReachesOf : FolderState → FolderState → Request → Answer → Type 0
-ReachesOf old new c a = ReachesDue old new c a ⊎ (ReadFault old new c a ⊎ OutOfMemory old new c a)
+-- what a course comes to, where its files have these bytes; memory may lack
+abbrev pub ComesBy : FolderState → FolderState → Course → List (List ℕ) → Answer → Type 0
+ComesBy old new course bytes a = ReachesDue old new course bytes a ⊎ (ReadFault old new course bytes a ⊎ OutOfMemory old new course bytes a)
+
+abbrev pub ComesTo : FolderState → FolderState → Course → Answer → Type 0
+ComesTo old new course a = (bytes : List (List ℕ)) × ComesBy old new course bytes a
+
+-- the same of a whole command, for which memory may lack only where it reads files
+abbrev pub ReachesOf : FolderState → FolderState → Course → List (List ℕ) → Answer → Type 0
+ReachesOf old new course bytes a = ReachesDue old new course bytes a ⊎ (ReadFault old new course bytes a ⊎ (ReadsFiles course × OutOfMemory old new course bytes a))
+
+abbrev pub ReachesTo : FolderState → FolderState → Course → Answer → Type 0
+ReachesTo old new course a = (bytes : List (List ℕ)) × ReachesOf old new course bytes a
 
 -- Before it writes, a call comes to the answer that is due, or to a read fault, or to want of memory.
+abbrev pub ReachesBy : List (List ℕ) → FolderState → FolderState → List (List ℕ) → Answer → Type 0
+ReachesBy words old new bytes a =
+    (NoCommand words × (a ≡ usage) × (new.asked ≡ old.asked) × (new.faults ≡ old.faults)) ⊎ ((c : Request) × Spells words c × ReachesOf old new (course_of c) bytes a)
+
 abbrev pub Reaches : List (List ℕ) → FolderState → FolderState → Answer → Type 0
-Reaches words old new a = (NoCommand words × (a ≡ usage) × (new.asked ≡ old.asked) × (new.faults ≡ old.faults)) ⊎ ((c : Request) × Spells words c × ReachesOf old new c a)
+Reaches words old new a = (bytes : List (List ℕ)) × ReachesBy words old new bytes a
+
+-- the names asked for are a front of the files of the command, a later one only where the earlier pass their rules
+abbrev pub AsksFrontOf : FolderState → FolderState → List (List ℕ) → Request → Type 0
+AsksFrontOf old new bytes c =
+    (names : List (List ℕ)) × (rest : List (List ℕ)) × (files_of c ≡ names ++ rest) × (new.asked ≡ old.asked ++ names) × AsksFront old.files (course_of c) bytes names

@@ -1,12 +1,13 @@
 -- What a call leaves on its two sinks.
 use Rattle.std.specs.Prelude.{ℕ, ◌≡◌, ◌≢◌, ◌⊎◌, ◌++◌, List, []}
+use Rattle.std.specs.Io.KnownBytes.{Appends}
 use Rattle.sci_io.specs.Causes.{Rose}
-use Rattle.sci_io.specs.Taken.{SinkState, followed, TakesFront}
-use Rattle.scicos.specs.Answer.{Answer, IsDone, write_fault_line}
+use Rattle.sci_io.specs.Taken.{SinkState, TakesFront}
+use Rattle.scicos.specs.Answer.{Answer, write_fault_line}
 
 -- it gave on what it held and the text behind it, and holds nothing
 abbrev pub Took : SinkState → SinkState → List ℕ → Type 0
-Took old new text = (new.taken ≡ followed old.taken (old.held ++ text)) × (new.held ≡ []) × (new.faults ≡ old.faults)
+Took old new text = Appends old.taken new.taken (old.held ++ text) × (new.held ≡ []) × (new.faults ≡ old.faults)
 
 -- it failed, gave on a front of these, and holds nothing
 abbrev pub Cut : SinkState → SinkState → List ℕ → Type 0
@@ -20,17 +21,9 @@ Given old new text = ((text ≡ []) × (new ≡ old)) ⊎ ((text ≢ []) × Took
 abbrev pub CutShort : SinkState → SinkState → List ℕ → Type 0
 CutShort old new text = (text ≢ []) × Cut old new text
 
--- all that is due on out was given; where a run observed nothing, out may have given on what it held
-abbrev pub GivenOut : Answer → SinkState → SinkState → Type 0
-GivenOut a old new = Given old new a.out ⊎ (IsDone a.status × (a.out ≡ []) × Took old new [])
-
--- out failed; where a run observed nothing, with what it held
-abbrev pub CutOut : Answer → SinkState → SinkState → Type 0
-CutOut a old new = CutShort old new a.out ⊎ (IsDone a.status × (a.out ≡ []) × Cut old new [])
-
 -- Both texts were written; or out failed, and a write fault was put on err; or err failed.
 abbrev pub Written : Answer → SinkState → SinkState → SinkState → SinkState → ℕ → Type 0
 Written a out out' err err' status =
-    ((status ≡ a.status) × GivenOut a out out' × Given err err' a.err)
-    ⊎ (((status ≡ 4) × CutOut a out out' × (Given err err' write_fault_line ⊎ CutShort err err' write_fault_line))
-    ⊎ ((status ≡ 4) × GivenOut a out out' × CutShort err err' a.err))
+    ((status ≡ a.status) × Given out out' a.out × Given err err' a.err)
+    ⊎ (((status ≡ 4) × CutShort out out' a.out × (Given err err' write_fault_line ⊎ CutShort err err' write_fault_line))
+    ⊎ ((status ≡ 4) × Given out out' a.out × CutShort err err' a.err))

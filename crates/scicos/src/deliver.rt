@@ -1,30 +1,31 @@
 ghost use Rattle.std.specs.Prelude.{◌≡◌, ◌≢◌, false, ◌≤◌, ◌<◌, ◌^◌, IsTrue, [], length, pos};
 ghost use Rattle.sci_base.specs.Plain.{violation_of};
-ghost use Rattle.sci_report.specs.Line.{refused_line};
+ghost use Rattle.scicos.specs.Line.{refused_line};
 ghost use Rattle.sci_pending.specs.Run.{trace};
 ghost use Rattle.sci_io.specs.Taken.{Writes};
 ghost use Rattle.sci_sim.specs.Running.{IsAtStart};
 ghost use Rattle.c_ast.specs.View.{whole_of};
 ghost use Rattle.c_mean.specs.Meaning.{meaning};
-ghost use Rattle.scicos.specs.declared.look.Told.TheVariants.{Check};
+ghost use Rattle.scicos.specs.declared.told.Told.TheVariants.{Check};
 ghost use Rattle.scicos.specs.Answer.{prints, write_fault_line, usage_line, read_fault_line, no_memory_line, undefined_line};
-ghost use Rattle.scicos.specs.Look.{told_text, HasRows};
+ghost use Rattle.scicos.specs.Judged.{told_text, HasRows};
 ghost use Rattle.scicos.specs.Written.{Written};
-ghost use Rattle.scicos.specs.Deliver.{Gives, Said, Ran, Finished, RanC, FinishedC, Delivers};
+ghost use Rattle.scicos.specs.Deliver.{Gives, Said, Ran, Finished, RunsOut, RanC, FinishedC, Delivers};
 ghost use Rattle.scicos.specs.Prepare.{answer_of, IsPrepared};
 
-use crate::look::Told;
+use crate::net_map::write_map;
 use crate::prepare::Prepared;
+use crate::probe::silent_end;
+use crate::report::put_refused;
+use crate::told::Told;
 use c_ast::Program;
 use c_mean::{CEnd, RunStop, run};
 use itoa::Buffer;
-use sci_base::Refusal;
-use sci_inputs::Inputs;
+use sci_base::{NoMemory, Refusal};
 use sci_io::{Failed, Sink, put_all};
-use sci_map::write_map;
-use sci_report::put_refused;
 use sci_sched::write_plan;
 use sci_sim::{Ready, RunEnd};
+use sci_trace::inputs::Inputs;
 use sci_verdict::Measured;
 use std::alloc::Global;
 
@@ -205,6 +206,27 @@ fn finish<E: Sink>(ran: Result<RunEnd, Failed>, err: &mut E) -> u8
 }
 
 // Runs a C program to the end and gives the last byte on.
+fn run_out<O: Sink>(
+    alloc: Global,
+    program: &Program,
+    inputs: &Inputs,
+    until: u64,
+    limit: u64,
+    out: &mut O,
+) -> Result<CEnd, RunStop>
+    requires until { until ≤ 2 ^ 62 }
+    requires limit { limit ≤ 1000000 }
+    ensures { RunsOut (meaning (whole_of program.now) inputs.now (pos until) (pos limit)) (O.state out.old) (O.state out.new) result }
+{
+    let end = run(alloc, program, inputs, until, limit, out)?;
+    match out.flush() {
+        Ok(()) => Ok(end),
+        Err(_) => Err(RunStop::Failed),
+    }
+}
+
+// Runs a C program. Where it observes nothing, out is not written to.
+#[tactic(auto, using(crate::proofs::Giving::c_observed, crate::proofs::Giving::c_silent))]
 fn print_run<O: Sink>(
     alloc: Global,
     program: &Program,
@@ -217,10 +239,10 @@ fn print_run<O: Sink>(
     requires limit { limit ≤ 1000000 }
     ensures { RanC (meaning (whole_of program.now) inputs.now (pos until) (pos limit)) (O.state out.old) (O.state out.new) result }
 {
-    let end = run(alloc, program, inputs, until, limit, out)?;
-    match out.flush() {
-        Ok(()) => Ok(end),
-        Err(_) => Err(RunStop::Failed),
+    match silent_end(alloc, program, inputs, until, limit) {
+        Ok(Some(end)) => Ok(end),
+        Ok(None) => run_out(alloc, program, inputs, until, limit, out),
+        Err(NoMemory) => Err(RunStop::Memory),
     }
 }
 

@@ -1,7 +1,8 @@
-ghost use Rattle.scicos.specs.Laws.{OneAnswer};
+ghost use Rattle.scicos.specs.Laws.{OneAnswer, OneAnswerOfBytes};
 
-/// Where the files are told, at most one answer is due of the words, with one list of names that are read for it; but that any loop of
-/// the least source that has one may be told.
+/// Of the words and the files' bytes at most one answer is due, with one list of names that are read for it, and the files tell their bytes;
+/// but that any loop of the least source that has one may be told.
 pub fn one_answer_is_due()
-    ensures { OneAnswer }
+    ensures told { OneAnswer }
+    ensures bytes { OneAnswerOfBytes }
 {}

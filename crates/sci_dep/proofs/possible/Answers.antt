@@ -1,6 +1,7 @@
 use Rattle.std.proofs.Common.{◌<◌, ◌↔◌, ℕ, List, sym, subst}
 use Rattle.std.specs.Prelude.{Contains, All}
-use Rattle.sci_walk.specs.Lists.{plain, list_at}
+use Rattle.std.proofs.lemmas.Result.{on_ok_weaker}
+use Rattle.sci_loop.specs.Lists.{plain, list_at}
 use Rattle.sci_net.specs.Sources.{source_of}
 use Rattle.sci_reaction.specs.Active.{IsAlways}
 use Rattle.sci_reaction.specs.Depends.{Conditions}
@@ -21,14 +22,15 @@ walk-requires-clause-within c =
     let Leads : List (List ℕ) → Type 0 = λ ls. (a b : ℕ) → Contains (list_at ls a) b ↔ Conditions n a b in
     onward_inside n (plain c.onward.result.now) c.args.walk.now.count (subst Leads (sym c.onward.ensures) c.requires.origins.onward_are) c.requires.count
 
-pub returns-in-Ok-clause-possible : goal.returns-in-Ok-clause-possible
-returns-in-Ok-clause-possible c =
+pub returns-clause-possible : goal.returns-clause-possible
+returns-clause-possible c =
     let n = c.args.net.now in
     let k = c.args.source in
     let Leads : List (List ℕ) → Type 0 = λ ls. (a b : ℕ) → Contains (list_at ls a) b ↔ Conditions n a b in
     let Begins : List ℕ → Type 0 = λ l. (b : ℕ) → Contains l b ↔ IsAlways n (source_of n k) b in
     let begins : Begins c.always.result.now = subst Begins (sym c.always.ensures) (λ b. c.requires.origins.always_are k b c.requires.source) in
-    λ b.
+    on_ok_weaker c.walk.result
+    (λ f b.
     let p = possible_are n (source_of n k) (plain c.onward.result.now) c.always.result.now begins (subst Leads (sym c.onward.ensures) c.requires.origins.onward_are) b in
-    let f = c.in-Ok.ensures.found b in
-    ((λ h. p.0 (f.0 h)), λ h. f.1 (p.1 h))
+    ((λ h. p.0 ((f b).0 h)), λ h. (f b).1 (p.1 h)))
+    c.walk.ensures.found

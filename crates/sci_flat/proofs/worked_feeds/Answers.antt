@@ -1,6 +1,6 @@
 use Rattle.std.proofs.Common.{inl, inr, refl}
-use Rattle.sci_reach.specs.Chain.{stay, onward}
-use Rattle.sci_steps.specs.Ports.{steps_of, object_steps}
+use Rattle.sci_flat.specs.Chain.{stay, onward}
+use Rattle.sci_flat.specs.Ports.{steps_of, object_steps}
 use Rattle.sci_flat.proofs.worked_feeds.Goals as goal
 
 -- the link to the union's second input, the union, the link back: of five steps the fourth, the second, the fifth

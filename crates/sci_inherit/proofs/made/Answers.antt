@@ -1,7 +1,7 @@
 use Rattle.std.proofs.Common.{ℕ, arith, Vec}
 use Rattle.std.specs.declared.alloc.Global.{Global}
 use Rattle.std.proofs.lemmas.List.{length-map}
-use Rattle.sci_walk.specs.Lists.{plain}
+use Rattle.sci_loop.specs.Lists.{plain}
 use Rattle.sci_inherit.specs.declared.Fed.{Fed}
 use Rattle.sci_inherit.proofs.Viewed.{origins_are}
 use Rattle.sci_inherit.proofs.made.Goals as goal
@@ -16,5 +16,5 @@ returns c =
     let f = length-map feeding.items (λ (v : Vec Fed Global). v.items) in
     let o = length-map onward.items (λ (v : Vec ℕ Global). v.items) in
     origins_are n (plain always.items) (plain feeding.items) (plain c.in_ok-branches.branches.items) (plain onward.items) c.well_formed-2.ensures c.in_ok-always.ensures.always
-    c.in_ok-feeding.ensures.feeding c.in_ok-branches.ensures.gathered c.in_ok-onward.ensures.onward (omega (arith, a, always.ok.0, c.in_ok-always.ensures.len))
+    c.in_ok-feeding.ensures.feeding c.in_ok-feeding.ensures.in_order c.in_ok-branches.ensures.gathered c.in_ok-onward.ensures.onward (omega (arith, a, always.ok.0, c.in_ok-always.ensures.len))
     (omega (arith, f, feeding.ok.0, c.in_ok-feeding.ensures.len)) (omega (arith, o, onward.ok.0, c.in_ok-onward.ensures.len))

@@ -1,5 +1,5 @@
 use Rattle.sci_reaction.specs.Depends.{Depends}
-use Rattle.sci_relation.proofs.Depth.{one_depth, depth_falls}
+use Rattle.sci_loop.proofs.Depth.{one_depth, depth_falls}
 use Rattle.sci_reaction.proofs.OneResult.{depth_of}
 use Rattle.sci_reaction.proofs.depths.Goals as goal
 

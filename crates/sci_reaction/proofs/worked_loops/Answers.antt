@@ -1,14 +1,14 @@
-use Rattle.std.proofs.Common.{◌≡◌, ℕ, zero, suc, ◌<◌, ◌≤◌, cond, eqb, ◌⊎◌, inl, inr, ⊎_elim, [], ◌∷◌, length, Contains, refl, sym, ap, subst, lit≤, lit<, arith, true≢false}
-use Rattle.sci_relation.proofs.Grounded.{IsDistinct-nil}
+use Rattle.std.proofs.Common.{◌≡◌, ℕ, zero, suc, ◌<◌, ◌≤◌, true, cond, eqb, ◌⊎◌, inl, inr, ⊎_elim, [], ◌∷◌, length, Contains, refl, sym, ap, subst, lit≤, lit<, arith, true≢false}
+use Rattle.sci_loop.proofs.Grounded.{IsDistinct-nil}
 use Rattle.std.proofs.lemmas.Map.Keys.{IsDistinct-cons}
 use Rattle.sci_net.specs.declared.Feed.{Feed}
 use Rattle.sci_net.specs.declared.Source.{Source}
 use Rattle.sci_net.specs.declared.Source.TheVariants.{Start, Port}
 use Rattle.sci_net.specs.Parts.{spec_of, wire_of, feeds_of}
-use Rattle.sci_reaction.specs.Links.{Feeds, IsConstant}
+use Rattle.sci_reaction.specs.Links.{Feeds, IsConstant, has_feedthrough}
 use Rattle.sci_reaction.specs.Active.{IsSync, Possible, seeded, set_off, taken, inherited}
 use Rattle.sci_reaction.specs.Depends.{Depends}
-use Rattle.sci_reaction.specs.Worked.{feed, delay_behind_condition, gain_around_sum, gain_at_other_times}
+use Rattle.sci_reaction.specs.Worked.{feed, delay_behind_condition, gain_around_sum, gain_at_other_times, sum_into_first, sum_into_second}
 use Rattle.sci_reaction.proofs.Spreading.{Spread-least}
 use Rattle.sci_reaction.proofs.Ranked.{ranked_no_loop}
 use Rattle.sci_reaction.proofs.WorkedNet.{other_times_is_net}
@@ -196,3 +196,86 @@ returns-clause-none c = (
 
 pub returns-clause-net : goal.returns-clause-net
 returns-clause-net c = other_times_is_net
+
+-- ---- a gated delay behind a sum of its own output
+
+gate_possible : Possible sum_into_second (Port (feed 1)) 2
+gate_possible =
+    set_off 2 (record { input = 1; within = record { block = record { least = lit≤ tt; most = lit≤ tt }; least = lit≤ tt; most = lit≤ tt }; fed = (0, lit< tt, refl) })
+
+gated_sum_possible : Possible sum_into_second (Port (feed 1)) 4
+gated_sum_possible =
+    inherited 2 4 gate_possible
+    (record { some_input = lit< tt; no_activation_input = refl })
+    (record { input = 1; within = record { block = record { least = lit≤ tt; most = lit≤ tt }; least = lit≤ tt; most = lit≤ tt }; from = refl })
+
+pub returns-clause-second_input : goal.returns-clause-second_input
+returns-clause-second_input c = (
+  IsDistinct-cons eqb 2 (4 ∷ []) (refl, tt) (IsDistinct-cons eqb 4 [] tt IsDistinct-nil),
+  (
+    record {
+      possible = gated_sum_possible;
+      on_possible = gate_possible;
+      waits = inl (record {
+        input = 1;
+        within = record { block = record { least = lit≤ tt; most = lit≤ tt }; least = lit≤ tt; most = lit≤ tt };
+        from = refl;
+        through = refl;
+      });
+    },
+    record {
+      possible = gate_possible;
+      on_possible = gated_sum_possible;
+      waits = inl (record {
+        input = 2;
+        within = record { block = record { least = lit≤ tt; most = lit≤ tt }; least = lit≤ tt; most = lit≤ tt };
+        from = refl;
+        through = refl;
+      });
+    },
+  ),
+)
+
+gate_no_sync : (b : ℕ) → IsSync sum_into_first b → ⊥
+gate_no_sync zero h = true≢false (sym h)
+gate_no_sync (suc zero) h = true≢false (sym h)
+gate_no_sync (suc (suc zero)) h = true≢false (sym h)
+gate_no_sync (suc (suc (suc zero))) h = true≢false (sym h)
+gate_no_sync (suc (suc (suc (suc zero)))) h = true≢false (sym h)
+gate_no_sync (suc (suc (suc (suc (suc b))))) h = true≢false (sym h)
+
+-- through inputs with feedthrough, the sum waits for the delay and the constant, and the delay for the constant
+abbrev GateWaits : ℕ → ℕ → Type 0
+GateWaits c b = ((c ≡ 4) × ((b ≡ 2) ⊎ (b ≡ 3))) ⊎ ((c ≡ 2) × (b ≡ 3))
+
+gate_waits : (c k b : ℕ) → 1 ≤ k → k ≤ length (spec_of sum_into_first c).ins → (wire_of sum_into_first c k).block ≡ b → has_feedthrough (spec_of sum_into_first c) k ≡ true → GateWaits c b
+gate_waits zero k b least most e on = absurd (omega (arith, least, most))
+gate_waits (suc zero) k b least most e on = absurd (omega (arith, least, most))
+gate_waits (suc (suc zero)) zero b least most e on = absurd (omega (arith, least))
+gate_waits (suc (suc zero)) (suc zero) b least most e on = absurd (true≢false (sym on))
+gate_waits (suc (suc zero)) (suc (suc zero)) b least most e on = inr (refl, sym e)
+gate_waits (suc (suc zero)) (suc (suc (suc k))) b least most e on = absurd (omega (arith, most))
+gate_waits (suc (suc (suc zero))) k b least most e on = absurd (omega (arith, least, most))
+gate_waits (suc (suc (suc (suc zero)))) zero b least most e on = absurd (omega (arith, least))
+gate_waits (suc (suc (suc (suc zero)))) (suc zero) b least most e on = inl (refl, inl (sym e))
+gate_waits (suc (suc (suc (suc zero)))) (suc (suc zero)) b least most e on = inl (refl, inr (sym e))
+gate_waits (suc (suc (suc (suc zero)))) (suc (suc (suc k))) b least most e on = absurd (omega (arith, most))
+gate_waits (suc (suc (suc (suc (suc c))))) k b least most e on = absurd (omega (arith, least, most))
+
+gate_rank : ℕ → ℕ
+gate_rank b = cond (eqb b 4) 2 (cond (eqb b 2) 1 0)
+
+gate_rank_falls : (c b : ℕ) → Depends sum_into_first (Port (feed 1)) c b → gate_rank b < gate_rank c
+unfolding gate_rank
+gate_rank_falls c b dep =
+    ⊎_elim
+    (λ u. ⊎_elim
+    (λ of_sum. subst (λ v. gate_rank b < gate_rank v) (sym of_sum.0)
+    (⊎_elim (λ two. subst (λ v. gate_rank v < gate_rank 4) (sym two) (lit< tt)) (λ three. subst (λ v. gate_rank v < gate_rank 4) (sym three) (lit< tt)) of_sum.1))
+    (λ of_gate. subst (λ v. gate_rank b < gate_rank v) (sym of_gate.0) (subst (λ v. gate_rank v < gate_rank 2) (sym of_gate.1) (lit< tt)))
+    (gate_waits c u.input b u.within.least u.within.most u.from u.through))
+    (λ k. absurd (gate_no_sync b k.sync))
+    dep.waits
+
+pub returns-clause-first_input : goal.returns-clause-first_input
+returns-clause-first_input c = ranked_no_loop (Depends sum_into_first (Port (feed 1))) gate_rank gate_rank_falls

@@ -1,5 +1,5 @@
 use Rattle.std.proofs.Common.{◌≡◌, map, take}
-use Rattle.sci_inputs.specs.Columns.{columns_view}
+use Rattle.sci_trace.specs.Columns.{columns_view}
 use Rattle.c_mean.specs.Running.{left_of}
 use Rattle.c_mean.proofs.start.columns_of.Given as goal
 

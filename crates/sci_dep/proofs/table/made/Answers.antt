@@ -1,6 +1,6 @@
 use Rattle.std.proofs.Common.{ℕ, List, sym, subst}
 use Rattle.std.specs.Prelude.{All}
-use Rattle.sci_walk.specs.Lists.{plain}
+use Rattle.sci_loop.specs.Lists.{plain}
 use Rattle.sci_net.specs.Parts.{IsBlock}
 use Rattle.sci_net.specs.Sources.{source_of}
 use Rattle.sci_dep.specs.Building.{AreNeeds}

@@ -1,7 +1,7 @@
 use Rattle.std.proofs.Common.{◌∙◌, ℕ, List, ◌∷◌, [], Vec, ap, subst, get_or}
 use Rattle.std.specs.declared.alloc.Global.{Global}
 use Rattle.std.proofs.lemmas.List.{map-append}
-use Rattle.sci_walk.specs.Lists.{plain}
+use Rattle.sci_loop.specs.Lists.{plain}
 use Rattle.sci_dep.specs.Building.{KeepsFound}
 use Rattle.sci_dep.proofs.Tabled.{needs_next, waits_inside}
 use Rattle.sci_dep.proofs.table.needs.Goals as goal

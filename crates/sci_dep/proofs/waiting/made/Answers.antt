@@ -1,7 +1,7 @@
 use Rattle.std.proofs.Common.{◌∙◌, List, ℕ, [], ◌∷◌, Vec, ap, sym, subst, arith}
 use Rattle.std.specs.declared.alloc.Global.{Global}
 use Rattle.std.proofs.lemmas.List.{map-append}
-use Rattle.sci_walk.specs.Lists.{plain}
+use Rattle.sci_loop.specs.Lists.{plain}
 use Rattle.sci_dep.specs.Building.{WaitsTo}
 use Rattle.sci_dep.proofs.Waited.{waits_none, waits_next, waits_all}
 use Rattle.sci_dep.proofs.waiting.made.Goals as goal

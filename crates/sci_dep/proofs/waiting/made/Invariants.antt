@@ -1,4 +1,4 @@
-use Rattle.sci_walk.specs.Lists.{plain}
+use Rattle.sci_loop.specs.Lists.{plain}
 use Rattle.sci_dep.specs.Building.{WaitsTo}
 use Rattle.sci_dep.proofs.waiting.made.Given as goal
 

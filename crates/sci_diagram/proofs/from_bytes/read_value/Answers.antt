@@ -1,5 +1,5 @@
 use Rattle.std.proofs.Common.{[], arith}
-use Rattle.sci_document.specs.View.{view}
+use Rattle.sci_json.specs.View.{view}
 use Rattle.sci_diagram.specs.Objects.{diagram_view}
 use Rattle.sci_diagram.proofs.Few.{few_objects}
 use Rattle.sci_diagram.proofs.from_bytes.read_value.Goals as goal

@@ -1,5 +1,5 @@
 use Rattle.std.proofs.Common.{◌≡◌, length}
-use Rattle.sci_document.specs.View.{items_view}
+use Rattle.sci_json.specs.View.{items_view}
 use Rattle.sci_diagram.specs.Numbers.{all_whole}
 use Rattle.sci_diagram.proofs.numbers.are_whole.Given as goal
 

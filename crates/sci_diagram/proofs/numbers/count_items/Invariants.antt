@@ -1,5 +1,5 @@
 use Rattle.std.proofs.Common.{◌≡◌, ◌+◌, ◌≤◌, length}
-use Rattle.sci_document.specs.View.{items_view}
+use Rattle.sci_json.specs.View.{items_view}
 use Rattle.sci_json.specs.Field.{wholes}
 use Rattle.sci_diagram.specs.Numbers.{count_small}
 use Rattle.sci_diagram.specs.Weight.{items_weight}

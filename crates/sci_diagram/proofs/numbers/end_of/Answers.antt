@@ -1,5 +1,5 @@
 use Rattle.std.proofs.Common.{◌≡◌, Some, sym, rules}
-use Rattle.sci_document.specs.View.{view, items_view}
+use Rattle.sci_json.specs.View.{view, items_view}
 use Rattle.sci_diagram.specs.Numbers.{side_in}
 use Rattle.sci_diagram.proofs.Items.{taken}
 use Rattle.sci_diagram.proofs.Standing.{end_taken}

@@ -1,11 +1,12 @@
 use Rattle.std.proofs.Common.{◌≡◌, rules, arith, map, codes, pos, Ok, ap, sym, ◌∙◌, ◌+◌, length}
-use Rattle.sci_document.specs.View.{view, items_view}
+use Rattle.sci_json.specs.View.{view, items_view}
 use Rattle.serde_json.specs.Find.{get}
 use Rattle.sci_diagram.specs.Objects.{object_view}
 use Rattle.sci_diagram.specs.Tree.{diagram_at}
 use Rattle.sci_diagram.specs.Weight.{weight, items_weight}
 use Rattle.sci_diagram.proofs.Items.{taken, none_left}
-use Rattle.sci_diagram.proofs.Stopping.{stops_then, stops_violation}
+use Rattle.sci_base.proofs.Stopping.{stops_then, stops_violation}
+use Rattle.sci_diagram.proofs.Told.{told_then}
 use Rattle.sci_diagram.proofs.Light.{at_most, get_light, positive}
 use Rattle.sci_diagram.proofs.Walking.{last_level, one_level, model_light, objs_light, place, rest_end, rest_more, rest_stops, fewer, diagram_rolls}
 use Rattle.sci_diagram.proofs.walk.+walk.Goals as goal
@@ -35,7 +36,7 @@ pub read_diagram-returns-in_err-items-clause-stop :
     goal.read_diagram-returns-in_err-items-clause-stop
 read_diagram-returns-in_err-items-clause-stop t c =
     let e = one_level c.args.left c.args.at.now (view c.args.v.now) (omega arith) in
-    rw e (search (rules, stops_then))
+    rw e (search (rules, told_then))
 
 pub read_diagram-read_objs-requires : goal.read_diagram-read_objs-requires
 read_diagram-read_objs-requires t c =

@@ -1,5 +1,5 @@
 use Rattle.std.proofs.Common.{◌≡◌, ◌+◌, ◌*◌, ◌≤◌, length, map}
-use Rattle.sci_document.specs.View.{items_view}
+use Rattle.sci_json.specs.View.{items_view}
 use Rattle.sci_diagram.specs.Objects.{object_view}
 use Rattle.sci_diagram.specs.Tree.{walk, diagram_at}
 use Rattle.sci_diagram.specs.Weight.{items_weight}

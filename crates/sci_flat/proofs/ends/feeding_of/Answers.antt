@@ -1,6 +1,6 @@
 use Rattle.std.proofs.Common.{◌≡◌, ◌∙◌, ℕ, ◌<◌, List, length, ap, sym, subst}
 use Rattle.std.specs.Prelude.{All}
-use Rattle.sci_reach.specs.Successors.{AreSuccessors}
+use Rattle.sci_flat.specs.Successors.{AreSuccessors}
 use Rattle.sci_flat.proofs.Reaching.{numbers_within, are_feeding, marks_at}
 use Rattle.sci_flat.proofs.ends.feeding_of.Goals as goal
 

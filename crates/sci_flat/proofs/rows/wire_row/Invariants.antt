@@ -1,4 +1,4 @@
-use Rattle.sci_reach.specs.Lists.{plain}
+use Rattle.sci_flat.specs.Lists.{plain}
 use Rattle.sci_flat.specs.Wired.{AreWires}
 use Rattle.sci_flat.proofs.rows.wire_row.Given as goal
 

@@ -1,5 +1,5 @@
 use Rattle.sci_net.specs.Parts.{rows_of}
-use Rattle.sci_reach.specs.Lists.{lists_of}
+use Rattle.sci_flat.specs.Lists.{lists_of}
 use Rattle.sci_flat.specs.Wired.{AllWired}
 use Rattle.sci_flat.proofs.wires.wires.Given as goal
 

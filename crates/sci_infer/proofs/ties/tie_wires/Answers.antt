@@ -1,5 +1,5 @@
 use Rattle.std.proofs.Common.{◌≡◌, ap, ◌∙◌, Vec, Global, subst, sym, ◌+◌}
-use Rattle.sci_classes.specs.declared.Tie.{Tie}
+use Rattle.sci_infer.specs.declared.classes.Tie.{Tie}
 use Rattle.sci_infer.specs.Ties.{WiresTied}
 use Rattle.sci_infer.proofs.Wires.{wires_more, wires_kept}
 use Rattle.sci_infer.proofs.ties.tie_wires.Goals as goal

@@ -1,8 +1,8 @@
 use Rattle.std.proofs.Common.{ℤ, List, length, subst, sym, ◌∙◌}
 use Rattle.std.proofs.lemmas.Result.{IfOk-weaker}
-use Rattle.sci_classes.specs.Classes.{Joins, IsWithin}
-use Rattle.sci_values.specs.declared.Verdict.{Verdict}
-use Rattle.sci_values.specs.Values.{IsVerdict}
+use Rattle.sci_infer.specs.Classes.{Joins, IsWithin}
+use Rattle.sci_infer.specs.declared.values.Verdict.{Verdict}
+use Rattle.sci_infer.specs.Values.{IsVerdict}
 use Rattle.sci_infer.specs.Typing.{Decides, declared_of}
 use Rattle.sci_infer.proofs.Typings.{inferred, ties_within}
 use Rattle.std.proofs.Common.{IfOk, get_or, ◌≡◌}

@@ -1,9 +1,9 @@
 use Rattle.std.proofs.Common.{ℕ, ◌≡◌, arith, subst, subst₂, sym, ap, ◌∙◌, length, List, IfOk}
 use Rattle.std.proofs.lemmas.Result.{IfOk-weaker}
-use Rattle.sci_classes.specs.Classes.{Joins}
-use Rattle.sci_classes.specs.declared.Tie.{Tie}
-use Rattle.sci_classes.proofs.Trees.{Tied-one}
-use Rattle.sci_values.specs.declared.Verdict.{Verdict}
+use Rattle.sci_infer.specs.Classes.{Joins}
+use Rattle.sci_infer.specs.declared.classes.Tie.{Tie}
+use Rattle.sci_infer.proofs.Trees.{Tied-one}
+use Rattle.sci_infer.specs.declared.values.Verdict.{Verdict}
 use Rattle.sci_infer.specs.declared.parts.Part.{Part}
 use Rattle.sci_infer.specs.Typing.{IsAlike, Decides, AreDeclaredWell}
 use Rattle.sci_infer.specs.PortParts.{parts_in, AreTied}

@@ -3,8 +3,8 @@ use Rattle.std.specs.declared.alloc.Global.{Global}
 use Rattle.std.proofs.lemmas.List.{length-map}
 use Rattle.sci_net.specs.declared.Source.{Source}
 use Rattle.sci_net.specs.Sources.{source_of}
-use Rattle.sci_walk.specs.Lists.{plain, list_at}
-use Rattle.sci_walk.proofs.Adding.{list_at-plain}
+use Rattle.sci_loop.specs.Lists.{plain, list_at}
+use Rattle.sci_loop.proofs.Adding.{list_at-plain}
 use Rattle.sci_inherit.specs.declared.Fed.{Fed}
 use Rattle.sci_inherit.specs.Gather.{AreFeeding, AreAlways}
 use Rattle.sci_inherit.proofs.Sourced.{each_none, each_pushed}

@@ -1,6 +1,6 @@
 use Rattle.std.proofs.Common.{◌≡◌, vec_len}
 use Rattle.sci_net.specs.Sources.{source_of}
-use Rattle.sci_walk.specs.Lists.{plain}
+use Rattle.sci_loop.specs.Lists.{plain}
 use Rattle.sci_inherit.specs.Gather.{AreEach, AreAlways}
 use Rattle.sci_inherit.proofs.always.always.Given as goal
 

@@ -5,8 +5,9 @@ use Rattle.sci_net.specs.declared.Source.TheVariants.{Start}
 use Rattle.sci_net.specs.Sources.{sources_of, source_of}
 use Rattle.sci_reaction.specs.Links.{IsSource}
 use Rattle.sci_reaction.proofs.Sources.{sources_are}
-use Rattle.sci_walk.specs.Lists.{plain}
+use Rattle.sci_loop.specs.Lists.{plain}
 use Rattle.sci_inherit.specs.declared.Fed.{Fed}
+use Rattle.sci_inherit.specs.Links.{AreInOrder}
 use Rattle.sci_inherit.specs.Gather.{AreFeeding}
 use Rattle.sci_inherit.proofs.Sourced.{each_none, each_pushed}
 use Rattle.sci_inherit.proofs.always.feeding.Goals as goal
@@ -14,7 +15,7 @@ use Rattle.sci_inherit.proofs.always.feeding.Goals as goal
 pub loop-at-init : goal.loop-at-init
 loop-at-init c =
     let n = c.args.net.now in
-    record { len = c.new-feeding.ensures.len; each = each_none (λ k fs. AreFeeding n (source_of n k) fs) (plain c.new-feeding.result.items) (ap plain c.new-feeding.ensures.items) }
+    record { len = c.new-feeding.ensures.len; each = each_none (λ k fs. AreFeeding n (source_of n k) fs) (plain c.new-feeding.result.items) (ap plain c.new-feeding.ensures.items); in_order = each_none (λ k fs. AreInOrder fs) (plain c.new-feeding.result.items) (ap plain c.new-feeding.ensures.items) }
 
 pub fed_by-fed-requires-clause-source : goal.fed_by-fed-requires-clause-source
 fed_by-fed-requires-clause-source c =
@@ -29,14 +30,19 @@ loop-at-preserved c =
     let inv = c.loop-at.invariant in
     let v = c.in_ok-from_slice.field-0 in
     let fed : AreFeeding n (source_of n at) v.items =
-    subst (λ (s : Source). AreFeeding n s v.items) c.source.ensures (subst (λ (fs : List Fed). AreFeeding n c.source.result fs) (sym c.in_ok-from_slice.ensures.items) c.fed_by-fed.ensures) in
+    subst (λ (s : Source). AreFeeding n s v.items) c.source.ensures (subst (λ (fs : List Fed). AreFeeding n c.source.result fs) (sym c.in_ok-from_slice.ensures.items) c.fed_by-fed.ensures.feeding) in
     record {
       len = omega (arith, c.in_ok-push.ensures.len, inv.len);
       each = each_pushed (λ k fs. AreFeeding n (source_of n k) fs) at c.loop-at.feeding.items c.push.new.self.items v c.in_ok-push.ensures.items (omega (arith, inv.len, c.loop-at.feeding.ok.0)) fed inv.each;
+      in_order = each_pushed (λ k fs. AreInOrder fs) at c.loop-at.feeding.items c.push.new.self.items v c.in_ok-push.ensures.items (omega (arith, inv.len, c.loop-at.feeding.ok.0))
+          (subst AreInOrder (sym c.in_ok-from_slice.ensures.items) c.fed_by-fed.ensures.in_order) inv.in_order;
     }
 
 pub returns-clause-feeding : goal.returns-clause-feeding
 returns-clause-feeding c = c.loop-at.invariant.each
+
+pub returns-clause-in_order : goal.returns-clause-in_order
+returns-clause-in_order c = c.loop-at.invariant.in_order
 
 pub returns-clause-len : goal.returns-clause-len
 returns-clause-len c = omega (arith, c.loop-at.invariant.len, c.loop-at-test.false, c.loop-at.auto.at-end, c.source_count-at-end.ensures)

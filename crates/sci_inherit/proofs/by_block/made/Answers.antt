@@ -1,4 +1,4 @@
-use Rattle.sci_walk.specs.Lists.{plain}
+use Rattle.sci_loop.specs.Lists.{plain}
 use Rattle.sci_inherit.proofs.Viewed.{by_block_are}
 use Rattle.sci_inherit.proofs.by_block.made.Goals as goal
 

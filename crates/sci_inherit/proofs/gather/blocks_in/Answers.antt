@@ -1,7 +1,7 @@
 use Rattle.std.proofs.Common.{◌≡◌, ◌∙◌, ◌↔◌, ◌++◌, ℕ, List, sym, ap, subst, arith, length, map}
 use Rattle.std.specs.Prelude.{Contains}
-use Rattle.sci_walk.specs.Lists.{plain, list_at}
-use Rattle.sci_walk.proofs.Adding.{list_at-plain}
+use Rattle.sci_loop.specs.Lists.{plain, list_at}
+use Rattle.sci_loop.proofs.Adding.{list_at-plain}
 use Rattle.sci_inherit.specs.declared.Fed.{Fed}
 use Rattle.sci_inherit.specs.Gather.{IsFedUpto}
 use Rattle.sci_inherit.proofs.Sourced.{in_rows_none, in_rows_next}

@@ -1,6 +1,6 @@
 use Rattle.std.proofs.Common.{◌↔◌, ℕ}
 use Rattle.std.specs.Prelude.{Contains}
-use Rattle.sci_walk.specs.Lists.{plain}
+use Rattle.sci_loop.specs.Lists.{plain}
 use Rattle.sci_inherit.specs.Gather.{IsFedUpto}
 use Rattle.sci_inherit.proofs.gather.blocks_in.Given as goal
 

@@ -1,5 +1,5 @@
 use Rattle.std.proofs.Common.{◌∙◌, sym, true≢false}
-use Rattle.sci_walk.specs.Lists.{plain}
+use Rattle.sci_loop.specs.Lists.{plain}
 use Rattle.sci_inherit.proofs.Gathering.{gathered_other}
 use Rattle.sci_inherit.proofs.gather.gather_block.Goals as goal
 

@@ -2,8 +2,8 @@ use Rattle.std.proofs.Common.{◌∙◌, ◌↔◌, ℕ, List, sym, subst, vec_l
 use Rattle.std.specs.Prelude.{Contains}
 use Rattle.std.specs.declared.alloc.Global.{Global}
 use Rattle.std.proofs.lemmas.Result.{on_ok_weaker}
-use Rattle.sci_walk.specs.Lists.{plain}
-use Rattle.sci_walk.specs.Reached.{IsReached}
+use Rattle.sci_loop.specs.Lists.{plain}
+use Rattle.sci_loop.specs.Reached.{IsReached}
 use Rattle.sci_reaction.specs.Links.{Feeds}
 use Rattle.sci_reaction.specs.Active.{Reaches}
 use Rattle.sci_inherit.specs.Links.{AreHeirs}

@@ -4,7 +4,7 @@ use Rattle.std.proofs.lemmas.List.{length-map}
 use Rattle.sci_forms.specs.declared.spec.Spec.{Spec}
 use Rattle.sci_net.specs.declared.Feed.{Feed}
 use Rattle.sci_net.specs.Parts.{spec_of}
-use Rattle.sci_walk.specs.Lists.{plain}
+use Rattle.sci_loop.specs.Lists.{plain}
 use Rattle.sci_inherit.specs.Links.{AreFedBy}
 use Rattle.sci_inherit.proofs.Filling.{row_given}
 use Rattle.sci_inherit.proofs.Gathering.{gathered_begins, gathered_ends, gathered_port}

@@ -1,5 +1,5 @@
 use Rattle.std.proofs.Common.{◌≡◌}
-use Rattle.sci_walk.specs.Lists.{plain}
+use Rattle.sci_loop.specs.Lists.{plain}
 use Rattle.sci_inherit.specs.Gather.{Gathered, OfPorts}
 use Rattle.sci_inherit.proofs.gather.gather_ports.Given as goal
 

@@ -1,5 +1,5 @@
 use Rattle.std.proofs.Common.{◌∙◌, ◌+◌, refl, ap, arith, length}
-use Rattle.sci_walk.specs.Lists.{plain}
+use Rattle.sci_loop.specs.Lists.{plain}
 use Rattle.sci_inherit.specs.Gather.{AreOnward}
 use Rattle.sci_inherit.proofs.Sourced.{each_none, each_pushed, onward_of_none}
 use Rattle.sci_inherit.proofs.gather.onward.Goals as goal

@@ -1,9 +1,7 @@
-use Rattle.std.proofs.Common.{◌≡◌, ◌∙◌, ℕ, List, sym, subst, Vec}
+use Rattle.std.proofs.Common.{◌∙◌, ℕ, List, sym, subst, Vec}
 use Rattle.std.specs.declared.alloc.Global.{Global}
-use Rattle.std.proofs.lemmas.Result.{IfOk-weaker}
-use Rattle.sci_walk.specs.Lists.{plain}
+use Rattle.sci_loop.specs.Lists.{plain}
 use Rattle.sci_inherit.specs.Links.{AreHeirs}
-use Rattle.sci_inherit.specs.Gather.{AreOnward}
 use Rattle.sci_inherit.proofs.Gathering.{heirs_inside, blocks_inside}
 use Rattle.sci_inherit.proofs.Sourced.{block_feeds, onward_found}
 use Rattle.sci_inherit.proofs.gather.onward_of_sync.Goals as goal
@@ -27,6 +25,5 @@ returns-clause-onward c =
     let heirs = subst (λ (vs : List (Vec ℕ Global)). AreHeirs n (plain vs)) (sym c.deref-2.ensures.value) c.requires.links.heirs in
     let are = block_feeds n b c.args.links.now.fed.items c.index.result.now c.deref.result.now c.in_ok-starts.starts.items c.deref-3.result.now c.well_formed-2.ensures
     c.requires.links.have_rows c.requires.links.rows (record { least = c.requires.least; most = c.requires.most }) c.index.ensures c.deref.ensures.value c.in_ok-starts.ensures c.deref-3.ensures.value in
-    IfOk-weaker c.from_slice.result (λ v. v.items ≡ c.found.result.now) (λ v. AreOnward n b v.items)
-    (λ v e. onward_found n b (plain c.deref-2.result.now) c.deref-3.result.now c.walk.new.self.found v.items c.requires.sync heirs are c.in_ok-walk.ensures.found c.found.ensures.distinct (e ∙ c.found.ensures.value))
-    c.from_slice.ensures.items
+    onward_found n b (plain c.deref-2.result.now) c.deref-3.result.now c.walk.new.self.found c.in_ok-from_slice.field-0.items c.requires.sync heirs are c.in_ok-walk.ensures.found c.found.ensures.distinct
+    (c.in_ok-from_slice.ensures.items ∙ c.found.ensures.value)

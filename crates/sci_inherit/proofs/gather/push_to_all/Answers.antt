@@ -4,7 +4,7 @@ use Rattle.std.specs.declared.alloc.Global.{Global}
 use Rattle.std.proofs.lemmas.List.{length-map, take_more}
 use Rattle.std.proofs.lemmas.List.Elements.{All-get_or}
 use Rattle.sci_net.specs.declared.Feed.{Feed}
-use Rattle.sci_walk.specs.Lists.{plain}
+use Rattle.sci_loop.specs.Lists.{plain}
 use Rattle.sci_inherit.specs.Gather.{Pushes}
 use Rattle.sci_inherit.proofs.Gathering.{pushes_none, pushes_next, apart}
 use Rattle.sci_inherit.proofs.gather.push_to_all.Goals as goal

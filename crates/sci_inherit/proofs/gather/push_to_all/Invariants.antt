@@ -1,6 +1,6 @@
 use Rattle.std.proofs.Common.{◌≡◌, take, vec_len}
 use Rattle.std.specs.Prelude.{Contains}
-use Rattle.sci_walk.specs.Lists.{plain}
+use Rattle.sci_loop.specs.Lists.{plain}
 use Rattle.sci_inherit.specs.Gather.{Pushes}
 use Rattle.sci_inherit.proofs.gather.push_to_all.Given as goal
 

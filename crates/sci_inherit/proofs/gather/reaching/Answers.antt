@@ -1,6 +1,6 @@
 use Rattle.std.proofs.Common.{◌≡◌, ◌∙◌, ℕ, ◌+◌, ◌-◌, refl, subst, sym, arith, length, []}
 use Rattle.std.proofs.lemmas.List.{length-replicate}
-use Rattle.sci_walk.specs.Lists.{plain}
+use Rattle.sci_loop.specs.Lists.{plain}
 use Rattle.sci_inherit.specs.Gather.{Gathered, OfBlocks}
 use Rattle.sci_inherit.proofs.Gathering.{gathered_none}
 use Rattle.sci_inherit.proofs.gather.reaching.Goals as goal

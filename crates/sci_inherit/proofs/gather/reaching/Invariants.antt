@@ -1,5 +1,5 @@
 use Rattle.std.proofs.Common.{◌≡◌}
-use Rattle.sci_walk.specs.Lists.{plain}
+use Rattle.sci_loop.specs.Lists.{plain}
 use Rattle.sci_inherit.specs.Gather.{Gathered, OfBlocks}
 use Rattle.sci_inherit.proofs.gather.reaching.Given as goal
 

@@ -1,7 +1,7 @@
 use Rattle.std.proofs.Common.{◌≡◌, ◌∙◌, ℕ, subst, ap, arith, length, List, ◌∷◌, [], ◌++◌, Vec}
 use Rattle.std.specs.declared.alloc.Global.{Global}
 use Rattle.sci_forms.specs.declared.spec.Spec.{Spec}
-use Rattle.sci_walk.specs.Lists.{plain}
+use Rattle.sci_loop.specs.Lists.{plain}
 use Rattle.sci_inherit.specs.declared.Fed.{Fed}
 use Rattle.sci_inherit.specs.Links.{plain_rows, AreEmptyRows}
 use Rattle.sci_inherit.proofs.Filling.{rows_pushed, empty_first, empty_next}

@@ -1,5 +1,5 @@
 use Rattle.std.proofs.Common.{◌≡◌, ◌∙◌, ℕ, ◌+◌, ◌-◌, subst, arith, length, replicate, []}
-use Rattle.sci_walk.specs.Lists.{plain, Adds}
+use Rattle.sci_loop.specs.Lists.{plain, Adds}
 use Rattle.sci_inherit.specs.Links.{HeirGiven}
 use Rattle.sci_inherit.proofs.Giving.{upto-next}
 use Rattle.sci_inherit.proofs.Linked.{heirs_are}

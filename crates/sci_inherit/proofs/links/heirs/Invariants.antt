@@ -1,5 +1,5 @@
 use Rattle.std.proofs.Common.{◌≡◌, ◌+◌, [], length, vec_len, replicate}
-use Rattle.sci_walk.specs.Lists.{plain, Adds}
+use Rattle.sci_loop.specs.Lists.{plain, Adds}
 use Rattle.sci_inherit.specs.Links.{Upto, HeirGiven}
 use Rattle.sci_inherit.proofs.links.heirs.Given as goal
 

@@ -2,7 +2,7 @@ use Rattle.std.proofs.Common.{◌≡◌, ◌∙◌, sym, ap}
 use Rattle.std.proofs.lemmas.Result.{on_ok_weaker}
 use Rattle.sci_forms.specs.declared.spec.Spec.{Spec}
 use Rattle.sci_net.specs.Parts.{spec_of}
-use Rattle.sci_walk.specs.Lists.{plain}
+use Rattle.sci_loop.specs.Lists.{plain}
 use Rattle.sci_inherit.proofs.Linked.{heir_given, heir_none}
 use Rattle.sci_inherit.proofs.links.push_heir.Goals as goal
 

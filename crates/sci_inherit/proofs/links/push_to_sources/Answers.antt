@@ -2,7 +2,7 @@ use Rattle.std.proofs.Common.{◌≡◌, ◌∙◌, ℕ, ◌+◌, sym, ap, subst
 use Rattle.sci_forms.specs.declared.spec.Spec.{Spec}
 use Rattle.sci_net.specs.declared.Wire.{Wire}
 use Rattle.sci_net.specs.Parts.{spec_of, wire_of}
-use Rattle.sci_walk.specs.Lists.{plain, Adds}
+use Rattle.sci_loop.specs.Lists.{plain, Adds}
 use Rattle.sci_inherit.specs.Links.{Upto, InputGives}
 use Rattle.sci_inherit.proofs.Giving.{upto-none, upto-next, adds-given}
 use Rattle.sci_inherit.proofs.Linked.{wire_inside}

@@ -6,4 +6,4 @@ use Rattle.sci_net.proofs.net.columns.Goals as goal
 
 pub spec_columns-requires-clause-typed_specs : goal.spec_columns-requires-clause-typed_specs
 spec_columns-requires-clause-typed_specs c =
-    subst (λ (ss : List Spec). All (λ (s : Spec). typed s ≡ true) ss) (sym c.as_slice.ensures.value) (all_typed _ c.net.invariant.well_formed)
+    subst (λ (ss : List Spec). All (λ (s : Spec). typed s ≡ true) ss) (sym c.deref.ensures.value) (all_typed _ c.net.invariant.well_formed)

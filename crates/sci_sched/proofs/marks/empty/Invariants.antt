@@ -1,5 +1,5 @@
 use Rattle.std.proofs.Common.{take}
-use Rattle.sci_walk.specs.Lists.{plain}
+use Rattle.sci_loop.specs.Lists.{plain}
 use Rattle.sci_sched.specs.Marks.{LeavesOthers}
 use Rattle.sci_sched.proofs.marks.empty.Given as goal
 

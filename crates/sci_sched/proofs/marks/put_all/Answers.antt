@@ -1,7 +1,7 @@
 use Rattle.std.proofs.Common.{◌∙◌, ◌<◌, refl, sym, subst, arith, get_or, vec_len}
 use Rattle.std.specs.Prelude.{All}
-use Rattle.sci_walk.specs.Lists.{plain}
-use Rattle.sci_walk.proofs.Adding.{list_at-plain}
+use Rattle.sci_loop.specs.Lists.{plain}
+use Rattle.sci_loop.proofs.Adding.{list_at-plain}
 use Rattle.sci_sched.proofs.Putting.{onward_none, onward_next, onward_done}
 use Rattle.sci_sched.proofs.marks.put_all.Goals as goal
 

@@ -1,5 +1,5 @@
 use Rattle.std.proofs.Common.{◌≡◌, take, vec_len}
-use Rattle.sci_walk.specs.Lists.{plain, Adds}
+use Rattle.sci_loop.specs.Lists.{plain, Adds}
 use Rattle.sci_sched.specs.Marks.{PutOnward}
 use Rattle.sci_sched.proofs.marks.put_all.Given as goal
 

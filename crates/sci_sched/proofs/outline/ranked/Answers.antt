@@ -1,5 +1,6 @@
 use Rattle.std.proofs.Common.{◌≤◌, length, get_or, subst, sym}
-use Rattle.sci_sched.specs.Answer.{loop_violation, Tells}
+use Rattle.sci_sched.specs.Answer.{loop_violation}
+use Rattle.sci_base.specs.Stops.{IsViolation}
 use Rattle.sci_sched.proofs.Outlining.{sorted_loop, sorted_order, loop_source, loop_block, loop_told, below_size, ordered_are}
 use Rattle.sci_sched.proofs.outline.ranked.Goals as goal
 
@@ -26,7 +27,7 @@ returns-in-Loop-clause-stop c =
     let t = c.args.table.now in let n = c.args.net.now in let s = c.args.source in
     let h = sorted_loop t c.in_ok-found.field-0 c.in-Loop.found c.in-Loop.is c.in_ok-found.ensures in
     loop_told n s c.in-Loop.found.items c.loop_stop.result (loop_source n s t c.requires.table.needs c.in-Loop.found.items h.0) h.1
-    (subst (λ xs. Tells (loop_violation n s xs) c.loop_stop.result) c.deref.ensures.value c.loop_stop.ensures)
+    (subst (λ xs. IsViolation (loop_violation n s xs) c.loop_stop.result) c.deref.ensures.value c.loop_stop.ensures)
 
 pub returns-in_ok-blocks-in-Order-clause-ok : goal.returns-in_ok-blocks-in-Order-clause-ok
 returns-in_ok-blocks-in-Order-clause-ok c =

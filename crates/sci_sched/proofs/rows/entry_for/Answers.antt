@@ -1,7 +1,7 @@
 use Rattle.std.proofs.Common.{◌≡◌, ◌<◌, ℕ, length, List, [], Contains, ◌↔◌, subst, sym, ◌∙◌, arith}
 use Rattle.std.proofs.lemmas.List.{get_or_default}
-use Rattle.sci_walk.specs.Lists.{plain, list_at}
-use Rattle.sci_walk.proofs.Adding.{list_at-plain}
+use Rattle.sci_loop.specs.Lists.{plain, list_at}
+use Rattle.sci_loop.proofs.Adding.{list_at-plain}
 use Rattle.sci_net.specs.declared.Feed.{Feed}
 use Rattle.sci_net.specs.Parts.{AreRising, numbered}
 use Rattle.sci_sched.specs.Guards.{AreGuards}

@@ -1,6 +1,6 @@
 use Rattle.std.proofs.Common.{rules}
 use Rattle.sci_diagram.specs.Objects.{diagram_view}
-use Rattle.sci_verdict.proofs.Phases.{was_read, fit_to_flatten, stopped_reading, stopped_flattening, flattened, stopped_inferring, inferred}
+use Rattle.sci_verdict.proofs.Phases.{was_read, fit_to_flatten, stopped_reading, stopped_flattening, flattened, inferred}
 use Rattle.sci_verdict.proofs.verdict.typed_net.Goals as goal
 
 pub returns-in_err-diagram : goal.returns-in_err-diagram
@@ -14,14 +14,8 @@ returns-in_err-flat c =
     let read = was_read c.args.bytes.now c.in_ok-diagram.diagram c.read.result c.in_ok-diagram.was c.read.ensures in
     stopped_flattening c.args.bytes.now (diagram_view c.in_ok-diagram.diagram) _ c.flatten.result c.from_residual-in_err-flat.result c.in_err-flat.was (search rules) read c.flatten.ensures
 
-pub returns-in_err-net : goal.returns-in_err-net
-returns-in_err-net c =
-    let read = was_read c.args.bytes.now c.in_ok-diagram.diagram c.read.result c.in_ok-diagram.was c.read.ensures in
-    let given = flattened c.args.bytes.now (diagram_view c.in_ok-diagram.diagram) c.in_ok-flat.flat c.flatten.result c.in_ok-flat.was read c.flatten.ensures in
-    stopped_inferring c.args.bytes.now c.in_ok-flat.flat _ c.from_residual-in_err-net.result (search rules) given c.in_err-net.ensures.stop
-
 pub returns : goal.returns
 returns c =
     let read = was_read c.args.bytes.now c.in_ok-diagram.diagram c.read.result c.in_ok-diagram.was c.read.ensures in
     let given = flattened c.args.bytes.now (diagram_view c.in_ok-diagram.diagram) c.in_ok-flat.flat c.flatten.result c.in_ok-flat.was read c.flatten.ensures in
-    inferred c.args.bytes.now c.in_ok-flat.flat c.in_ok-net.net given c.in_ok-net.ensures.ok
+    inferred c.args.bytes.now c.in_ok-flat.flat c.infer.result given c.infer.ensures.ok c.infer.ensures.stop

@@ -1,6 +1,6 @@
 use Rattle.std.proofs.Common.{rules}
 use Rattle.sci_base.specs.Plain.{violation_of}
-use Rattle.sci_report.specs.Line.{refused_line}
+use Rattle.scicos.specs.Line.{refused_line}
 use Rattle.scicos.proofs.Giving.{flushed, not_flushed}
 use Rattle.scicos.proofs.deliver.give_refusal.Goals as goal
 

@@ -1,5 +1,5 @@
 use Rattle.std.proofs.Common.{rules}
-use Rattle.scicos.specs.Look.{told_text}
+use Rattle.scicos.specs.Judged.{told_text}
 use Rattle.scicos.proofs.Giving.{flushed, not_flushed}
 use Rattle.scicos.proofs.deliver.give_told.Goals as goal
 

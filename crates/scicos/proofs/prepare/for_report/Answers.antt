@@ -1,21 +1,27 @@
-use Rattle.std.proofs.Common.{rules}
-use Rattle.scicos.proofs.Coming.{told, not_told, told_in_vain, telling_lacks}
+use Rattle.std.proofs.Common.{rules, ◌≡◌, List, ℕ, sym, ap}
+use Rattle.sci_verdict.specs.Verdict.{Plan, Accepts, Breaks}
+use Rattle.scicos.specs.Answer.{Answer, prints, report_text}
+use Rattle.scicos.specs.Course.{diagram_slot, gives}
+use Rattle.scicos.specs.Judged.{AcceptsTold}
+use Rattle.scicos.specs.declared.told.Told.{Told}
+use Rattle.scicos.proofs.Courses.{due_now, of_files}
+use Rattle.scicos.proofs.Looking.{first_stops, first_passes}
 use Rattle.scicos.proofs.prepare.for_report.Goals as goal
 
-pub returns-in-Ok-clause-reaches : goal.returns-in-Ok-clause-reaches
-returns-in-Ok-clause-reaches g c = told (g.F.Folder.state c.args.folder.now) (g.F.Folder.state c.told_of.new.folder) c.args.report c.args.file.now c.in-Ok.told _ c.in-Ok.ensures.told (search rules)
+pub returns-in_err-told-clause-looks : goal.returns-in_err-told-clause-looks
+returns-in_err-told-clause-looks g c =
+    first_stops Plan diagram_slot c.args.file.now Accepts Breaks (λ p. gives (λ a. a ≡ prints (report_text c.args.report p))) Told (AcceptsTold c.args.report) (g.F.Folder.state c.args.folder.now)
+    (g.F.Folder.state c.look.new.folder) c.look.result c.from_residual.result _ c.in_err-told.was (search rules) c.look.ensures.looked
 
-pub returns-in-Err-Refused-clause-reaches : goal.returns-in-Err-Refused-clause-reaches
-returns-in-Err-Refused-clause-reaches g c =
-    let h = rw c.in-Err-Refused.field-0-is at c.in-Err-Refused.ensures.told in
-    not_told (g.F.Folder.state c.args.folder.now) (g.F.Folder.state c.told_of.new.folder) c.args.report c.args.file.now _ _ h.0 h.1 (search rules)
-
-pub returns-in-Err-Fault-clause-reaches : goal.returns-in-Err-Fault-clause-reaches
-returns-in-Err-Fault-clause-reaches g c =
-    let h = rw c.in-Err-Fault.field-0-is at c.in-Err-Fault.ensures.told in
-    told_in_vain (g.F.Folder.state c.args.folder.now) (g.F.Folder.state c.told_of.new.folder) c.args.report c.args.file.now _ h (search rules)
-
-pub returns-in-Err-Memory-clause-reaches : goal.returns-in-Err-Memory-clause-reaches
-returns-in-Err-Memory-clause-reaches g c =
-    let h = rw c.in-Err-Memory.field-0-is at c.in-Err-Memory.ensures.told in
-    telling_lacks (g.F.Folder.state c.args.folder.now) (g.F.Folder.state c.told_of.new.folder) c.args.report c.args.file.now _ h (search rules)
+pub returns-clause-looks : goal.returns-clause-looks
+returns-clause-looks g c =
+    let old = g.F.Folder.state c.args.folder.now in
+    let new = g.F.Folder.state c.look.new.folder in
+    let due : Plan → Answer → Type 0 = λ p a. a ≡ prints (report_text c.args.report p) in
+    record {
+      reaches = of_files old new Plan diagram_slot c.args.file.now Accepts Breaks (λ p. gives (due p)) _
+          (first_passes Plan diagram_slot c.args.file.now Accepts Breaks (λ p. gives (due p)) Told (AcceptsTold c.args.report) old new new c.look.result c.in_ok-told.told _ c.in_ok-told.was c.look.ensures.looked c.look.ensures.kept
+          (λ b t. (t.0, t.1, due_now new (due t.0) _ (sym (ap prints t.2.0)))));
+      prepared = c.in_ok-told.ensures.looked.0.2.1.2.1;
+      lacks = λ x. absurd x;
+    }

@@ -1,44 +1,56 @@
-use Rattle.std.proofs.Common.{rules, refl, inl, inr, pos}
-use Rattle.sci_base.specs.Plain.{violation_of}
-use Rattle.scicos.specs.Words.{run_c}
-use Rattle.scicos.specs.Answer.{c_ran}
+use Rattle.std.proofs.Common.{rules, ◌≡◌, List, ℕ, ℤ, refl, pos}
+use Rattle.c_ast.specs.Syntax.{Whole}
 use Rattle.c_ast.specs.View.{whole_of}
+use Rattle.c_ast.specs.declared.Program.{Program}
 use Rattle.c_mean.specs.Meaning.{meaning}
+use Rattle.scicos.specs.Answer.{Answer, c_ran, no_memory}
+use Rattle.scicos.specs.Course.{c_slot, inputs_slot, Course, gives}
+use Rattle.scicos.specs.Due.{behind_program}
 use Rattle.scicos.specs.Inputs.{AcceptsColumns, BreaksColumns}
-use Rattle.scicos.proofs.Coming.{second, run_lacks, first_fails, first_in_vain, first_lacks, early_of_run_c}
+use Rattle.scicos.specs.Judged.{AcceptsProgram}
+use Rattle.scicos.specs.Program.{AcceptsC, BreaksC}
+use Rattle.scicos.specs.Reached.{ComesTo}
+use Rattle.scicos.proofs.Courses.{due_now, lacks_now, of_files}
+use Rattle.scicos.proofs.Looking.{stopped_looks, first_stops, first_passes, next_stops}
 use Rattle.scicos.proofs.prepare.for_run_c.Goals as goal
 
-pub returns-in-Ok-clause-reaches : goal.returns-in-Ok-clause-reaches
-returns-in-Ok-clause-reaches g c =
-    let old = g.F.Folder.state c.args.folder.now in
-    let passes = c.in-Ok.ensures.program.0 in
-    second old (run_c c.args.file.now c.args.inputs_file.now c.args.until c.args.limit) c.args.file.now c.args.inputs_file.now tt refl (early_of_run_c old.files c.args.file.now c.args.inputs_file.now c.args.until c.args.limit)
-    BreaksColumns AcceptsColumns (λ columns. c_ran (meaning (whole_of c.in-Ok.program) columns (pos c.args.until) (pos c.args.limit))) (g.F.Folder.state c.program.new.folder) (g.F.Folder.state c.with_program.new.folder) _
-    (whole_of c.in-Ok.program, passes) (λ due. inr (whole_of c.in-Ok.program, passes, due)) c.in-Ok.ensures.program.1 c.in-Ok.ensures.kept c.with_program.ensures.comes_to
+pub returns-in_err-program-clause-looks : goal.returns-in_err-program-clause-looks
+returns-in_err-program-clause-looks g c =
+    first_stops Whole c_slot c.args.file.now AcceptsC BreaksC (behind_program c.args.inputs_file.now c.args.until c.args.limit) Program AcceptsProgram (g.F.Folder.state c.args.folder.now)
+    (g.F.Folder.state c.look.new.folder) c.look.result c.from_residual.result _ c.in_err-program.was (search rules) c.look.ensures.looked
 
-pub returns-in-Err-Refused-clause-reaches : goal.returns-in-Err-Refused-clause-reaches
-returns-in-Err-Refused-clause-reaches g c =
+pub returns-in_err-inputs-clause-looks : goal.returns-in_err-inputs-clause-looks
+returns-in_err-inputs-clause-looks g c =
     let old = g.F.Folder.state c.args.folder.now in
-    let h = rw c.in-Err-Refused.field-0-is at c.in-Err-Refused.ensures.program in
-    first_fails old (run_c c.args.file.now c.args.inputs_file.now c.args.until c.args.limit) c.args.file.now c.args.inputs_file.now tt refl (early_of_run_c old.files c.args.file.now c.args.inputs_file.now c.args.until c.args.limit)
-    (g.F.Folder.state c.program.new.folder) _ (inl (violation_of c.in-Err-Refused.refusal, h.0, search rules, refl)) h.1
+    let mid = g.F.Folder.state c.look.new.folder in
+    let new = g.F.Folder.state c.look-2.new.folder in
+    let program = whole_of c.in_ok-program.program in
+    let next : Whole → Course = behind_program c.args.inputs_file.now c.args.until c.args.limit in
+    stopped_looks old new _ c.from_residual-in_err-inputs.result _ (search rules)
+    (of_files old new Whole c_slot c.args.file.now AcceptsC BreaksC next _
+    (first_passes Whole c_slot c.args.file.now AcceptsC BreaksC next Program AcceptsProgram old mid new c.look.result c.in_ok-program.program _ c.in_ok-program.was c.look.ensures.looked c.look.ensures.kept
+    (λ b h. (program, h, next_stops (List (List ℤ)) inputs_slot c.args.inputs_file.now AcceptsColumns BreaksColumns (λ columns. gives (λ a. a ≡ c_ran (meaning program columns (pos c.args.until) (pos c.args.limit)))) (List (List ℤ)) AcceptsColumns mid new c.look-2.result _ c.in_err-inputs.was c.look-2.ensures.looked))))
 
-pub returns-in-Err-Fault-clause-reaches : goal.returns-in-Err-Fault-clause-reaches
-returns-in-Err-Fault-clause-reaches g c =
+pub returns-clause-looks : goal.returns-clause-looks
+returns-clause-looks g c =
     let old = g.F.Folder.state c.args.folder.now in
-    let h = rw c.in-Err-Fault.field-0-is at c.in-Err-Fault.ensures.program in
-    first_in_vain old (run_c c.args.file.now c.args.inputs_file.now c.args.until c.args.limit) c.args.file.now c.args.inputs_file.now tt refl (early_of_run_c old.files c.args.file.now c.args.inputs_file.now c.args.until c.args.limit)
-    (g.F.Folder.state c.program.new.folder) _ h (search rules)
-
-pub returns-in-Err-Memory-clause-reaches : goal.returns-in-Err-Memory-clause-reaches
-returns-in-Err-Memory-clause-reaches g c =
-    let old = g.F.Folder.state c.args.folder.now in
-    let h = rw c.in-Err-Memory.field-0-is at c.in-Err-Memory.ensures.program in
-    first_lacks old (run_c c.args.file.now c.args.inputs_file.now c.args.until c.args.limit) c.args.file.now c.args.inputs_file.now tt refl (early_of_run_c old.files c.args.file.now c.args.inputs_file.now c.args.until c.args.limit)
-    (g.F.Folder.state c.program.new.folder) _ h (search rules)
-
-pub returns-in-Ok-clause-lacks : goal.returns-in-Ok-clause-lacks
-returns-in-Ok-clause-lacks g c = λ may.
-    let old = g.F.Folder.state c.args.folder.now in
-    run_lacks old (run_c c.args.file.now c.args.inputs_file.now c.args.until c.args.limit) c.args.file.now c.args.inputs_file.now tt refl (early_of_run_c old.files c.args.file.now c.args.inputs_file.now c.args.until c.args.limit)
-    (g.F.Folder.state c.program.new.folder) (g.F.Folder.state c.with_program.new.folder) (whole_of c.in-Ok.program, c.in-Ok.ensures.program.0) c.in-Ok.ensures.program.1 (c.with_program.ensures.lacks may)
+    let mid = g.F.Folder.state c.look.new.folder in
+    let new = g.F.Folder.state c.look-2.new.folder in
+    let program = whole_of c.in_ok-program.program in
+    let columns = c.in_ok-inputs.inputs in
+    let next : Whole → Course = behind_program c.args.inputs_file.now c.args.until c.args.limit in
+    let due : List (List ℤ) → Answer → Type 0 = λ columns a. a ≡ c_ran (meaning program columns (pos c.args.until) (pos c.args.limit)) in
+    let both = λ (a : Answer) (end : ComesTo new new (gives (due columns)) a).
+    of_files old new Whole c_slot c.args.file.now AcceptsC BreaksC next a
+    (first_passes Whole c_slot c.args.file.now AcceptsC BreaksC next Program AcceptsProgram old mid new c.look.result c.in_ok-program.program a c.in_ok-program.was c.look.ensures.looked c.look.ensures.kept
+    (λ b h. (
+      program,
+      h,
+      first_passes (List (List ℤ)) inputs_slot c.args.inputs_file.now AcceptsColumns BreaksColumns (λ cs. gives (due cs)) (List (List ℤ)) AcceptsColumns mid new new c.look-2.result columns a c.in_ok-inputs.was c.look-2.ensures.looked c.look-2.ensures.kept
+          (λ b i. (columns, i, end)),
+    ))) in
+    record {
+      reaches = both _ (due_now new (due columns) _ refl);
+      prepared = (c.requires.until, c.requires.limit);
+      lacks = λ may. both no_memory (lacks_now new (gives (due columns)));
+    }

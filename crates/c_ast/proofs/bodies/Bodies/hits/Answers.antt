@@ -2,8 +2,8 @@ use Rattle.std.proofs.Common.{◌≡◌, ◌∙◌, rules, false, [], ◌∷◌,
 use Rattle.std.specs.declared.alloc.Global.{Global}
 use Rattle.std.specs.Prelude.{Contains, ◌↔◌}
 use Rattle.std.specs.List.{list_any}
-use Rattle.sci_walk.specs.Lists.{plain}
-use Rattle.sci_walk.specs.Reached.{IsReached}
+use Rattle.sci_loop.specs.Lists.{plain}
+use Rattle.sci_loop.specs.Reached.{IsReached}
 use Rattle.c_ast.specs.Rules.{is_hit}
 use Rattle.c_ast.specs.Assigning.{is_early, is_found}
 use Rattle.c_ast.specs.Bodies.{callees_in, assigners_in}

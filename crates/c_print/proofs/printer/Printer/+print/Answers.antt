@@ -1,7 +1,10 @@
 use Rattle.std.proofs.Common.{arith, ap, ◌∙◌, sym, ◌-◌, ◌+◌, length}
 use Rattle.std.proofs.lemmas.Bool.{eqb-false}
+use Rattle.c_ast.specs.View.{statements_of}
+use Rattle.c_ast.specs.Spelling.{block_rows}
 use Rattle.c_ast.proofs.Sizes.{sizes_of, choice_sizes, loop_sizes, item_size}
 use Rattle.c_ast.proofs.Fits.{if_fits, for_fits, item_fits, list_room}
+use Rattle.c_print.proofs.Steps.{towards_start}
 use Rattle.c_print.proofs.Rows.{if_goes, for_goes, else_goes, statement_goes}
 use Rattle.c_print.proofs.printer.Printer.+print.Goals as goal
 
@@ -9,6 +12,9 @@ pub block-statement-requires : goal.block-statement-requires
 block-statement-requires g t c κs within =
     let less = item_size c.args.list.now c.loop-s.s-index c.s-item.result c.loop-s-test.true c.s-item.is in
     (omega arith, (within, item_fits _ c.args.list.now c.loop-s.s-index c.s-item.result c.loop-s-test.true c.s-item.is c.requires))
+
+pub block-loop-s-init : goal.block-loop-s-init
+block-loop-s-init g t c = towards_start g.S.Sink.state c.args.self.now.out c.args.self.now.failed (block_rows c.args.depth (statements_of c.args.list.now))
 
 pub block-loop-s-preserved : goal.block-loop-s-preserved
 block-loop-s-preserved g t c = statement_goes c.args.depth c.args.list.now c.loop-s.s-index c.s-item.result c.loop-s-test.true c.s-item.is c.loop-s.invariant c.statement.ensures

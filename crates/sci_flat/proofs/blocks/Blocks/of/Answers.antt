@@ -2,7 +2,7 @@ use Rattle.std.proofs.Common.{◌∙◌, ◌++◌, ◌∷◌, [], List, length, 
 use Rattle.std.proofs.lemmas.List.{map_push, length_push}
 use Rattle.sci_forms.specs.declared.spec.Spec.{Spec}
 use Rattle.sci_base.specs.declared.refusal.Place.{Place}
-use Rattle.sci_parts.specs.Blocks.{Placed, placed, part_view}
+use Rattle.sci_blocks.specs.Blocks.{Placed, placed, part_view}
 use Rattle.sci_flat.specs.Placed.{placed_all}
 use Rattle.sci_flat.proofs.Making.{placed_push}
 use Rattle.sci_flat.proofs.blocks.Blocks.of.Goals as goal

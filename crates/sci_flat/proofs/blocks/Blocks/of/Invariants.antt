@@ -1,5 +1,5 @@
 use Rattle.std.proofs.Common.{◌≡◌, map, length}
-use Rattle.sci_parts.specs.Blocks.{part_view}
+use Rattle.sci_blocks.specs.Blocks.{part_view}
 use Rattle.sci_flat.specs.Placed.{placed_all}
 use Rattle.sci_flat.proofs.blocks.Blocks.of.Given as goal
 

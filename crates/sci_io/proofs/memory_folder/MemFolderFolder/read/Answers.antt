@@ -1,4 +1,4 @@
-use Rattle.std.proofs.Common.{rules, ◌≡◌, ◌++◌, ◌∷◌, [], Some, map, refl}
+use Rattle.std.proofs.Common.{rules, ◌≡◌, ◌++◌, ◌∷◌, [], Some, map, inl, inr}
 use Rattle.std.specs.Prelude.{string_bytes}
 use Rattle.sci_io.specs.Files.{file_named}
 use Rattle.sci_io.specs.Memory.{files_of}
@@ -12,3 +12,9 @@ returns-in-Some-clause-read c =
     let now = map string_bytes c.remember.new.asked.items in
     let said : now ≡ asked ++ c.args.name.now ∷ [] = search rules in
     reads_front (files_of c.args.self.now) asked now c.args.self.now.faults c.args.name.now c.args.limit c.in-Some.bytes.now c.front.result found said c.front.ensures
+
+pub returns-then-is_err-clause-want : goal.returns-then-is_err-clause-want
+returns-then-is_err-clause-want c = λ e. inl (search rules)
+
+pub returns-in-Some-clause-want : goal.returns-in-Some-clause-want
+returns-in-Some-clause-want c = λ e. inr (search rules)

@@ -1,6 +1,6 @@
-use Rattle.std.proofs.Common.{None, refl}
+use Rattle.std.proofs.Common.{None}
 use Rattle.sci_io.proofs.Advance.{direct_took}
 use Rattle.sci_io.proofs.sure.SureSinkSink.put.Goals as goal
 
-pub returns : goal.returns
-returns c = direct_took None None _ c.args._piece.now _ refl
+pub returns-clause-written : goal.returns-clause-written
+returns-clause-written c = direct_took None None _ _ c.args.piece.now _ c.requires tt

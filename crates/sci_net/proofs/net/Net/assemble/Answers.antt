@@ -6,4 +6,4 @@ use Rattle.sci_net.proofs.net.Net.assemble.Goals as goal
 
 pub sources-requires-clause-typed_specs : goal.sources-requires-clause-typed_specs
 sources-requires-clause-typed_specs c =
-    subst (λ (ss : List Spec). All (λ (s : Spec). typed s ≡ true) ss) (sym c.as_slice.ensures.value) (all_typed _ c.requires)
+    subst (λ (ss : List Spec). All (λ (s : Spec). typed s ≡ true) ss) (sym c.deref.ensures.value) (all_typed _ c.requires)

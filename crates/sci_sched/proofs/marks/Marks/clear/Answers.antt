@@ -1,7 +1,7 @@
 use Rattle.std.proofs.Common.{◌≡◌, ℕ, List, [], All, Contains, Vec, length, subst, subst₂, sym, ap, ◌∙◌, arith}
 use Rattle.std.specs.declared.alloc.Global.{Global}
 use Rattle.std.proofs.lemmas.List.{with_items_is}
-use Rattle.sci_walk.specs.Lists.{plain, list_at}
+use Rattle.sci_loop.specs.Lists.{plain, list_at}
 use Rattle.sci_inherit.specs.declared.Fed.{Fed}
 use Rattle.sci_net.specs.Sources.{source_of}
 use Rattle.sci_sched.specs.Marks.{IsFitting, HaveFed}

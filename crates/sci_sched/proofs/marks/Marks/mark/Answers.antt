@@ -1,7 +1,7 @@
 use Rattle.std.proofs.Common.{◌≡◌, ℕ, List, All, Contains, ◌<◌, inl, inr, Vec, vec_len, get_or, length, arith, subst, sym, ap, ◌∙◌}
 use Rattle.std.specs.declared.alloc.Global.{Global}
 use Rattle.std.proofs.lemmas.List.{with_items_is, length-map}
-use Rattle.sci_walk.specs.Lists.{list_at}
+use Rattle.sci_loop.specs.Lists.{list_at}
 use Rattle.sci_dep.proofs.Walked.{onward_inside}
 use Rattle.sci_inherit.specs.declared.Fed.{Fed}
 use Rattle.sci_net.specs.Sources.{source_of}

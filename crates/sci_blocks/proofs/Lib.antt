@@ -1,0 +1,5 @@
+pub mod Keeping
+mod Tallying
+mod Walks
+mod Feeding
+pub mod Lawful

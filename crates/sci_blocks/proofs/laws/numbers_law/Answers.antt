@@ -1,0 +1,5 @@
+use Rattle.sci_blocks.proofs.Lawful as lemmas
+use Rattle.sci_blocks.proofs.laws.numbers_law.Goals as goal
+
+pub returns : goal.returns
+returns c = lemmas.numbers_law

@@ -1,0 +1,10 @@
+pub mod Ports
+pub mod Rows
+pub mod Blocks
+pub mod Wiring
+pub mod Kept
+pub mod Sizes
+pub mod Adding
+pub mod Ending
+pub mod Counts
+pub mod Laws

@@ -1,0 +1,25 @@
+//! The blocks of a diagram with their specs, and the rules on each object and each link.
+#![tactic(auto)]
+
+mod block;
+mod class;
+mod counts;
+mod fed;
+mod joint;
+mod laws;
+mod link;
+mod link_walk;
+mod part;
+mod pass_through;
+mod superblock;
+mod tally;
+#[cfg(test)]
+mod tests;
+mod walk;
+
+pub use class::{LinkType, PortClass};
+pub use laws::{blocks_law, links_law, names_law, numbers_law, read_law};
+pub use link_walk::links;
+pub use part::Part;
+pub use pass_through::PassThrough;
+pub use walk::parts;

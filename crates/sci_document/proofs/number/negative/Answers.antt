@@ -1,9 +1,0 @@
-use Rattle.std.proofs.Common.{option_and_then, ap, sym, ◌∙◌}
-use Rattle.serde_json.specs.Find.{as_i64}
-use Rattle.sci_document.proofs.Numbers.{few_negative, negative_is}
-use Rattle.sci_document.proofs.number.negative.Goals as goal
-
-pub returns-in-Some : goal.returns-in-Some
-returns-in-Some c =
-    let few = c.in-Some.ensures in
-    negative_is c.in-Some.n few.2 ∙ ap (option_and_then as_i64) (sym (few_negative c.args.bytes.now c.in-Some.n few.0 few.1 few.2 c.if-n-gt0.true))

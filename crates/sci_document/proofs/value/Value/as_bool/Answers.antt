@@ -1,8 +1,0 @@
-use Rattle.std.proofs.Common.{ap, ◌∙◌}
-use Rattle.serde_json.specs.Find.{as_bool}
-use Rattle.sci_document.specs.View.{view}
-use Rattle.sci_document.proofs.Fields.{flag_found}
-use Rattle.sci_document.proofs.value.Value.as_bool.Goals as goal
-
-pub returns : goal.returns
-returns c = flag_found c.self.inside.element c.self.invariant c.as_bool.result c.as_bool.ensures ∙ ap (λ ts. as_bool (view ts)) c.self.view_is

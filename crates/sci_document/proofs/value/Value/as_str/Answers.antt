@@ -1,8 +1,0 @@
-use Rattle.std.proofs.Common.{ap, ◌∙◌, option_map}
-use Rattle.serde_json.specs.Find.{as_str}
-use Rattle.sci_document.specs.View.{view}
-use Rattle.sci_document.proofs.Fields.{text_found}
-use Rattle.sci_document.proofs.value.Value.as_str.Goals as goal
-
-pub returns : goal.returns
-returns c = text_found c.self.inside.element c.self.invariant (option_map (λ s. s.now) c.as_str.result) c.as_str.ensures ∙ ap (λ ts. as_str (view ts)) c.self.view_is

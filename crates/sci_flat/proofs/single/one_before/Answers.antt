@@ -1,0 +1,5 @@
+use Rattle.sci_flat.proofs.OneBefore.{one_before}
+use Rattle.sci_flat.proofs.single.one_before.Goals as goal
+
+pub returns : goal.returns
+returns c = one_before

@@ -1,0 +1,46 @@
+-- What the numbers of a diagram's ports have.
+use Rattle.std.specs.Prelude.{◌≡◌, ℕ, ◌+◌, ◌<◌, pos, ℤ, List, [], map, length, slice_index_or}
+use Rattle.sci_diagram.specs.Objects.{Objects}
+use Rattle.sci_forms.specs.declared.spec.Spec.{Spec}
+use Rattle.sci_blocks.specs.declared.class.PortClass.{PortClass}
+use Rattle.sci_blocks.specs.declared.class.PortClass.TheVariants.{Input, Output, ActivationInput, ActivationOutput}
+use Rattle.sci_blocks.specs.Blocks.{Placed}
+use Rattle.sci_flat.specs.Chain.{AllWithin}
+use Rattle.sci_flat.specs.declared.steps.seat.Seat.{Seat}
+use Rattle.sci_flat.specs.declared.steps.numbered.Numbered.{Numbered}
+use Rattle.sci_flat.specs.Seat.{start, count}
+use Rattle.sci_flat.specs.Ports.{Port, port, PortStep, tree_steps}
+
+-- the port of a number, where the ports are listed by their numbers
+abbrev pub named : List Port → Port → ℕ → Port
+named names d n = slice_index_or names n d
+
+abbrev pub no_port : Port
+no_port = port [] Input (pos 0)
+
+abbrev pub named_step : List Port → ℕ × ℕ → PortStep
+named_step names e = (named names no_port e.0, named names no_port e.1)
+
+-- how many ports of a class a block has
+abbrev pub spec_ports : Spec → PortClass → ℕ
+spec_ports s Input = length s.ins
+spec_ports s Output = length s.outs
+spec_ports s ActivationInput = s.evtin
+spec_ports s ActivationOutput = s.evtout
+
+-- the seat of this block: its ports, and no others of its place, have these numbers
+pub record IsSeat (names : List Port) (p : Placed) (s : Seat) : Type 0 where
+  pub counts : (c : PortClass) → count s c ≡ spec_ports p.spec c
+  pub inside : (c : PortClass) (k : ℕ) → k < count s c → start s c + k < length names
+  pub named : (c : PortClass) (k : ℕ) → k < count s c → slice_index_or names (start s c + k) no_port ≡ port p.place c (pos (k + 1))
+  pub only : (c : PortClass) (z : ℤ) (n : ℕ) → n < length names → slice_index_or names n no_port ≡ port p.place c z → (k : ℕ) × (k < count s c) × (z ≡ pos (k + 1)) × (n ≡ start s c + k)
+
+-- the ports of the tree, by their numbers, no two alike; the steps by these numbers are the tree's steps; the seats are those of its blocks
+pub record IsNumbered (t : Objects) (ps : List Placed) (n : Numbered) : Type 0 where
+  pub names : List Port
+  pub long : length names ≡ n.ports
+  pub distinct : (i j : ℕ) → i < n.ports → j < n.ports → slice_index_or names i no_port ≡ slice_index_or names j no_port → i ≡ j
+  pub within : AllWithin n.ports n.steps.items
+  pub steps : map (named_step names) n.steps.items ≡ tree_steps t
+  pub one_seat_each : length n.blocks.items ≡ length ps
+  pub seats : (b : ℕ) (p : Placed) (s : Seat) → b < length ps → p ≡ slice_index_or ps b p → s ≡ slice_index_or n.blocks.items b s → IsSeat names p s

@@ -1,0 +1,5 @@
+pub mod Forms
+pub mod Phase
+pub mod Served
+pub mod Laws
+pub mod Worked

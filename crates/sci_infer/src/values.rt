@@ -1,0 +1,157 @@
+// One value for each class of numbers, some of which are declared: where a class has two, and where it has none.
+ghost use Rattle.std.specs.Prelude.{IsTrue, ◌↔◌, ◌≡◌, ◌≢◌, ℕ, ℤ, pos, ◌<◌, ◌<ℤ◌, List, length, Option, IfOk, IfSome, IfNone, MatchOption, All, slice_index, slice_index_or};
+ghost use Rattle.sci_infer.specs.Classes.{Joins, AreClasses, IsWithin};
+ghost use Rattle.sci_infer.specs.Values.{IsSpanOf, AreSpans, IsVerdict, IsSplitAt, AreOne, IsFilled, declared_at, widened};
+
+use crate::classes::{Tie, classes};
+use sci_base::NoMemory;
+use std::alloc::Global;
+
+/// The least and the greatest of some numbers.
+#[derive(Clone, Copy, Debug, Drop, PartialEq, Eq)]
+pub struct Span {
+    pub least: i64,
+    pub greatest: i64,
+}
+
+/// What the declared numbers say.
+#[derive(Drop)]
+pub enum Verdict {
+    /// The class of this number has two declared ones.
+    Conflict(usize, Span),
+    /// The class of this number has no declared one.
+    Open(usize),
+    /// The values.
+    Values(Vec<i64>),
+}
+
+/// Whether a number is declared.
+fn is_declared(declared: &[i64], at: usize) -> bool
+    requires { at < length declared.now }
+    ensures { IsTrue result ↔ (pos 0 <ℤ declared_at declared.now at) }
+{
+    declared[at] > 0
+}
+
+/// A span with one more number.
+fn widen(span: Option<Span>, declared: &[i64], at: usize) -> Span
+    requires { at < length declared.now }
+    ensures { result ≡ widened span (declared_at declared.now at) }
+{
+    let v = declared[at];
+    match span {
+        None => Span {
+            least: v,
+            greatest: v,
+        },
+        Some(s) => Span {
+            least: s.least.min(v),
+            greatest: s.greatest.max(v),
+        },
+    }
+}
+
+/// The spans of the labels' declared numbers.
+fn spans(alloc: Global, declared: &[i64], labels: &[usize]) -> Result<Vec<Option<Span>>, NoMemory>
+    requires length { length labels.now ≡ length declared.now }
+    requires labels { (i : ℕ) → i < length labels.now → slice_index labels.now i < length labels.now }
+    ensures length { IfOk result (λ v. length v.items ≡ length labels.now) }
+    ensures spans { IfOk result (λ v. AreSpans declared.now labels.now (length labels.now) v.items) }
+{
+    let mut spans = vec![in alloc; None; labels.len()]?;
+    for i in 0..labels.len() {
+        if is_declared(declared, i) {
+            let label = labels[i];
+            spans[label] = Some(widen(spans[label], declared, i));
+        }
+    }
+    Ok(spans)
+}
+
+/// Whether a span has one number.
+fn is_one(span: &Span) -> bool
+    ensures { IsTrue result ↔ (span.now.least ≡ span.now.greatest) }
+{
+    span.least == span.greatest
+}
+
+/// The first thing whose label has two declared numbers.
+fn first_split(labels: &[usize], spans: &[Option<Span>]) -> Option<(usize, Span)>
+    requires { (i : ℕ) → i < length labels.now → slice_index labels.now i < length spans.now }
+    ensures some { IfSome result (λ r. IsSplitAt labels.now spans.now r.0 r.1) }
+    ensures none { IfNone result (AreOne labels.now spans.now (length labels.now)) }
+{
+    for i in 0..labels.len() {
+        if let Some(span) = spans[labels[i]] {
+            if !is_one(&span) {
+                return Some((i, span));
+            }
+        }
+    }
+    None
+}
+
+/// The values of the labels, or the first thing whose label has none.
+fn fill(alloc: Global, labels: &[usize], spans: &[Option<Span>]) -> Result<Verdict, NoMemory>
+    requires { (i : ℕ) → i < length labels.now → slice_index labels.now i < length spans.now }
+    ensures { IfOk result (λ v. IsFilled labels.now spans.now v) }
+{
+    let mut values = Vec::new(alloc);
+    for i in 0..labels.len() {
+        match spans[labels[i]] {
+            None => return Ok(Verdict::Open(i)),
+            Some(span) => values.push(span.least)?,
+        }
+    }
+    Ok(Verdict::Values(values))
+}
+
+/// What the declared numbers say of the classes that ties make.
+pub fn judge(alloc: Global, declared: &[i64], ties: &[Tie]) -> Result<Verdict, NoMemory>
+    requires { All (IsWithin (length declared.now)) ties.now }
+    ensures { IfOk result (λ v. IsVerdict (Joins ties.now) declared.now v) }
+{
+    let labels = classes(alloc, declared.len(), ties)?;
+    let spans = spans(alloc, declared, labels.as_slice())?;
+    match first_split(labels.as_slice(), spans.as_slice()) {
+        Some((at, span)) => Ok(Verdict::Conflict(at, span)),
+        None => fill(alloc, labels.as_slice(), spans.as_slice()),
+    }
+}
+
+#[cfg(test)]
+mod tests {
+    use super::{Span, Verdict, judge};
+    use crate::classes::Tie;
+    use std::test::Fail;
+
+    // 0 and 2 are tied, and so are 1 and 3.
+    #[test]
+    fn verdicts(rt: HostRuntime) -> Result<(), Fail> {
+        let ties = [Tie { left: 0, right: 2 }, Tie { left: 3, right: 1 }];
+        match judge(rt.alloc(), &[-1, 5, 7, 0], &ties)? {
+            Verdict::Values(values) => {
+                assert_eq!(&rt; values.as_slice(), [7, 5, 7, 5].as_slice());
+            }
+            _ => panic!(&rt; "values"),
+        }
+        match judge(rt.alloc(), &[7, 0, 7, -2], &ties)? {
+            Verdict::Open(at) => assert_eq!(&rt; at, 1),
+            _ => panic!(&rt; "open"),
+        }
+        match judge(rt.alloc(), &[0, 6, 7, 4], &ties)? {
+            Verdict::Conflict(at, span) => {
+                assert_eq!(&rt; at, 1);
+                assert_eq!(&rt;
+                    span,
+                    Span {
+                        least: 4,
+                        greatest: 6
+                    }
+                );
+            }
+            _ => panic!(&rt; "conflict"),
+        }
+        Ok(())
+    }
+}

@@ -1,7 +1,0 @@
-use Rattle.std.proofs.Common.{◌≡◌, drop, map, max}
-use Rattle.sci_inputs.specs.Columns.{needed_of}
-use Rattle.sci_inputs.specs.Reading.{greatest}
-use Rattle.sci_inputs.proofs.read.greatest.Given as goal
-
-abbrev pub invariant-loop-n : goal.invariant-loop-n
-invariant-loop-n l = max l.most (greatest (map needed_of (drop l.n-index l.need))) ≡ greatest (map needed_of l.need)

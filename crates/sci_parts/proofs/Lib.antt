@@ -1,6 +1,0 @@
-pub mod Stopping
-pub mod Keeping
-mod Tallying
-mod Walks
-mod Feeding
-pub mod Lawful

@@ -1,5 +1,0 @@
-use Rattle.sci_parts.proofs.Keeping as lemmas
-use Rattle.sci_parts.proofs.laws.links_law.Goals as goal
-
-pub returns : goal.returns
-returns c = λ d h. lemmas.links_kept d tt h

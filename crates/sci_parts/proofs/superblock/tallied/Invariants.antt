@@ -1,9 +1,0 @@
-use Rattle.std.proofs.Common.{map, drop}
-use Rattle.sci_diagram.specs.Objects.{objects_of, object_view}
-use Rattle.sci_parts.specs.Ports.{numbers}
-use Rattle.sci_parts.specs.Counts.{IsTallied}
-use Rattle.sci_parts.proofs.superblock.tallied.Given as goal
-
-abbrev pub invariant-loop-obj : goal.invariant-loop-obj
-invariant-loop-obj l =
-    IsTallied l.tally l.count (numbers l.class (objects_of (map object_view (drop l.obj-index l.objs)))) (numbers l.class (objects_of (map object_view l.objs)))

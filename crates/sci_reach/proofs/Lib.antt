@@ -1,4 +1,0 @@
-pub mod Filling
-pub mod Leading
-pub mod Searching
-pub mod Reaching

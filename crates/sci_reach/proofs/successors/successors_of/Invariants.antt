@@ -1,5 +1,0 @@
-use Rattle.sci_reach.proofs.Leading.{Listed}
-use Rattle.sci_reach.proofs.successors.successors_of.Given as goal
-
-abbrev pub invariant-loop-i : goal.invariant-loop-i
-invariant-loop-i l = Listed l.steps l.ports l.latest.items l.earlier.items l.i

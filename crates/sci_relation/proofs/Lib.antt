@@ -1,4 +1,0 @@
-pub mod Grounded
-pub mod Decided
-pub mod Depth
-pub mod Rounds

@@ -1,6 +1,0 @@
-use Rattle.sci_relation.specs.Laws.{Tests}
-use Rattle.sci_relation.proofs.Rounds.{loop_turned}
-use Rattle.sci_relation.proofs.loops_turn.Goals as goal
-
-pub returns : goal.returns
-returns c test xs ys h = loop_turned (Tests test) xs ys h

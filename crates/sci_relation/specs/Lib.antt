@@ -1,5 +1,0 @@
-pub mod Loops
-pub mod Depth
-pub mod Grounded
-pub mod Laws
-pub mod Rounds

@@ -1,6 +1,0 @@
-use Rattle.std.proofs.Common.{◌≡◌, ◌++◌, map}
-use Rattle.std.specs.List.{range_with_len}
-use Rattle.sci_steps.proofs.through.fan_out.Given as goal
-
-abbrev pub invariant-loop-k : goal.invariant-loop-k
-invariant-loop-k l = l.steps.items ≡ l.fn.steps.items ++ map (λ k. (l.source, k)) (range_with_len l.first l.k)

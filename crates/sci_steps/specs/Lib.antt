@@ -1,4 +1,0 @@
-pub mod Seat
-pub mod Ports
-pub mod Numbers
-pub mod Numbered

@@ -1,5 +1,0 @@
-use Rattle.sci_walk.proofs.Walking.{taken_none}
-use Rattle.sci_walk.proofs.walk.unmark.Goals as goal
-
-pub loop-number-init : goal.loop-number-init
-loop-number-init c = taken_none c.args.marks.now

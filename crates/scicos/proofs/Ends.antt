@@ -1,0 +1,85 @@
+-- Of each command: whatever passes, its files are read, and it is done.
+use Rattle.std.proofs.Common.{◌≡◌, ℕ, List, [], ◌∷◌, ◌++◌, ◌⊎◌, inl, inr, refl, sym, ◌∙◌, ap, subst, Bool, true, false, pos}
+use Rattle.sci_base.specs.Plain.{Violation}
+use Rattle.sci_io.specs.Files.{Files}
+use Rattle.sci_trace.specs.Lines.{stops}
+use Rattle.sci_pending.specs.Run.{trace}
+use Rattle.c_mean.specs.declared.start.CEnd.{CEnd}
+use Rattle.c_mean.specs.declared.start.CEnd.TheVariants.{End, Stop, Undefined}
+use Rattle.c_mean.specs.Meaning.{meaning}
+use Rattle.c_mean.specs.Answering.{end_of}
+use Rattle.scicos.specs.Words.{Request, report, simulate, run_c, host, files_of}
+use Rattle.scicos.specs.Answer.{Answer, IsDone, run_status, c_status}
+use Rattle.scicos.specs.Course.{Slot, Course, gives, reads, DueOn, AsksFront}
+use Rattle.scicos.specs.Due.{course_of}
+
+pub status-is : {a b : Answer} → a ≡ b → a.status ≡ b.status
+status-is h = ap (λ (c : Answer). c.status) h
+
+pub out-is : {a b : Answer} → a ≡ b → a.out ≡ b.out
+out-is h = ap (λ (c : Answer). c.out) h
+
+pub done_by : {s t : ℕ} → s ≡ t → IsDone t → IsDone s
+done_by is h = subst IsDone (sym is) h
+
+done_run : (b : Bool) → IsDone (run_status b)
+done_run false = inl refl
+done_run true = inr (inl refl)
+
+done_c : (e : CEnd) → IsDone (c_status e)
+done_c End = inl refl
+done_c Stop = inr (inl refl)
+done_c (Undefined n) = inr (inr refl)
+
+-- whatever passes, these files are read, and the command is done
+abbrev pub Ends : Course → List (List ℕ) → Type 0
+Ends (gives due) files = (files ≡ []) × ((a : Answer) → due a → IsDone a.status)
+Ends (reads A slot d accepts breaks next) [] = ⊥
+Ends (reads A slot d accepts breaks next) (f ∷ files) = (f ≡ d) × ((made : A) → Ends (next made) files)
+
+pub ends_of : (c : Request) → Ends (course_of c) (files_of c)
+ends_of (report r d) = (refl, λ p. (refl, λ a is. inl (status-is is)))
+ends_of (simulate d i until limit) = (refl, λ timers. (refl, λ _. (refl, λ a is. done_by (status-is is) (done_run (stops (trace timers until limit))))))
+ends_of (run_c c i until limit) = (refl, λ program. (refl, λ columns. (refl, λ a is. done_by (status-is is) (done_c (end_of (meaning program columns (pos until) (pos limit)).how)))))
+ends_of host = (refl, λ a is. inl (status-is is))
+
+-- An answer that is due tells that all files were read and the command is done, or refuses, with nothing on out.
+pub data Kind (files names : List (List ℕ)) (a : Answer) : Type 0 where
+  printed : IsDone a.status → names ≡ files → Kind files names a
+  turned_down : a.status ≡ 1 → a.out ≡ [] → Kind files names a
+
+kind_behind : (d f : List ℕ) (files rest names : List (List ℕ)) (a : Answer) → f ≡ d → names ≡ d ∷ rest → Kind files rest a → Kind (f ∷ files) names a
+kind_behind d f files rest names a same is (printed done all) = printed done (cc (same, is, all))
+kind_behind d f files rest names a same is (turned_down status none) = turned_down status none
+
+pub kind_of : (told : Files) (course : Course) (bytes files names : List (List ℕ)) (a : Answer) → Ends course files → DueOn told course bytes names a → Kind files names a
+kind_of told (gives due) bytes files names a ends h = printed (ends.1 a h.0) (h.1 ∙ sym ends.0)
+kind_of told (reads A slot d accepts breaks next) [] files names a ends h = absurd h
+kind_of told (reads A slot d accepts breaks next) (b ∷ bytes) [] names a ends h = absurd ends
+kind_of told (reads A slot d accepts breaks next) (b ∷ bytes) (f ∷ files) names a ends (holds, inl h) = turned_down (status-is h.2) (out-is h.2)
+kind_of told (reads A slot d accepts breaks next) (b ∷ bytes) (f ∷ files) names a ends (holds, inr h) =
+    kind_behind d f files h.2 names a ends.0 h.3 (kind_of told (next h.0) bytes files h.2 a (ends.1 h.0) h.4)
+
+-- the names that are read for what is due are asked for in order
+pub front_of : (told : Files) (course : Course) (bytes names : List (List ℕ)) (a : Answer) → DueOn told course bytes names a → AsksFront told course bytes names
+front_of told (gives due) bytes names a h = subst (λ (l : List (List ℕ)). AsksFront told (gives due) bytes l) (sym h.1) tt
+front_of told (reads A slot d accepts breaks next) [] names a h = absurd h
+front_of told (reads A slot d accepts breaks next) (b ∷ bytes) names a (holds, inl h) =
+    subst (λ (l : List (List ℕ)). AsksFront told (reads A slot d accepts breaks next) (b ∷ bytes) l) (sym h.3) (refl, inl refl)
+front_of told (reads A slot d accepts breaks next) (b ∷ bytes) names a (holds, inr h) =
+    let front = front_of told (next h.0) bytes h.2 a h.4 in
+    subst (λ (l : List (List ℕ)). AsksFront told (reads A slot d accepts breaks next) (b ∷ bytes) l) (sym h.3) (refl, inr (holds, h.0, h.1, front))
+
+first_alone : (d n f : List ℕ) (names files : List (List ℕ)) → f ≡ d → n ≡ d → names ≡ [] → (rest : List (List ℕ)) × (f ∷ files ≡ (n ∷ names) ++ rest)
+first_alone d n f names files is same none = (files, cc (is, same, none))
+
+-- names that are asked for in order are a front of the files
+pub front_files : (told : Files) (course : Course) (bytes files names : List (List ℕ)) → Ends course files → AsksFront told course bytes names → (rest : List (List ℕ)) × (files ≡ names ++ rest)
+front_files told course bytes files [] ends h = (files, refl)
+front_files told (gives due) bytes files (n ∷ names) ends h = absurd h
+front_files told (reads A slot d accepts breaks next) bytes [] (n ∷ names) ends h = absurd ends
+front_files told (reads A slot d accepts breaks next) [] (f ∷ files) (n ∷ names) ends h = first_alone d n f names files ends.0 h.0 h.1
+front_files told (reads A slot d accepts breaks next) (b ∷ bytes) (f ∷ files) (n ∷ names) ends (same, inl none) = first_alone d n f names files ends.0 same none
+front_files told (reads A slot d accepts breaks next) (b ∷ bytes) (f ∷ files) (n ∷ names) ends (same, inr h) =
+    let more = front_files told (next h.1) bytes files names (ends.1 h.1) h.3 in
+    (more.0, cc (ends.0, same, more.1))

@@ -1,0 +1,209 @@
+// The rules of each kind of file.
+ghost use Rattle.std.specs.Prelude.{◌↔◌, ◌≡◌, ◌≤◌, ◌<◌, ◌^◌, true, length};
+ghost use Rattle.scicos.specs.Inputs.{HasNoColumns, AcceptsInputs, BreaksInputs};
+ghost use Rattle.scicos.specs.Program.{BreaksC, not_c};
+ghost use Rattle.sci_base.specs.Stops.{IsViolation};
+ghost use Rattle.scicos.specs.Judged.{IsJudged, AcceptsProgram};
+
+use crate::command::Report;
+use crate::told::{Told, report_on};
+use c_ast::Program;
+use c_read::{ParseStop, parse};
+use sci_base::{Refusal, Rule, Stop};
+use sci_pending::TimerNet;
+use sci_trace::inputs::{Inputs, read_inputs};
+use sci_verdict::timer_net;
+use std::alloc::Global;
+
+/// The rules of a file, and what is made of one that keeps them.
+pub trait Rules {
+    ghost use Rattle.std.specs.Prelude.{ℕ, ◌≤◌, List, length};
+    ghost use Rattle.sci_base.specs.Plain.{Violation};
+    ghost use Rattle.scicos.specs.Judged.{IsJudged};
+
+    /// What is made of the file.
+    type Made: Drop;
+
+    /// The limit of the file, in bytes.
+    const LONGEST: usize;
+
+    ghost LONGEST: { ℕ };
+
+    // The bytes keep the rules, and this is made of them.
+    ghost accepts: { Self → List ℕ → Self.Made → Type 0 };
+
+    // This is the first rule that the bytes break.
+    ghost breaks: { Self → List ℕ → Violation → Type 0 };
+
+    /// What is made of the bytes, or the first rule that they break.
+    fn judge(&self, alloc: Global, bytes: &[u8]) -> Result<Self::Made, Stop>
+        requires { length bytes.now ≤ LONGEST }
+        ensures { IsJudged (accepts self.now) (breaks self.now) bytes.now result };
+
+    ghost within: { LONGEST ≤ 67108864 };
+}
+
+/// The rules of a diagram's file, of which this is told.
+#[derive(Drop)]
+pub struct DiagramRules {
+    pub report: Report,
+}
+
+impl Rules for DiagramRules {
+    ghost use Rattle.std.proofs.Common.{rules};
+    ghost use Rattle.sci_verdict.specs.Verdict.{Breaks};
+    ghost use Rattle.scicos.specs.Judged.{AcceptsTold};
+
+    type Made = Told;
+
+    const LONGEST: usize = 16_777_216;
+
+    ghost LONGEST = { 16777216 };
+
+    ghost accepts = { λ s bytes told. AcceptsTold s.report bytes told };
+
+    ghost breaks = { λ _ bytes v. Breaks bytes v };
+
+    fn judge(&self, alloc: Global, bytes: &[u8]) -> Result<Told, Stop> {
+        report_on(alloc, self.report, bytes)
+    }
+
+    ghost within = { Prim.search rules };
+}
+
+/// The rules of a diagram's file that has timers alone.
+#[derive(Drop)]
+pub struct TimerRules;
+
+impl Rules for TimerRules {
+    ghost use Rattle.std.proofs.Common.{rules};
+    ghost use Rattle.sci_verdict.specs.Verdict.{AcceptsTimers, BreaksTimers};
+
+    type Made = TimerNet;
+
+    const LONGEST: usize = 16_777_216;
+
+    ghost LONGEST = { 16777216 };
+
+    ghost accepts = { λ _ bytes timers. AcceptsTimers bytes timers };
+
+    ghost breaks = { λ _ bytes v. BreaksTimers bytes v };
+
+    fn judge(&self, alloc: Global, bytes: &[u8]) -> Result<TimerNet, Stop> {
+        timer_net(alloc, bytes)
+    }
+
+    ghost within = { Prim.search rules };
+}
+
+fn has_no_columns(bytes: &[u8]) -> bool
+    ensures { (result ≡ true) ↔ HasNoColumns bytes.now }
+{
+    bytes == "[]".as_bytes() || bytes == "[]\n".as_bytes()
+}
+
+fn no_columns(alloc: Global, bytes: &[u8]) -> Result<(), Stop>
+    ensures { IsJudged AcceptsInputs BreaksInputs bytes.now result }
+{
+    if has_no_columns(bytes) {
+        Ok(())
+    } else {
+        Err(Stop::Refused(Refusal::of_the_whole(alloc, Rule::Unbuilt)))
+    }
+}
+
+/// The rules of the input file of a simulation: so far it has no columns.
+#[derive(Drop)]
+pub struct NoInputRules;
+
+impl Rules for NoInputRules {
+    ghost use Rattle.std.proofs.Common.{rules};
+    ghost use Rattle.scicos.specs.Inputs.{AcceptsInputs, BreaksInputs};
+
+    type Made = ();
+
+    const LONGEST: usize = 16_777_216;
+
+    ghost LONGEST = { 16777216 };
+
+    ghost accepts = { λ _ bytes made. AcceptsInputs bytes made };
+
+    ghost breaks = { λ _ bytes v. BreaksInputs bytes v };
+
+    fn judge(&self, alloc: Global, bytes: &[u8]) -> Result<(), Stop> {
+        no_columns(alloc, bytes)
+    }
+
+    ghost within = { Prim.search rules };
+}
+
+// The refusal of a C file, of which this byte is blamed.
+fn blame(alloc: Global, byte: usize) -> Stop
+    requires { byte < 2 ^ 63 }
+    ensures { IsViolation (not_c byte) result }
+{
+    Stop::by(alloc, Rule::NotC, &[], &[byte as i64])
+}
+
+// The program that a C file's bytes spell.
+fn program_of(alloc: Global, bytes: &[u8]) -> Result<Program, Stop>
+    requires { length bytes.now ≤ 67108864 }
+    ensures { IsJudged AcceptsProgram BreaksC bytes.now result }
+{
+    match parse(alloc, bytes) {
+        Ok(program) => Ok(program),
+        Err(ParseStop::NotC(byte)) => Err(blame(alloc, byte)),
+        Err(ParseStop::Memory) => Err(Stop::Memory),
+    }
+}
+
+/// The rules of a C file.
+#[derive(Drop)]
+pub struct CRules;
+
+impl Rules for CRules {
+    ghost use Rattle.std.proofs.Common.{rules};
+    ghost use Rattle.scicos.specs.Program.{BreaksC};
+    ghost use Rattle.scicos.specs.Judged.{AcceptsProgram};
+
+    type Made = Program;
+
+    const LONGEST: usize = 67_108_864;
+
+    ghost LONGEST = { 67108864 };
+
+    ghost accepts = { λ _ bytes program. AcceptsProgram bytes program };
+
+    ghost breaks = { λ _ bytes v. BreaksC bytes v };
+
+    fn judge(&self, alloc: Global, bytes: &[u8]) -> Result<Program, Stop> {
+        program_of(alloc, bytes)
+    }
+
+    ghost within = { Prim.search rules };
+}
+
+/// The rules of an input file of which no column is needed.
+#[derive(Drop)]
+pub struct ColumnRules;
+
+impl Rules for ColumnRules {
+    ghost use Rattle.std.proofs.Common.{rules};
+    ghost use Rattle.scicos.specs.Inputs.{AcceptsColumns, BreaksColumns};
+
+    type Made = Inputs;
+
+    const LONGEST: usize = 16_777_216;
+
+    ghost LONGEST = { 16777216 };
+
+    ghost accepts = { λ _ bytes columns. AcceptsColumns bytes columns };
+
+    ghost breaks = { λ _ bytes v. BreaksColumns bytes v };
+
+    fn judge(&self, alloc: Global, bytes: &[u8]) -> Result<Inputs, Stop> {
+        read_inputs(alloc, bytes, &[])
+    }
+
+    ghost within = { Prim.search rules };
+}
