@@ -2,7 +2,7 @@
 use crate::{DeadBand, Demux, Extractor, GainBlk, Mux, Product, Summation};
 use sci_bank::calls::{enters, fills, masks};
 use sci_bank::{Bank, Fate};
-use sci_base::{Ints, NoMemory};
+use sci_base::{Ints, NoMemory, Truths};
 use sci_kinds::{Kind, Port, Ports, Spec};
 use std::alloc::Global;
 use std::process::Abort;
@@ -49,6 +49,7 @@ fn spec(
     ins: Ports,
     outs: Ports,
 ) -> Result<Spec, NoMemory> {
+    let feed = Truths::repeated(alloc, true, ins.len())?;
     Ok(Spec {
         kind,
         params: Ints::of(params.to_vec(alloc)?),
@@ -58,7 +59,7 @@ fn spec(
         outs,
         evtin: 0,
         evtout: 0,
-        feed: true,
+        feed,
     })
 }
 
