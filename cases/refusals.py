@@ -63,6 +63,7 @@ def gated(feed=ABSENT):
 
 
 GOTO = block('GOTO', [1], ipar=[7, 1])
+FROM = block('FROM', outs=[1], ipar=7)
 
 
 # name, objects, what is due behind 'refused '
@@ -99,8 +100,31 @@ REFUSALS = [
     ('dependence without entries', gated([]), '3 WrongField at 2 18'),
     ('dependence of one entry', gated([[False, True]]), '3 WrongField at 2 18'),
     ('dependence of three entries', gated([[], True, 0]), '3 WrongField at 2 18'),
-    ('a tag', [TEXT, GOTO], '7 UnknownBlock at 2'),
-    ('tags are not counted', [GOTO] * 2049, '7 UnknownBlock at 1'),
+    ('tags are not counted as blocks', [GOTO] * 2049, '34 TooManyTags at - 2049'),
+    ('1,025 tags', [block('CLKGOTO', evtin=1, ipar=[k + 1, 1]) for k in range(1025)], '34 TooManyTags at - 1025'),
+    ('a tag given to an output', [TEXT, block('GOTO', [1], [1], ipar=[7, 1])], '31 TagShape at 2 1'),
+    ('ports before parameters', [block('CLKFROM', ipar=[7, 1])], '31 TagShape at 1 1'),
+    ('a tag given without a scope', [superblock([block('CLKGOTO', evtin=1, ipar=7)])], '31 TagShape at 1/1 2'),
+    ('a tag taken with a scope', [block('FROM', outs=[1], ipar=[7, 3])], '31 TagShape at 1 2'),
+    ('a tag past the greatest', [block('FROM', outs=[1], ipar=2147483648)], '31 TagShape at 1 2'),
+    ('a tag given twice', [FROM, superblock([GOTO, GOTO]), GOTO], '32 TagTwice at 2/2 7'),
+    ('a tag given everywhere twice', [superblock([block('GOTO', [1], ipar=[9, 3])]), GOTO, block('GOTO', [1], ipar=[9, 3])], '32 TagTwice at 3 9'),
+    ('a tag given elsewhere', [superblock([GOTO]), superblock([FROM])], '33 TagMissing at 2/1 7'),
+    ('a tag of activations alone', [block('CLKGOTO', evtin=1, ipar=[7, 3]), FROM], '33 TagMissing at 2 7'),
+    ('tags before blocks', [block('SCOPE'), gain([1, 1]), FROM], '33 TagMissing at 3 7'),
+    ('a tag that nothing feeds', [GOTO, FROM, gain(), wire((2, 1), (3, 1))], '15 NoSource at 3 1'),
+    ('a tag that feeds itself', [GOTO, FROM, block('SPLIT_f', [1], [1, 1]), gain(), wire((2, 1), (3, 1)), wire((3, 1), (1, 1)), wire((3, 2), (4, 1))], '15 NoSource at 4 1'),
+    ('a link to where a tag is taken', [GOTO, FROM, constant(1), wire((3, 1), (2, 1))], '12 LinkEnd at 4 2'),
+    ('a tag missing inside before one behind it', [superblock([FROM]), block('FROM', outs=[1], ipar=8)], '33 TagMissing at 1/1 7'),
+    ('a wrong tag inside before one behind it', [superblock([block('FROM', outs=[1], ipar=0)]), block('GOTO', ipar=[7, 1])], '31 TagShape at 1/1 2'),
+    ('too many blocks before too many tags', [CLOCK] * 2049 + [GOTO] * 1025, '5 TooManyBlocks at - 2049'),
+    ('too many tags before their forms', [block('GOTO', ipar=[7, 1])] + [GOTO] * 1024, '34 TooManyTags at - 1025'),
+    ('tags before port blocks', [block('IN_f', outs=[1], ipar=1), FROM], '33 TagMissing at 2 7'),
+    ('a link to a second port of a tag', [constant(1), GOTO, wire((1, 1), (2, 2))], '12 LinkEnd at 3 2'),
+    ('a link from where a tag is given', [GOTO, gain(), wire((1, 1), (2, 1))], '12 LinkEnd at 3 1'),
+    ('a tag given by two links', [constant(1), constant(1), GOTO, wire((1, 1), (3, 1)), wire((2, 1), (3, 1))], '13 InputTwice at 5 3 1'),
+    ('feedthrough of a tag in a wrong form', [block('GOTO', [1], ipar=[7, 1], dep_ut=0)], '3 WrongField at 1 18'),
+    ('a mark of where a tag is seen', [GOTO, block('GotoTagVisibility', ipar=7)], '7 UnknownBlock at 2'),
     ('a port block without a number', [superblock([block('IN_f', outs=[1], ipar=0)])], '8 BadParameter at 1/1 1 1 0'),
     ('one input too many', [block('GAINBLK', [1, 1], [1], ipar=[0, 2])], '9 PortShape at 1 1 2'),
     ('a missing type', [block('GAINBLK', [1], [1], types=([], [3]), ipar=[0, 2])], '9 PortShape at 1 6 0'),
@@ -139,6 +163,13 @@ LIMITS = [
     ('outputs of 65,536 elements, each of 256', [constant(0, rows=256)] * 256, 'ok 256 1 256 0\n'),
     ('71,500 ports of splits', [block('SPLIT_f', [1], [1] * 64)] * 1100, 'ok 0 1 0 0\n'),
     ('20,000 ports of a superblock', [superblock([block('CLKINV_f', evtout=1, ipar=k + 1) for k in range(20000)], evtin=20000)], 'ok 0 1 0 0\n'),
+    ('1,024 tags', [block('GOTO', [1], ipar=[k + 1, 1]) for k in range(1024)], 'ok 0 1 0 0\n'),
+    ('what is not looked at in a tag object', [block('GOTO', [1], types=([1], []), ipar=[7, 1], in2=[1, 2, 3], dstate='x', firing=[0.5], dep_ut=[True, True])], 'ok 0 1 0 0\n'),
+    ('superblocks with names of tag objects', [dict(superblock([]), gui='GOTO'), dict(superblock([]), gui='FROM')], 'ok 0 1 0 0\n'),
+    ('tags in a circle', [GOTO, FROM, wire((2, 1), (1, 1)), block('CLKGOTO', evtin=1, ipar=[7, 3]), block('CLKFROM', evtout=1, ipar=7), event((5, 1), (4, 1))], 'ok 0 1 0 0\n'),
+    ('two clocks of one tag', [CLOCK, CLOCK, block('CLKGOTO', evtin=1, ipar=[7, 3]), superblock([block('CLKFROM', evtout=1, ipar=7), block('HALT_f', evtin=1), event((1, 1), (2, 1))]),
+                               event((1, 1), (3, 1)), event((2, 1), (3, 1))], 'ok 3 3 2 0\n'),
+    ('a tag taken by 1,023', [block('GOTO', [1], ipar=[2147483647, 3]), superblock([block('FROM', outs=[1], ipar=2147483647)] * 1023)], 'ok 0 1 0 0\n'),
     ('feedthrough by the kind', gated(), 'ok 4 2 5 0\n'),
     ('feedthrough of the second input', gated([[False, True], False]), 'ok 4 2 5 0\n'),
 ]

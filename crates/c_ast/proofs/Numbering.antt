@@ -1,16 +1,21 @@
 -- Names by number.
 use Rattle.std.proofs.Common.{◌≡◌, ◌≢◌, ◌<◌, ◌≤◌, ◌+◌, ℕ, zero, suc, List, [], ◌∷◌, ◌++◌, length, Bool, true, false, cond, inl, inr, refl, sym, ap, ◌∙◌, subst, arith, Option, Some, None, get_or, length-append, true≢false}
-use Rattle.std.specs.Prelude.{◌&&◌, ◌||◌, not, nat_eq, nat_lt, is_some}
+use Rattle.std.specs.Prelude.{◌&&◌, ◌||◌, not, nat_eq, nat_lt, is_some, map, All, IsTrue, ◌↔◌}
 use Rattle.std.specs.List.{list_any, position_or_len, position_from}
-use Rattle.std.proofs.lemmas.Bool.{cases_Bool, eqb-true, eq-eqb, lt-ltb}
+use Rattle.std.specs.Option.{option_or}
+use Rattle.std.proofs.lemmas.Bool.{cases_Bool, eqb-true, eq-eqb, lt-ltb, le-ltb, ltb-true}
 use Rattle.std.proofs.lemmas.List.{get_or_past}
 use Rattle.std.proofs.lemmas.List.Folds.{list_any-append}
 use Rattle.std.proofs.lemmas.List.Quantifiers.{position-Some}
 use Rattle.std.proofs.lemmas.Iterator.Adapters.{position_from-zero}
 use Rattle.indexmap.specs.IndexSet.{insert_key, insert_all}
+use Rattle.c_ast.specs.declared.Decl.{Decl}
+use Rattle.c_ast.specs.declared.Func.{Func}
 use Rattle.c_ast.specs.declared.Name.{Name}
-use Rattle.c_ast.specs.Rules.{same_name}
-use Rattle.c_ast.specs.Naming.{number_in, is_numbered, once, at_number, at_place, by_name}
+use Rattle.c_ast.specs.declared.Program.{Program}
+use Rattle.c_ast.specs.Rules.{same_name, is_among}
+use Rattle.c_ast.specs.View.{declared_of, function_of, whole_of}
+use Rattle.c_ast.specs.Naming.{number_in, is_numbered, declared_name, function_name, declared_names, once, is_any_twice, at_number, at_place, by_name}
 
 both_true : (a b : Bool) → (a && b) ≡ true → (a ≡ true) × (b ≡ true)
 both_true true true e = (refl, refl)
@@ -141,6 +146,96 @@ numbered_once a b names more is next = next ∙ ap (λ (l : List Name). insert_a
 pub numbered_exactly : (declared names : List Name) → names ≡ once declared → (x : Name) → is_numbered names x ≡ list_any (same_name x) declared
 numbered_exactly declared names is x = ap (λ (l : List Name). is_numbered l x) is ∙ numbered_any x (once declared) ∙ any_all x [] declared
 
+variable_there : (more : List Name) (decls : List Decl) (k : ℕ) (d : Decl) → k < length decls → list_any (same_name (get_or decls k d).name) (map declared_name (map declared_of decls) ++ more) ≡ true
+variable_there more [] k d h = absurd (omega arith)
+variable_there more (e ∷ decls) zero d h = ap (λ (b : Bool). b || list_any (same_name e.name) (map declared_name (map declared_of decls) ++ more)) (same_itself e.name)
+variable_there more (e ∷ decls) (suc k) d h =
+    let less : k < length decls = omega arith in
+    ap (λ (b : Bool). same_name (get_or decls k d).name e.name || b) (variable_there more decls k d less) ∙ or_true (same_name (get_or decls k d).name e.name)
+
+function_there : (before : List Name) (funcs : List Func) (k : ℕ) (d : Func) → k < length funcs → list_any (same_name (get_or funcs k d).name) (before ++ map function_name (map function_of funcs)) ≡ true
+function_there (x ∷ before) funcs k d h = ap (λ (b : Bool). same_name (get_or funcs k d).name x || b) (function_there before funcs k d h) ∙ or_true (same_name (get_or funcs k d).name x)
+function_there [] [] k d h = absurd (omega arith)
+function_there [] (e ∷ funcs) zero d h = ap (λ (b : Bool). b || list_any (same_name e.name) (map function_name (map function_of funcs))) (same_itself e.name)
+function_there [] (e ∷ funcs) (suc k) d h =
+    let less : k < length funcs = omega arith in
+    ap (λ (b : Bool). same_name (get_or funcs k d).name e.name || b) (function_there [] funcs k d less) ∙ or_true (same_name (get_or funcs k d).name e.name)
+
+-- each variable and each function of the program has a number
+module _ (p : Program) (names : List Name) (exactly : (x : Name) → is_numbered names x ≡ list_any (same_name x) (declared_names (whole_of p))) where
+  pub variables_numbered : All (λ (d : Decl). IsTrue (is_numbered names d.name)) p.decls.items
+  variables_numbered k d h = exactly (get_or p.decls.items k d).name ∙ variable_there (map function_name (map function_of p.funcs.items)) p.decls.items k d h
+
+  pub functions_numbered : All (λ (f : Func). IsTrue (is_numbered names f.name)) p.funcs.items
+  functions_numbered k d h = exactly (get_or p.funcs.items k d).name ∙ function_there (map declared_name (map declared_of p.decls.items)) p.funcs.items k d h
+
+-- ---- names that stand twice
+
+-- one of these is among those
+abbrev meets : List Name → List Name → Bool
+meets before [] = false
+meets before (x ∷ names) = list_any (same_name x) before || meets before names
+
+-- one of these is among those before it
+abbrev comes_again : List Name → List Name → Bool
+comes_again before [] = false
+comes_again before (x ∷ names) = list_any (same_name x) before || comes_again (insert_key same_name before x) names
+
+shuffle : (a b c d : Bool) → ((a || b) || (c || d)) ≡ ((a || c) || (b || d))
+shuffle true b c d = refl
+shuffle false true true d = refl
+shuffle false true false d = refl
+shuffle false false c d = refl
+
+meets_none : (names : List Name) → meets [] names ≡ false
+meets_none [] = refl
+meets_none (x ∷ names) = meets_none names
+
+meets_pushed : (before : List Name) (x : Name) (names : List Name) → meets (before ++ x ∷ []) names ≡ (meets before names || is_among names x)
+meets_pushed before x [] = refl
+meets_pushed before x (y ∷ names) =
+    ap (λ (b : Bool). b || meets (before ++ x ∷ []) names) (list_any-append (same_name y) before (x ∷ []) ∙ ap (λ (c : Bool). list_any (same_name y) before || c) (or_false (same_name y x)))
+    ∙ ap (λ (b : Bool). (list_any (same_name y) before || same_name y x) || b) (meets_pushed before x names)
+    ∙ shuffle (list_any (same_name y) before) (same_name y x) (meets before names) (is_among names x)
+
+again_is : (before names : List Name) → comes_again before names ≡ (meets before names || is_any_twice names)
+again_is before [] = refl
+again_is before (x ∷ names) = by (list_any (same_name x) before) (again_is (before ++ x ∷ []) names)
+  where
+    by : (b : Bool) → comes_again (before ++ x ∷ []) names ≡ (meets (before ++ x ∷ []) names || is_any_twice names)
+        → (b || comes_again (cond b before (before ++ x ∷ [])) names) ≡ ((b || meets before names) || (is_among names x || is_any_twice names))
+    by true e = refl
+    by false e = e ∙ ap (λ (c : Bool). c || is_any_twice names) (meets_pushed before x names) ∙ or_assoc (meets before names) (is_among names x) (is_any_twice names)
+
+at_most : (before names : List Name) → length (insert_all same_name before names) ≤ length before + length names
+at_most before [] = omega arith
+at_most before (x ∷ names) = by (list_any (same_name x) before) (at_most before names) (at_most (before ++ x ∷ []) names)
+  where
+    by : (b : Bool) → length (insert_all same_name before names) ≤ length before + length names → length (insert_all same_name (before ++ x ∷ []) names) ≤ length (before ++ x ∷ []) + length names
+        → length (insert_all same_name (cond b before (before ++ x ∷ [])) names) ≤ length before + suc (length names)
+    by true h g = omega arith
+    by false h g = omega (arith, length-append before (x ∷ []))
+
+fewer : (before names : List Name) → nat_lt (length (insert_all same_name before names)) (length before + length names) ≡ comes_again before names
+fewer before [] = le-ltb _ _ (omega arith)
+fewer before (x ∷ names) = by (list_any (same_name x) before) (fewer (before ++ x ∷ []) names)
+  where
+    by : (b : Bool) → nat_lt (length (insert_all same_name (before ++ x ∷ []) names)) (length (before ++ x ∷ []) + length names) ≡ comes_again (before ++ x ∷ []) names
+        → nat_lt (length (insert_all same_name (cond b before (before ++ x ∷ [])) names)) (length before + suc (length names)) ≡ (b || comes_again (cond b before (before ++ x ∷ [])) names)
+    by true e = let most = at_most before names in lt-ltb _ _ (omega arith)
+    by false e =
+        let on : length before + suc (length names) ≡ length (before ++ x ∷ []) + length names = omega (arith, length-append before (x ∷ [])) in
+        ap (nat_lt (length (insert_all same_name (before ++ x ∷ []) names))) on ∙ e
+
+-- the list of names is shorter exactly where one stands twice
+pub shorter_exactly : (declared names : List Name) → names ≡ once declared → IsTrue (is_any_twice declared) ↔ (length names < length declared)
+shorter_exactly declared names is =
+    let same : length names ≡ length (once declared) = ap length is in
+    let zero_more : 0 + length declared ≡ length declared = omega arith in
+    let e : nat_lt (length (once declared)) (length declared) ≡ is_any_twice declared =
+    ap (nat_lt (length (once declared))) (sym zero_more) ∙ fewer [] declared ∙ again_is [] declared ∙ ap (λ (b : Bool). b || is_any_twice declared) (meets_none declared) in
+    (λ t. let less : length (once declared) < length declared = ltb-true _ _ (e ∙ t) in omega arith, λ h. let less : length (once declared) < length declared = omega arith in sym e ∙ lt-ltb _ _ less)
+
 -- ---- a value at the number of a name
 
 here : (names : List Name) (q : Name) (n : ℕ) (e : number_in names q ≡ Some n) → same_name q (get_or names n q) ≡ true
@@ -178,3 +273,23 @@ pub put_new : {A : Type 0} (old new : List (Option A)) (before names : List Name
 put_new {A} old new before names x n v grows long e is others q =
     put_by_name old new names x n v e is others q
     ∙ ap (λ (o : Option A). cond (same_name x q) (Some v) o) (ap (λ (l : List Name). by_name l old q) grows ∙ grown None old before x q long)
+
+or_none : {A : Type 0} (o : Option A) → option_or o None ≡ o
+or_none None = refl
+or_none (Some v) = refl
+
+-- the value of a name was put at its number, where nothing stood there
+module _ {A : Type 0} (old : List (Option A)) (names : List Name) (x : Name) (n : ℕ) (v : A) (e : number_in names x ≡ Some n) where
+  pub kept_there : (w : A) → at_place old n ≡ Some w → (q : Name) → by_name names old q ≡ option_or (by_name names old q) (cond (same_name x q) (Some v) None)
+  kept_there w is q = elim (cases_Bool (same_name x q)) [
+    | inl t ↦ let there : by_name names old q ≡ Some w = at_name None old old names x n e q t ∙ is in there ∙ sym (ap (λ (o : Option A). option_or o (cond (same_name x q) (Some v) None)) there)
+    | inr f ↦ sym (ap (λ (b : Bool). option_or (by_name names old q) (cond b (Some v) None)) f ∙ or_none (by_name names old q))
+  ]
+
+  pub entered_there : (new : List (Option A)) → at_place old n ≡ None → at_place new n ≡ Some v → ((m : ℕ) → m ≢ n → at_place new m ≡ at_place old m)
+      → (q : Name) → by_name names new q ≡ option_or (by_name names old q) (cond (same_name x q) (Some v) None)
+  entered_there new none is others q = put_by_name old new names x n v e is others q ∙ elim (cases_Bool (same_name x q)) [
+    | inl t ↦ let there : by_name names old q ≡ None = at_name None old old names x n e q t ∙ none in
+        ap (λ (b : Bool). cond b (Some v) (by_name names old q)) t ∙ sym (ap (λ (o : Option A). option_or o (cond (same_name x q) (Some v) None)) there ∙ ap (λ (b : Bool). cond b (Some v) None) t)
+    | inr f ↦ ap (λ (b : Bool). cond b (Some v) (by_name names old q)) f ∙ sym (ap (λ (b : Bool). option_or (by_name names old q) (cond b (Some v) None)) f ∙ or_none (by_name names old q))
+  ]

@@ -1,10 +1,10 @@
 -- The declared names of a program by number.
-use Rattle.std.specs.Prelude.{◌≡◌, ℕ, List, [], ◌∷◌, ◌++◌, map, Option, Some, None, Bool, is_some, slice_index_or}
+use Rattle.std.specs.Prelude.{◌≡◌, ℕ, List, [], ◌∷◌, ◌++◌, map, Option, Some, None, Bool, false, ◌||◌, is_some, slice_index_or}
 use Rattle.std.specs.List.{position_from}
 use Rattle.indexmap.specs.IndexSet.{insert_all}
 use Rattle.c_ast.specs.declared.Name.{Name}
 use Rattle.c_ast.specs.Syntax.{Declared, Function, Whole}
-use Rattle.c_ast.specs.Rules.{same_name}
+use Rattle.c_ast.specs.Rules.{same_name, is_among}
 
 -- the number of a name: its place, from 0 on
 abbrev pub number_in : List Name → Name → Option ℕ
@@ -26,6 +26,11 @@ declared_names p = map declared_name p.decls ++ map function_name p.funcs
 -- each name once, where it stands first
 abbrev pub once : List Name → List Name
 once names = insert_all same_name [] names
+
+-- a name stands at two places among these
+abbrev pub is_any_twice : List Name → Bool
+is_any_twice [] = false
+is_any_twice (x ∷ names) = is_among names x || is_any_twice names
 
 -- what stands at a number, if there is one
 abbrev pub at_number : {A : Type 0} → A → List A → Option ℕ → A

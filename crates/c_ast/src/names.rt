@@ -1,10 +1,11 @@
 // The declared names of a program by number.
 
-ghost use Rattle.std.specs.Prelude.{◌≡◌, ◌≢◌, ◌+◌, ◌<◌, ◌≤◌, ◌^◌, ℕ, [], length, max, vec_len, OnOk, OnErr, IfOk, IfSome, Some, map};
+ghost use Rattle.std.specs.Prelude.{◌≡◌, ◌≢◌, ◌+◌, ◌<◌, ◌≤◌, ◌^◌, ℕ, [], length, max, vec_len, OnOk, OnErr, IfOk, IfSome, IsTrue, ◌↔◌, Some, None, map, if◌then◌else◌};
 ghost use Rattle.std.specs.List.{list_any};
+ghost use Rattle.std.specs.Option.{option_or};
 ghost use Rattle.indexmap.specs.IndexSet.{insert_key, insert_all};
 ghost use Rattle.c_ast.specs.Rules.{same_name};
-ghost use Rattle.c_ast.specs.Naming.{number_in, is_numbered, declared_name, function_name, declared_names, once, at_place, by_name};
+ghost use Rattle.c_ast.specs.Naming.{number_in, is_numbered, declared_name, function_name, declared_names, once, is_any_twice, at_place, by_name};
 ghost use Rattle.c_ast.specs.View.{declared_of, function_of, whole_of};
 
 use crate::{Decl, Func, Name, Program};
@@ -80,10 +81,11 @@ impl Names {
     }
 
     /// The names that a program declares, the variables and then the functions, in the order of its text. A name that is declared again
-    /// keeps the number that it has.
+    /// keeps the number that it has: where one is, and only there, there are fewer names than declarations.
     pub fn number(alloc: Global, p: &Program) -> Result<Names, NoMemory>
         ensures names { IfOk result (λ n. n ≡ once (declared_names (whole_of p.now))) }
         ensures declared { IfOk result (λ n. (x : Name) → is_numbered n x ≡ list_any (same_name x) (declared_names (whole_of p.now))) }
+        ensures twice { IfOk result (λ n. IsTrue (is_any_twice (declared_names (whole_of p.now))) ↔ (length n < length (declared_names (whole_of p.now)))) }
     {
         let mut names = Names::new(alloc);
         names.add_variables(&p.decls)?;
@@ -97,6 +99,27 @@ impl Names {
     {
         let number = self.number_of(name)?;
         value_at(values, number)
+    }
+
+    /// Puts a value at the number of a name, which has one, unless something stands there.
+    pub fn enter<V: Copy>(
+        &self,
+        values: &mut Vec<Option<V>>,
+        name: Name,
+        value: V,
+    ) -> Result<(), NoMemory>
+        requires { IsTrue (is_numbered self.now name) }
+        ensures entered { (q : Name) → OnOk result (by_name self.now values.new.items q ≡ option_or (by_name self.now values.old.items q) (if same_name name q then Some value else None)) }
+        ensures err { OnErr result ((n : ℕ) → at_place values.new.items n ≡ at_place values.old.items n) }
+    {
+        let Some(number) = self.number_of(name) else {
+            unreachable!()
+        };
+        prove!(number < self.set.len());
+        match value_at(values, number) {
+            Some(_) => Ok(()),
+            None => put(values, number, value),
+        }
     }
 }
 

@@ -4,12 +4,15 @@ use Rattle.std.proofs.lemmas.Bool.{cond-true, cond-false}
 use Rattle.std.proofs.lemmas.List.{get_or-drop, drop-drop, length-take, take_more, drop_more, drop_all}
 use Rattle.std.specs.List.{position_from}
 use Rattle.c_ast.specs.declared.Name.{Name}
-use Rattle.c_ast.specs.View.{statements_of}
+use Rattle.c_ast.specs.declared.Func.{Func}
+use Rattle.c_ast.specs.Naming.{by_name, at_number, number_in}
+use Rattle.c_ast.specs.Syntax.{Function}
+use Rattle.c_ast.specs.View.{statements_of, function_of}
 use Rattle.c_ast.proofs.Sizes.{sizes_of}
 use Rattle.c_mean.specs.declared.machine.Routine.{Routine}
-use Rattle.c_mean.specs.Meaning.{same_name, run_block, around, calls_of}
-use Rattle.std.specs.Prelude.{if◌then◌else◌}
-use Rattle.c_mean.specs.Spans.{first_of}
+use Rattle.c_mean.specs.Meaning.{same_name, run_block, around, calls_of, Numbered, numbered, later, block_count}
+use Rattle.std.specs.Prelude.{if◌then◌else◌, All, IsTrue}
+use Rattle.std.specs.Option.{option_or}
 use Rattle.c_mean.specs.Calls.{is_named, latest}
 use Rattle.c_mean.specs.Running.{numbered_of}
 use Rattle.c_mean.proofs.Weights.{weight_of}
@@ -101,25 +104,59 @@ call_missing f n gs last most e = missing f n (drop n gs) last most e
 -- ---- the index
 
 -- one more place
-pub latest_push : (f : Name) (i : ℕ) (gs : List Routine) (g : Routine) → position_from (is_named f) i (gs ++ g ∷ []) ≡ first_of (position_from (is_named f) i gs) (if same_name g.name f then Some (i + length gs) else None)
+pub latest_push : (f : Name) (i : ℕ) (gs : List Routine) (g : Routine) → position_from (is_named f) i (gs ++ g ∷ []) ≡ option_or (position_from (is_named f) i gs) (if same_name g.name f then Some (i + length gs) else None)
 latest_push f i [] g = let z : i + 0 ≡ i = omega arith in ap (λ j. cond (is_named f g) (Some j) None) (sym z) ∙ none_first (is_named f g)
   where
-    none_first : (b : Bool) → cond b (Some (i + 0)) None ≡ first_of None (cond b (Some (i + 0)) None)
+    none_first : (b : Bool) → cond b (Some (i + 0)) None ≡ option_or None (cond b (Some (i + 0)) None)
     none_first b = refl
 latest_push f i (h ∷ gs) g =
     let on : (i + 1) + length gs ≡ i + suc (length gs) = omega arith in
-    ap (λ o. cond (is_named f h) (Some i) o) (latest_push f (i + 1) gs g ∙ ap (λ n. first_of (position_from (is_named f) (i + 1) gs) (cond (is_named f g) (Some n) None)) on) ∙ by_name (is_named f h)
+    ap (λ o. cond (is_named f h) (Some i) o) (latest_push f (i + 1) gs g ∙ ap (λ n. option_or (position_from (is_named f) (i + 1) gs) (cond (is_named f g) (Some n) None)) on) ∙ by_name (is_named f h)
   where
-    by_name : (b : Bool) → cond b (Some i) (first_of (position_from (is_named f) (i + 1) gs) (cond (is_named f g) (Some (i + suc (length gs))) None)) ≡ first_of (cond b (Some i) (position_from (is_named f) (i + 1) gs)) (cond (is_named f g) (Some (i + suc (length gs))) None)
+    by_name : (b : Bool) → cond b (Some i) (option_or (position_from (is_named f) (i + 1) gs) (cond (is_named f g) (Some (i + suc (length gs))) None)) ≡ option_or (cond b (Some i) (position_from (is_named f) (i + 1) gs)) (cond (is_named f g) (Some (i + suc (length gs))) None)
     by_name true = refl
     by_name false = refl
 
 -- the index after place k
-pub index_more : (f : Name) (k : ℕ) (gs : List Routine) (d : Routine) (old new : Option ℕ) → k < length gs → old ≡ latest f 0 (take k gs) → new ≡ first_of old (if same_name (get_or gs k d).name f then Some k else None) → new ≡ latest f 0 (take (k + 1) gs)
+pub index_more : (f : Name) (k : ℕ) (gs : List Routine) (d : Routine) (old new : Option ℕ) → k < length gs → old ≡ latest f 0 (take k gs) → new ≡ option_or old (if same_name (get_or gs k d).name f then Some k else None) → new ≡ latest f 0 (take (k + 1) gs)
 index_more f k gs d old new h is next =
     let z : 0 + length (take k gs) ≡ k = omega (arith, length-take k gs) in
     next
-    ∙ ap (λ o. first_of o (cond (same_name (get_or gs k d).name f) (Some k) None)) is
-    ∙ ap (λ n. first_of (latest f 0 (take k gs)) (cond (same_name (get_or gs k d).name f) (Some n) None)) (sym z)
+    ∙ ap (λ o. option_or o (cond (same_name (get_or gs k d).name f) (Some k) None)) is
+    ∙ ap (λ n. option_or (latest f 0 (take k gs)) (cond (same_name (get_or gs k d).name f) (Some n) None)) (sym z)
     ∙ sym (latest_push f 0 (take k gs) (get_or gs k d))
     ∙ ap (position_from (is_named f) 0) (sym (take_more gs k d h))
+
+-- an index in which nothing stands
+pub nothing_there : {A : Type 0} (names : List Name) (x : Name) → by_name {A = A} names [] x ≡ None
+nothing_there {A} names x = at (number_in names x)
+  where
+    at : (o : Option ℕ) → at_number {A = Option A} None [] o ≡ None
+    at None = refl
+    at (Some n) = refl
+
+-- ---- what holds of the names of functions
+
+module _ (test : Name → Bool) where
+  all_cons : (g : Numbered) (gs : List Numbered) → IsTrue (test g.name) → All (λ (g : Numbered). IsTrue (test g.name)) gs → All (λ (g : Numbered). IsTrue (test g.name)) (g ∷ gs)
+  all_cons g gs one all zero d h = one
+  all_cons g gs one all (suc k) d h = let less : k < length gs = omega arith in all k d less
+
+  all_numbered : (n : ℕ) (fs : List Function) (before : List Numbered) → All (λ (f : Function). IsTrue (test f.name)) fs → All (λ (g : Numbered). IsTrue (test g.name)) before → All (λ (g : Numbered). IsTrue (test g.name)) (numbered n fs before)
+  all_numbered n [] before h known = known
+  all_numbered n (f ∷ fs) before h known =
+      let g : Numbered = record { name = f.name; first = n; body = f.body } in
+      all_numbered (later n (block_count f.body)) fs (g ∷ before) (λ k d w. h (suc k) d (omega arith)) (all_cons g before (h zero f (omega arith)) known)
+
+  all_functions : (funcs : List Func) → All (λ (f : Func). IsTrue (test f.name)) funcs → All (λ (f : Function). IsTrue (test f.name)) (map function_of funcs)
+  all_functions [] h k d w = absurd (omega arith)
+  all_functions (f ∷ funcs) h zero d w = h zero f (omega arith)
+  all_functions (f ∷ funcs) h (suc k) d w = let less : k < length (map function_of funcs) = omega arith in all_functions funcs (λ j e v. h (suc j) e (omega arith)) k d less
+
+  all_routines : (gs : List Routine) → All (λ (g : Numbered). IsTrue (test g.name)) (map numbered_of gs) → All (λ (g : Routine). IsTrue (test g.name)) gs
+  all_routines [] h k d w = absurd (omega arith)
+  all_routines (g ∷ gs) h zero d w = h zero (numbered_of d) (omega arith)
+  all_routines (g ∷ gs) h (suc k) d w = let less : k < length gs = omega arith in all_routines gs (λ j e v. h (suc j) e (omega arith)) k d less
+
+  pub routines_all : (funcs : List Func) (gs : List Routine) → map numbered_of gs ≡ numbered 1 (map function_of funcs) [] → All (λ (f : Func). IsTrue (test f.name)) funcs → All (λ (g : Routine). IsTrue (test g.name)) gs
+  routines_all funcs gs is h = all_routines gs (subst (λ (l : List Numbered). All (λ (g : Numbered). IsTrue (test g.name)) l) (sym is) (all_numbered 1 (map function_of funcs) [] (all_functions funcs h) (λ k d w. absurd (omega arith))))

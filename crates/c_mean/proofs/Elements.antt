@@ -1,6 +1,7 @@
 -- Looking up a name in memory, and storing there.
 use Rattle.std.proofs.Common.{◌≡◌, ℕ, zero, suc, ◌+◌, ◌-◌, ◌<◌, ◌≤◌, List, [], ◌∷◌, ◌++◌, length, get_or, drop, take, map, replicate, Bool, true, false, cond, Option, Some, None, option_map, refl, sym, ap, ◌∙◌, arith, ℤ, pos}
 use Rattle.std.specs.Prelude.{slice_get, slice_set, nat_lt, if◌then◌else◌}
+use Rattle.std.specs.Option.{option_or}
 use Rattle.std.proofs.lemmas.Bool.{cond-true, cond-false, lt-ltb, le-ltb, ltb-true, ltb-false}
 use Rattle.std.proofs.lemmas.List.{take-replicate, drop-replicate, length-take, length-drop, take_all, map_more, replicate-append-replicate}
 use Rattle.c_ast.specs.declared.Name.{Name}
@@ -9,7 +10,7 @@ use Rattle.c_ast.specs.Syntax.{Declared}
 use Rattle.c_ast.specs.View.{declared_of}
 use Rattle.c_mean.specs.declared.machine.Span.{Span}
 use Rattle.c_mean.specs.Meaning.{Slot, same_name, lookup, store, first_slot, ◌>>=◌}
-use Rattle.c_mean.specs.Spans.{elements_of, cut, further, span_of, element_at, first_of}
+use Rattle.c_mean.specs.Spans.{elements_of, cut, further, span_of, element_at}
 
 -- a choice under a bind
 chosen : {A B : Type 0} (b : Bool) (p q : Option B) (s : A) (r : Option A) (f : A → Option B) → p ≡ f s → q ≡ (r >>= f) → cond b p q ≡ (cond b (Some s) r >>= f)
@@ -203,16 +204,16 @@ pub total_push : (ds : List Declared) (d : Declared) → total (ds ++ d ∷ []) 
 total_push [] d = omega arith
 total_push (e ∷ ds) d = omega (arith, total_push ds d)
 
-pub span_push : (ds : List Declared) (d : Declared) (x : Name) → span_of (ds ++ d ∷ []) x ≡ first_of (span_of ds x) (if same_name d.name x then Some (record { first = total ds; size = elements_of d }) else None)
+pub span_push : (ds : List Declared) (d : Declared) (x : Name) → span_of (ds ++ d ∷ []) x ≡ option_or (span_of ds x) (if same_name d.name x then Some (record { first = total ds; size = elements_of d }) else None)
 span_push [] d x = by_name (same_name d.name x)
   where
-    by_name : (b : Bool) → cond b (Some (let s : Span = record { first = 0; size = elements_of d } in s)) None ≡ first_of None (cond b (Some (record { first = 0; size = elements_of d })) None)
+    by_name : (b : Bool) → cond b (Some (let s : Span = record { first = 0; size = elements_of d } in s)) None ≡ option_or None (cond b (Some (record { first = 0; size = elements_of d })) None)
     by_name true = refl
     by_name false = refl
 span_push (e ∷ ds) d x = ap (λ o. cond (same_name e.name x) (Some (record { first = 0; size = elements_of e })) (option_map (further (elements_of e)) o)) (span_push ds d x) ∙ by_name (same_name e.name x) (span_of ds x) (same_name d.name x)
   where
-    by_name : (b : Bool) (o : Option Span) (c : Bool) → cond b (Some (let s : Span = record { first = 0; size = elements_of e } in s)) (option_map (further (elements_of e)) (first_of o (cond c (Some (record { first = total ds; size = elements_of d })) None)))
-        ≡ first_of (cond b (Some (record { first = 0; size = elements_of e })) (option_map (further (elements_of e)) o)) (cond c (Some (record { first = elements_of e + total ds; size = elements_of d })) None)
+    by_name : (b : Bool) (o : Option Span) (c : Bool) → cond b (Some (let s : Span = record { first = 0; size = elements_of e } in s)) (option_map (further (elements_of e)) (option_or o (cond c (Some (record { first = total ds; size = elements_of d })) None)))
+        ≡ option_or (cond b (Some (record { first = 0; size = elements_of e })) (option_map (further (elements_of e)) o)) (cond c (Some (record { first = elements_of e + total ds; size = elements_of d })) None)
     by_name true o c = refl
     by_name false (Some s) c = refl
     by_name false None true = refl
@@ -238,13 +239,13 @@ module _ (decls : List Decl) (k : ℕ) (d : Decl) (within_list : k < length decl
 
   -- the place of one more name
   pub laid_span : (q : Name) (n m : ℕ) (old new : Option Span) → n ≡ total before → m ≡ elements_of (declared_of (get_or decls k d)) → old ≡ span_of before q
-      → new ≡ first_of old (if same_name (get_or decls k d).name q then Some (record { first = n; size = m }) else None) → new ≡ span_of (map declared_of (take (k + 1) decls)) q
+      → new ≡ option_or old (if same_name (get_or decls k d).name q then Some (record { first = n; size = m }) else None) → new ≡ span_of (map declared_of (take (k + 1) decls)) q
   laid_span q n m old new at size is next =
       let last = declared_of (get_or decls k d) in
       next
-      ∙ ap (λ o. first_of o (if same_name last.name q then Some (record { first = n; size = m }) else None)) is
-      ∙ ap (λ n. first_of (span_of before q) (if same_name last.name q then Some (let s : Span = record { first = n; size = m } in s) else None)) at
-      ∙ ap (λ m. first_of (span_of before q) (if same_name last.name q then Some (let s : Span = record { first = total before; size = m } in s) else None)) size
+      ∙ ap (λ o. option_or o (if same_name last.name q then Some (record { first = n; size = m }) else None)) is
+      ∙ ap (λ n. option_or (span_of before q) (if same_name last.name q then Some (let s : Span = record { first = n; size = m } in s) else None)) at
+      ∙ ap (λ m. option_or (span_of before q) (if same_name last.name q then Some (let s : Span = record { first = total before; size = m } in s) else None)) size
       ∙ sym (span_push before last q)
       ∙ ap (λ ds. span_of ds q) (sym one_more)
 

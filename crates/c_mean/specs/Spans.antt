@@ -30,7 +30,3 @@ within o i = o >>= λ s. if nat_lt i s.size then Some (s.first + i) else None
 -- where element i of a name stands among so many, if there is such
 abbrev pub element_at : ℕ → List Declared → Name → ℕ → Option ℕ
 element_at n ds x i = within (span_of ds x) i >>= λ k. if nat_lt k n then Some k else None
-
-abbrev pub first_of : {A : Type 0} → Option A → Option A → Option A
-first_of (Some s) o = Some s
-first_of None o = o

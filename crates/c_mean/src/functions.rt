@@ -1,35 +1,43 @@
 // The functions of a program, found by their names.
 
-ghost use Rattle.std.specs.Prelude.{◌≡◌, ◌<◌, IfSome, IfOk, length};
-ghost use Rattle.std.specs.HashMap as hash;
+ghost use Rattle.std.specs.Prelude.{◌≡◌, ◌<◌, IfSome, IfOk, IsTrue, All, length};
 ghost use Rattle.c_ast.specs.declared.Name.{Name};
+ghost use Rattle.c_ast.specs.Naming.{by_name, is_numbered};
 ghost use Rattle.c_mean.specs.Meaning.{same_name};
 ghost use Rattle.c_mean.specs.Calls.{latest};
 
 use crate::machine::Routine;
-use crate::memory::enter;
-use c_ast::Name;
+use c_ast::{Name, Names};
 use sci_base::NoMemory;
 use std::alloc::Global;
-use std::collections::HashMap;
 
-/// Functions, the latest first, and at each name the place of the first of this name.
+/// Functions, the latest first, and at the number of each name the place of the first of this name.
 #[derive(Drop)]
 pub struct Functions<'a> {
+    pub names: &'a Names,
     pub routines: Vec<Routine<'a>>,
-    pub index: HashMap<Name, usize>,
-    ghost found: { (f : Name) → hash.get same_name index f ≡ latest f 0 routines.items },
+    pub index: Vec<Option<usize>>,
+    ghost found: { (f : Name) → by_name names.now index.items f ≡ latest f 0 routines.items },
 }
 
-/// The functions with their index. The only error is want of memory.
-pub fn indexed<'a>(alloc: Global, routines: Vec<Routine<'a>>) -> Result<Functions<'a>, NoMemory>
+/// The functions with their index, by the names' numbers. The only error is want of memory.
+pub fn indexed<'a>(
+    alloc: Global,
+    names: &'a Names,
+    routines: Vec<Routine<'a>>,
+) -> Result<Functions<'a>, NoMemory>
+    requires { All (λ g. IsTrue (is_numbered names.now g.name)) routines.items }
     ensures { IfOk result (λ v. v.routines.items ≡ routines.entry.items) }
 {
-    let mut index = HashMap::new(alloc);
+    let mut index = Vec::new(alloc);
     for k in 0..routines.len() {
-        enter(&mut index, routines[k].name, k)?;
+        names.enter(&mut index, routines[k].name, k)?;
     }
-    Ok(Functions { routines, index })
+    Ok(Functions {
+        names,
+        routines,
+        index,
+    })
 }
 
 fn same(left: Name, right: Name) -> bool
@@ -57,7 +65,7 @@ pub fn find(functions: &Functions<'_>, from: usize, name: Name) -> Option<usize>
     ensures value { result ≡ latest name from functions.now.routines.items }
     ensures within { IfSome result (λ k. k < length functions.now.routines.items) }
 {
-    match functions.index.get(&name).copied() {
+    match functions.names.look(&functions.index, name) {
         None => None,
         Some(first) => if first >= from {
             Some(first)

@@ -1,6 +1,7 @@
 // Whole programs.
 
-ghost use Rattle.std.specs.Prelude.{◌≡◌, ◌<◌, ◌^◌, pos, [], map, IfOk};
+ghost use Rattle.std.specs.Prelude.{◌≡◌, ◌<◌, ◌^◌, pos, [], map, All, IfOk, IsTrue};
+ghost use Rattle.c_ast.specs.Naming.{is_numbered};
 ghost use Rattle.c_ast.specs.View.{declared_of, function_of, whole_of};
 ghost use Rattle.c_mean.specs.Meaning.{first_slot, numbered, behind_functions, meaning};
 ghost use Rattle.c_mean.specs.Running.{left_of, numbered_of};
@@ -12,14 +13,13 @@ ghost use Rattle.c_mean.specs.declared.start.RunStop.TheVariants.{Memory};
 
 use crate::functions::indexed;
 use crate::machine::{Column, Flow, Limits, Routine, Span};
-use crate::memory::{Memory, enter};
+use crate::memory::Memory;
 use crate::steps::{block, count_all};
-use c_ast::{Decl, Func, Program};
+use c_ast::{Decl, Func, Names, Program};
 use sci_base::NoMemory;
 use sci_io::{Failed, Sink};
 use sci_trace::inputs::Inputs;
 use std::alloc::Global;
-use std::collections::HashMap;
 
 /// How a run ended.
 #[derive(Clone, Copy, Debug, PartialEq, Eq)]
@@ -59,19 +59,22 @@ fn elements(decl: &Decl) -> usize
     }
 }
 
-fn memory_of<'a>(alloc: Global, decls: &'a [Decl]) -> Result<Memory<'a>, NoMemory>
+/// The variables at the beginning, by the numbers of their names.
+fn memory_of<'a>(alloc: Global, names: &'a Names, decls: &'a [Decl]) -> Result<Memory<'a>, NoMemory>
+    requires { All (λ d. IsTrue (is_numbered names.now d.name)) decls.now }
     ensures { IfOk result (λ m. slots m ≡ map first_slot (map declared_of decls.now)) }
 {
-    let mut spans = HashMap::new(alloc);
+    let mut spans = Vec::new(alloc);
     let mut cells = Vec::new(alloc);
     for decl in decls {
         let first = cells.len();
         let size = elements(decl);
-        enter(&mut spans, decl.name, Span { first, size })?;
+        names.enter(&mut spans, decl.name, Span { first, size })?;
         cells.resize(first + size, 0)?;
     }
     Ok(Memory {
         decls,
+        names,
         spans,
         cells,
     })
@@ -160,9 +163,10 @@ pub fn run<S: Sink>(
     requires limit_fits { limit < 2 ^ 63 }
     ensures { Answers (S.state out.old) (S.state out.new) result (meaning (whole_of program.now) inputs.now (pos until) (pos limit)) }
 {
-    let mut memory = memory_of(alloc, &program.decls)?;
+    let names = Names::number(alloc, program)?;
+    let mut memory = memory_of(alloc, &names, &program.decls)?;
     let mut columns = columns_of(alloc, inputs.columns())?;
-    let functions = indexed(alloc, routines_of(alloc, &program.funcs)?)?;
+    let functions = indexed(alloc, &names, routines_of(alloc, &program.funcs)?)?;
     let limits = limits_of(until, limit);
     let first = number_behind(&program.funcs);
     let left = block(

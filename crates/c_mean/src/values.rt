@@ -14,7 +14,7 @@ fn place(memory: &Memory<'_>, name: Name, index: usize) -> Option<usize>
     ensures value { result ≡ element_at (length memory.now.cells.items) (map declared_of memory.now.decls.now) name index }
     ensures within { IfSome result (λ k. k < length memory.now.cells.items) }
 {
-    let span = memory.spans.get(&name)?;
+    let span = memory.names.look(&memory.spans, name)?;
     if index >= span.size {
         return None;
     }

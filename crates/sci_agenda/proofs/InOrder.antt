@@ -14,11 +14,11 @@ below_more : (m n : ℕ) (es : List Event) → m ≤ n → AllBelow m es → All
 below_more m n [] h b = tt
 below_more m n (e ∷ es) h b = (omega arith, below_more m n es h b.1)
 
-falls_below : (n : ℕ) (es : List Event) → Falls n es → AllBelow n es
+pub falls_below : (n : ℕ) (es : List Event) → Falls n es → AllBelow n es
 falls_below n [] f = tt
 falls_below n (e ∷ es) f = (f.0, below_more e.order n es (omega arith) (falls_below e.order es f.1))
 
-falls_more : (m n : ℕ) (es : List Event) → m ≤ n → Falls m es → Falls n es
+pub falls_more : (m n : ℕ) (es : List Event) → m ≤ n → Falls m es → Falls n es
 falls_more m n [] h f = tt
 falls_more m n (e ∷ es) h f = (omega arith, f.1)
 
@@ -91,7 +91,7 @@ rest_of n (e ∷ es) f x xs h =
     let below = falls_below e.order es f.1 in
     rest_step e es (sorted es) refl below (below_sorted e.order es below) (rest_of e.order es f.1) x xs h
 
-falls_without : (n k : ℕ) (es : List Event) → Falls n es → Falls n (without k es)
+pub falls_without : (n k : ℕ) (es : List Event) → Falls n es → Falls n (without k es)
 falls_without n k [] f = tt
 falls_without n k (e ∷ es) f =
     by_cases (not (e.order == k)) (Falls n) (e ∷ without k es) (without k es)
@@ -112,13 +112,13 @@ place_greatest e (x ∷ xs) b =
     ap (λ (t : Bool). map due (if t then e ∷ x ∷ xs else x ∷ put_sorted e xs)) test
     ∙ pick (nat_lt e.date x.date) e x xs (place_greatest e xs b.1)
 
-programmed_behind : (a : Pending) (date b : ℕ) → Falls a.programmed a.events
+pub programmed_behind : (a : Pending) (date b : ℕ) → Falls a.programmed a.events
     → in_order (programmed a date b).events ≡ put_behind (date, b) (in_order a.events)
 programmed_behind a date b f =
     place_greatest (record { date = date; order = a.programmed; source = b }) (sorted a.events)
     (below_sorted a.programmed a.events (falls_below a.programmed a.events f))
 
-falls_programmed : (a : Pending) (date b : ℕ) → Falls a.programmed a.events → Falls (programmed a date b).programmed (programmed a date b).events
+pub falls_programmed : (a : Pending) (date b : ℕ) → Falls a.programmed a.events → Falls (programmed a date b).programmed (programmed a date b).events
 falls_programmed a date b f = (omega arith, f)
 
 next_by : (n : ℕ) (es : List Event) (e : Event) → Falls n es → (s : List Event) → sorted es ≡ s → first s ≡ Some e → in_order es ≡ due e ∷ in_order (without e.order es)
@@ -146,13 +146,13 @@ swap_or true false r = refl
 swap_or false true r = refl
 swap_or false false r = refl
 
-pending_placed : (source : ℕ) (e : Event) (xs : List Event) → is_pending source (put_sorted e xs) ≡ is_pending source (e ∷ xs)
+pub pending_placed : (source : ℕ) (e : Event) (xs : List Event) → is_pending source (put_sorted e xs) ≡ is_pending source (e ∷ xs)
 pending_placed source e [] = refl
 pending_placed source e (x ∷ xs) = by_cases (is_earlier e x) (λ l. is_pending source l ≡ is_pending source (e ∷ x ∷ xs)) (e ∷ x ∷ xs) (x ∷ put_sorted e xs)
     (λ _. refl)
     (λ _. ap (λ (t : Bool). (x.source == source) || t) (pending_placed source e xs) ∙ swap_or (x.source == source) (e.source == source) (is_pending source xs))
 
-pending_sorted : (source : ℕ) (es : List Event) → is_pending source (sorted es) ≡ is_pending source es
+pub pending_sorted : (source : ℕ) (es : List Event) → is_pending source (sorted es) ≡ is_pending source es
 pending_sorted source [] = refl
 pending_sorted source (e ∷ es) = pending_placed source e (sorted es) ∙ ap (λ (t : Bool). (e.source == source) || t) (pending_sorted source es)
 

@@ -1,8 +1,8 @@
 -- The pending events, which have their numbers and stand in no order, as the list of (date, source) in the order in which
 -- they fire.
-use Rattle.std.specs.Prelude.{◌≡◌, ℕ, ◌<◌, List, [], ◌∷◌, Some, None, if◌then◌else◌, map}
-use Rattle.sci_pending.specs.Pending.{Event, Pending, is_earlier, next, without, is_pending, programmed}
-use Rattle.sci_agenda.specs.Firing.{put_behind, is_pending as waits}
+use Rattle.std.specs.Prelude.{◌≡◌, ℕ, ◌<◌, false, List, [], ◌∷◌, Some, None, if◌then◌else◌, map}
+use Rattle.sci_pending.specs.Pending.{Event, Pending, is_earlier, next, without, is_pending, programmed, without_source, replaced}
+use Rattle.sci_agenda.specs.Firing.{put_behind, is_pending as waits, without as without_due}
 
 -- before all that are later
 abbrev pub put_sorted : Event → List Event → List Event
@@ -39,3 +39,19 @@ pub record FiringOrderLaw : Type 0 where
   pub others_numbered : (n order : ℕ) (es : List Event) → Falls n es → Falls n (without order es)
   -- the same sources are pending
   pub pending : (source : ℕ) (es : List Event) → waits source (in_order es) ≡ is_pending source es
+
+-- of each source at most one event is pending
+abbrev pub AreOnce : List Event → Type 0
+AreOnce [] = Unit {0}
+AreOnce (e ∷ es) = (is_pending e.source es ≡ false) × AreOnce es
+
+-- A source's event that is replaced is taken out, where it has one, and put behind all of the same or a lesser date.
+pub record ReplacingLaw : Type 0 where
+  pub taken_out : (source : ℕ) (es : List Event) → AreOnce es → in_order (without_source source es) ≡ without_due source (in_order es)
+  pub put_anew : (p : Pending) (date source : ℕ) → IsNumbered p → AreOnce p.events
+      → in_order (replaced p date source).events ≡ put_behind (date, source) (without_due source (in_order p.events))
+  -- where it has none, nothing is taken out
+  pub absent : (source : ℕ) (es : List (ℕ × ℕ)) → waits source es ≡ false → without_due source es ≡ es
+  pub numbered : (p : Pending) (date source : ℕ) → IsNumbered p → IsNumbered (replaced p date source)
+  pub once : (p : Pending) (date source : ℕ) → AreOnce p.events → AreOnce (replaced p date source).events
+  pub others_once : (order : ℕ) (es : List Event) → AreOnce es → AreOnce (without order es)

@@ -56,16 +56,13 @@ total_all g f xs i all most p a = rw (sum_by-map g f xs) (rw (take_all i xs p) a
 -- ---- order
 
 -- a bank is replaced by one of the same kind
-pub IsFull-with_bank : (banks new : List Meaning) (k : Kind) (b : Meaning) → Holds banks k → b.kind ≡ (bank_of banks k).kind → new ≡ with_bank banks k b → IsFull banks → IsFull new
-IsFull-with_bank banks new k b h e n f = rw n (record {
-  all = length-set banks (place_of k) b ∙ f.all;
-  in_order = λ i l. elim (cases_eq i (place_of k)) [
-    | inl q ↦ f.in_order i (subst (λ n. i < n) (length-set banks (place_of k) b) l)
-        ∙ ap Some (ap (λ j. (get_or banks j no_bank).kind) q ∙ sym e ∙ ap (λ (m : Meaning). m.kind) (sym (get_or-set_at banks (place_of k) i b no_bank q h)))
-    | inr q ↦ f.in_order i (subst (λ n. i < n) (length-set banks (place_of k) b) l)
-        ∙ ap (λ (m : Meaning). Some m.kind) (sym (get_or-set_other banks (place_of k) i b no_bank q))
-  ];
-})
+in_order-with_bank : (banks new : List Meaning) (k : Kind) (b : Meaning) → Holds banks k → b.kind ≡ (bank_of banks k).kind → new ≡ with_bank banks k b → AreInOrder banks → AreInOrder new
+in_order-with_bank banks new k b h e n o = rw n (λ i l.
+    let less : i < length banks = subst (λ n. i < n) (length-set banks (place_of k) b) l in
+    elim (cases_eq i (place_of k)) [
+      | inl q ↦ o i less ∙ ap Some (ap (λ j. (get_or banks j no_bank).kind) q ∙ sym e ∙ ap (λ (m : Meaning). m.kind) (sym (get_or-set_at banks (place_of k) i b no_bank q h)))
+      | inr q ↦ o i less ∙ ap (λ (m : Meaning). Some m.kind) (sym (get_or-set_other banks (place_of k) i b no_bank q))
+    ])
 
 -- one more bank, of the next kind
 pub AreInOrder-push : (banks new : List Meaning) (b : Meaning) → AreInOrder banks → kind_at (length banks + 1) ≡ Some b.kind → new ≡ banks ++ b ∷ [] → AreInOrder new
@@ -83,11 +80,15 @@ pub bank_changed : {X : Type 0} (f : X → Meaning) (g : Meaning → Meaning) (x
     → map f (set xs i y) ≡ with_bank (map f xs) k (g (bank_of (map f xs) k))
 bank_changed f g xs k i x y e h r c = map-set_at f g xs i (place_of k) x y no_bank e h r c
 
--- and a full library stays full, where the call keeps the bank's kind
-pub stays_full : {X : Type 0} (f : X → Meaning) (g : Meaning → Meaning) (xs : List X) (k : Kind) (i : ℕ) (x y : X) → i ≡ place_of k → Holds (map f xs) k → x ≡ get_or xs i x → f y ≡ g (f x)
-    → ((b : Meaning) → (g b).kind ≡ b.kind) → IsFull (map f xs) → IsFull (map f (set xs i y))
-stays_full f g xs k i x y e h r c keeps full =
-    IsFull-with_bank (map f xs) (map f (set xs i y)) k (g (bank_of (map f xs) k)) h (keeps (bank_of (map f xs) k)) (bank_changed f g xs k i x y e h r c) full
+-- and the banks stay in order, where the call keeps the bank's kind
+pub stays_in_order : {X : Type 0} (f : X → Meaning) (g : Meaning → Meaning) (xs : List X) (k : Kind) (i : ℕ) (x y : X) → i ≡ place_of k → Holds (map f xs) k → x ≡ get_or xs i x → f y ≡ g (f x)
+    → ((b : Meaning) → (g b).kind ≡ b.kind) → AreInOrder (map f xs) → AreInOrder (map f (set xs i y))
+stays_in_order f g xs k i x y e h r c keeps order =
+    in_order-with_bank (map f xs) (map f (set xs i y)) k (g (bank_of (map f xs) k)) h (keeps (bank_of (map f xs) k)) (bank_changed f g xs k i x y e h r c) order
+
+-- and a full library stays full
+pub stays_full : {X : Type 0} (f : X → Meaning) (xs : List X) (i : ℕ) (y : X) → IsFull (map f xs) → IsFull (map f (set xs i y))
+stays_full f xs i y full = omega (arith, length-map (set xs i y) f, length-map xs f, length-set xs i y)
 
 -- ---- full libraries
 
@@ -136,15 +137,15 @@ kind_of-bank banks k o h = same (sym (o (place_of k) h) ∙ at_place k)
 
 -- a full library holds the bank of each built kind
 pub Holds-full : (banks : List Meaning) (k : Kind) → IsFull banks → place_of k < built → Holds banks k
-Holds-full banks k f h = rw f.all h
+Holds-full banks k f h = rw f h
 
 -- ---- what `add` and `put` leave
 
 -- an instance more, or no memory
-pub full_after_add : {X E : Type 0} (f : X → Meaning) (g : Meaning → Meaning) (xs : List X) (k : Kind) (i : ℕ) (x y : X) (n : ℕ) (r : Result ℕ E) → i ≡ place_of k → Holds (map f xs) k → x ≡ get_or xs i x
-    → IfOk r (λ slot. (slot ≡ n) × (f y ≡ g (f x))) → OnErr r (f y ≡ f x) → ((b : Meaning) → (g b).kind ≡ b.kind) → IsFull (map f xs) → IsFull (map f (set xs i y))
-full_after_add f g xs k i x y n (Ok v) e h r ok err keeps full = stays_full f g xs k i x y e h r ok.1 keeps full
-full_after_add f g xs k i x y n (Err w) e h r ok err keeps full = stays_full f (λ b. b) xs k i x y e h r err (λ b. refl) full
+pub in_order_after_add : {X E : Type 0} (f : X → Meaning) (g : Meaning → Meaning) (xs : List X) (k : Kind) (i : ℕ) (x y : X) (n : ℕ) (r : Result ℕ E) → i ≡ place_of k → Holds (map f xs) k → x ≡ get_or xs i x
+    → IfOk r (λ slot. (slot ≡ n) × (f y ≡ g (f x))) → OnErr r (f y ≡ f x) → ((b : Meaning) → (g b).kind ≡ b.kind) → AreInOrder (map f xs) → AreInOrder (map f (set xs i y))
+in_order_after_add f g xs k i x y n (Ok v) e h r ok err keeps order = stays_in_order f g xs k i x y e h r ok.1 keeps order
+in_order_after_add f g xs k i x y n (Err w) e h r ok err keeps order = stays_in_order f (λ b. b) xs k i x y e h r err (λ b. refl) order
 
 next_is : (n : ℕ) (k : Kind) → next_of n ≡ Some k → kind_at (n + 1) ≡ Some k
 next_is n k h = by_room (nat_lt n built) h

@@ -4,7 +4,7 @@ use Rattle.sci_forms.specs.declared.Kind.{Kind}
 use Rattle.sci_forms.specs.Names.{number_of, kind_at}
 use Rattle.sci_bank.specs.Bank.{Meaning, no_bank}
 
--- the banks of kinds 1 to 13 are built
+-- how many kinds are built: those with the first numbers
 abbrev pub built : ℕ
 built = 13
 
@@ -26,10 +26,9 @@ Holds banks k = place_of k < length banks
 abbrev pub AreInOrder : List Meaning → Type 0
 AreInOrder banks = (i : ℕ) → i < length banks → kind_at (i + 1) ≡ Some (slice_index_or banks i no_bank).kind
 
--- the banks of all built kinds are there
-pub record IsFull (banks : List Meaning) : Type 0 where
-  pub all : length banks ≡ built
-  pub in_order : AreInOrder banks
+-- as many banks as kinds are built
+abbrev pub IsFull : List Meaning → Type 0
+IsFull banks = length banks ≡ built
 
 -- the kind whose bank comes next, of n that are there
 abbrev pub next_of : ℕ → Option Kind

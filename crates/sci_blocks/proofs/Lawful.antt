@@ -14,8 +14,9 @@ use Rattle.sci_diagram.proofs.Bytes.{read_weighs}
 use Rattle.sci_diagram.proofs.Few.{few_objects}
 use Rattle.sci_forms.specs.Forms.{first_not, unless, or_else, given}
 use Rattle.sci_blocks.specs.declared.class.PortClass.TheVariants.{Input, Output, ActivationInput, ActivationOutput}
+use Rattle.sci_blocks.specs.declared.class.LinkType.TheVariants.{Regular, Activation}
 use Rattle.sci_blocks.specs.declared.pass_through.PassThrough.{PassThrough}
-use Rattle.sci_blocks.specs.declared.pass_through.PassThrough.TheVariants.{Split, ActivationSplit, Union, PortBlock}
+use Rattle.sci_blocks.specs.declared.pass_through.PassThrough.TheVariants.{Split, ActivationSplit, Union, PortBlock, Giver, Taker}
 use Rattle.sci_blocks.specs.Laws.{ReadLaw, NamesLaw, NumbersLaw, IsFirstBroken, wanted}
 use Rattle.sci_blocks.specs.Ports.{times, least, least_of, is_once}
 use Rattle.sci_blocks.specs.Sizes.{AreInsidesShort, IsInsideShort, AreListsShort}
@@ -87,30 +88,47 @@ joints_first false true c d q = refl
 joints_first false false true d q = refl
 joints_first false false false d q = refl
 
-ports_last : (i o k l : Bool) → (i || (o || (k || (l || false)))) ≡ (((i || o) || k) || l)
-ports_last true o k l = refl
-ports_last false true k l = refl
-ports_last false false true l = refl
-ports_last false false false true = refl
-ports_last false false false false = refl
+in_order : (a b c d q : Bool) → (a || (b || (c || (d || q)))) ≡ ((((a || b) || c) || d) || q)
+in_order true b c d q = refl
+in_order false true c d q = refl
+in_order false false true d q = refl
+in_order false false false true q = refl
+in_order false false false false q = refl
 
-or_swap : (a b : Bool) → (a || b) ≡ (b || a)
-or_swap true true = refl
-or_swap true false = refl
-or_swap false true = refl
-or_swap false false = refl
+or_last : (q : Bool) → (q || false) ≡ q
+or_last true = refl
+or_last false = refl
 
-chosen : (a b c d i o k l : Bool)
-    → is_some (cond a (Some Split) (cond b (Some ActivationSplit) (cond (c || d) (Some Union) (cond i (Some (PortBlock Input)) (cond o (Some (PortBlock Output)) (cond k (Some (PortBlock ActivationInput)) (cond l (Some (PortBlock ActivationOutput)) None)))))))
-    ≡ ((((i || o) || k) || l) || (((a || b) || c) || d))
-chosen a b c d i o k l =
-    let found : is_some (cond a (Some Split) (cond b (Some ActivationSplit) (cond (c || d) (Some Union) (cond i (Some (PortBlock Input)) (cond o (Some (PortBlock Output)) (cond k (Some (PortBlock ActivationInput)) (cond l (Some (PortBlock ActivationOutput)) None)))))))
-    ≡ (a || (b || ((c || d) || (i || (o || (k || (l || false))))))) = simp picked in
-    found ∙ joints_first a b c d _ ∙ or_swap (((a || b) || c) || d) _ ∙ ap (λ (q : Bool). q || (((a || b) || c) || d)) (ports_last i o k l)
+ports_before : (j p t : Bool) → (j || (p || t)) ≡ ((p || j) || t)
+ports_before true true t = refl
+ports_before true false t = refl
+ports_before false true t = refl
+ports_before false false t = refl
+
+tags : Bool → Bool → Bool → Bool → Option PassThrough
+tags g f h m = cond g (Some (Giver Regular)) (cond f (Some (Taker Regular)) (cond h (Some (Giver Activation)) (cond m (Some (Taker Activation)) None)))
+
+a_tag : (g f h m : Bool) → is_some (tags g f h m) ≡ (((g || f) || h) || m)
+unfolding tags
+a_tag g f h m =
+    let found : is_some (cond g (Some (Giver Regular)) (cond f (Some (Taker Regular)) (cond h (Some (Giver Activation)) (cond m (Some (Taker Activation)) None)))) ≡ (g || (f || (h || (m || false)))) = simp picked in
+    found ∙ in_order g f h m false ∙ or_last _
+
+chosen : (a b c d i o k l : Bool) (t : Option PassThrough) (q : Bool) → is_some t ≡ q
+    → is_some (cond a (Some Split) (cond b (Some ActivationSplit) (cond (c || d) (Some Union) (cond i (Some (PortBlock Input)) (cond o (Some (PortBlock Output)) (cond k (Some (PortBlock ActivationInput)) (cond l (Some (PortBlock ActivationOutput)) t)))))))
+    ≡ (((((i || o) || k) || l) || (((a || b) || c) || d)) || q)
+chosen a b c d i o k l t q is =
+    let found : is_some (cond a (Some Split) (cond b (Some ActivationSplit) (cond (c || d) (Some Union) (cond i (Some (PortBlock Input)) (cond o (Some (PortBlock Output)) (cond k (Some (PortBlock ActivationInput)) (cond l (Some (PortBlock ActivationOutput)) t)))))))
+    ≡ (a || (b || ((c || d) || (i || (o || (k || (l || is_some t))))))) = simp picked in
+    let ports : (i || (o || (k || (l || is_some t)))) ≡ ((((i || o) || k) || l) || q) = in_order i o k l (is_some t) ∙ ap (λ (x : Bool). (((i || o) || k) || l) || x) is in
+    found ∙ joints_first a b c d _ ∙ ap (λ (x : Bool). (((a || b) || c) || d) || x) ports ∙ ports_before (((a || b) || c) || d) (((i || o) || k) || l) q
 
 pub names_law : NamesLaw
+unfolding tags
 names_law gui =
     chosen (bytes_eq gui (codes "SPLIT_f")) (bytes_eq gui (codes "CLKSPLIT_f")) (bytes_eq gui (codes "CLKSOM_f")) (bytes_eq gui (codes "CLKSOMV_f")) (bytes_eq gui (codes "IN_f")) (bytes_eq gui (codes "OUT_f")) (bytes_eq gui (codes "CLKINV_f")) (bytes_eq gui (codes "CLKOUTV_f"))
+    (tags (bytes_eq gui (codes "GOTO")) (bytes_eq gui (codes "FROM")) (bytes_eq gui (codes "CLKGOTO")) (bytes_eq gui (codes "CLKFROM"))) _
+    (a_tag (bytes_eq gui (codes "GOTO")) (bytes_eq gui (codes "FROM")) (bytes_eq gui (codes "CLKGOTO")) (bytes_eq gui (codes "CLKFROM")))
 
 -- ---- the first number that breaks the rule
 

@@ -1,5 +1,5 @@
 pub mod Keeping
 mod Tallying
-mod Walks
+pub mod Walks
 mod Feeding
 pub mod Lawful

@@ -9,8 +9,9 @@ use Rattle.sci_forms.specs.Forms.{counts, or_else, within}
 use Rattle.sci_forms.specs.Broken.{violation_at}
 use Rattle.sci_check.specs.Check.{shape, bad}
 use Rattle.sci_blocks.specs.declared.class.PortClass.TheVariants.{Input, Output, ActivationInput, ActivationOutput}
+use Rattle.sci_blocks.specs.declared.class.LinkType.TheVariants.{Regular, Activation}
 use Rattle.sci_blocks.specs.declared.pass_through.PassThrough.{PassThrough}
-use Rattle.sci_blocks.specs.declared.pass_through.PassThrough.TheVariants.{Split, ActivationSplit, Union, PortBlock}
+use Rattle.sci_blocks.specs.declared.pass_through.PassThrough.TheVariants.{Split, ActivationSplit, Union, PortBlock, Giver, Taker}
 
 -- the pass-through object of a name
 abbrev pub pass_through : List ℕ → Option PassThrough
@@ -21,10 +22,14 @@ pass_through gui =
     if bytes_eq gui (codes "IN_f") then Some (PortBlock Input) else
     if bytes_eq gui (codes "OUT_f") then Some (PortBlock Output) else
     if bytes_eq gui (codes "CLKINV_f") then Some (PortBlock ActivationInput) else
-    if bytes_eq gui (codes "CLKOUTV_f") then Some (PortBlock ActivationOutput) else None
+    if bytes_eq gui (codes "CLKOUTV_f") then Some (PortBlock ActivationOutput) else
+    if bytes_eq gui (codes "GOTO") then Some (Giver Regular) else
+    if bytes_eq gui (codes "FROM") then Some (Taker Regular) else
+    if bytes_eq gui (codes "CLKGOTO") then Some (Giver Activation) else
+    if bytes_eq gui (codes "CLKFROM") then Some (Taker Activation) else None
 
 -- the least and the most of inputs, outputs, activation inputs, activation outputs; the block that stands for an input of the
--- superblock has an output, and the other way round
+-- superblock has an output, and the other way round; an object that gives a tag has an input alone, one that takes a tag an output
 abbrev pub row : PassThrough → Counts
 row Split = counts 1 1 1 64 0 0 0 0
 row ActivationSplit = counts 0 0 0 0 1 1 1 64
@@ -33,6 +38,10 @@ row (PortBlock Input) = counts 0 0 1 1 0 0 0 0
 row (PortBlock Output) = counts 1 1 0 0 0 0 0 0
 row (PortBlock ActivationInput) = counts 0 0 0 0 0 0 1 1
 row (PortBlock ActivationOutput) = counts 0 0 0 0 1 1 0 0
+row (Giver Regular) = counts 1 1 0 0 0 0 0 0
+row (Giver Activation) = counts 0 0 0 0 1 1 0 0
+row (Taker Regular) = counts 0 0 1 1 0 0 0 0
+row (Taker Activation) = counts 0 0 0 0 0 0 1 1
 
 abbrev pub row_broken : Counts → Fields → Option Broken
 row_broken c f =
@@ -51,6 +60,8 @@ abbrev pub parameters_broken : PassThrough → List ℤ → Option Broken
 parameters_broken Split ps = None
 parameters_broken ActivationSplit ps = None
 parameters_broken Union ps = None
+parameters_broken (Giver l) ps = None
+parameters_broken (Taker l) ps = None
 parameters_broken (PortBlock c) ps = number_broken ps
 
 abbrev pub outcome_at : List ℕ → Option Broken → Outcome (Unit {0})

@@ -69,7 +69,7 @@ impl PortClass {
 }
 
 /// What a link carries.
-#[derive(Clone, Copy, Debug, Drop, PartialEq, Eq)]
+#[derive(Clone, Copy, Debug, Drop, PartialEq, Eq, PartialOrd, Ord)]
 pub enum LinkType {
     /// Values.
     Regular,

@@ -65,7 +65,11 @@ fn parameters_broken(p: PassThrough, ipar: &[i64]) -> Option<Broken>
     ensures { result ≡ parameters_broken p ipar.now }
 {
     match p {
-        PassThrough::Split | PassThrough::ActivationSplit | PassThrough::Union => None,
+        PassThrough::Split
+        | PassThrough::ActivationSplit
+        | PassThrough::Union
+        | PassThrough::Giver(_)
+        | PassThrough::Taker(_) => None,
         PassThrough::PortBlock(_) => number_broken(ipar),
     }
 }

@@ -18,7 +18,7 @@ pub fn links_law()
     ensures { LinksLaw }
 {}
 
-/// The pass-through objects are those that the reader counts as such.
+/// The pass-through objects are those that the reader counts as such, and the tag objects.
 pub fn names_law()
     ensures { NamesLaw }
 {}

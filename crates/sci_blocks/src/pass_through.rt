@@ -2,7 +2,7 @@
 ghost use Rattle.std.specs.Prelude.{◌≡◌};
 ghost use Rattle.sci_forms.specs.Forms.{counts};
 
-use crate::class::PortClass;
+use crate::class::{LinkType, PortClass};
 use sci_forms::Counts;
 
 /// A pass-through object.
@@ -16,6 +16,10 @@ pub enum PassThrough {
     Union,
     /// `IN_f`, `OUT_f`, `CLKINV_f`, `CLKOUTV_f`: stands for a port of this class of the superblock around it.
     PortBlock(PortClass),
+    /// `GOTO`, `CLKGOTO`: gives its tag what comes to its input.
+    Giver(LinkType),
+    /// `FROM`, `CLKFROM`: takes to its output what its tag is given.
+    Taker(LinkType),
 }
 
 impl PassThrough {
@@ -33,6 +37,10 @@ impl PassThrough {
             "OUT_f" => Some(PassThrough::PortBlock(PortClass::Output)),
             "CLKINV_f" => Some(PassThrough::PortBlock(PortClass::ActivationInput)),
             "CLKOUTV_f" => Some(PassThrough::PortBlock(PortClass::ActivationOutput)),
+            "GOTO" => Some(PassThrough::Giver(LinkType::Regular)),
+            "FROM" => Some(PassThrough::Taker(LinkType::Regular)),
+            "CLKGOTO" => Some(PassThrough::Giver(LinkType::Activation)),
+            "CLKFROM" => Some(PassThrough::Taker(LinkType::Activation)),
             _ => None,
         }
     }
@@ -49,6 +57,10 @@ impl PassThrough {
             PassThrough::PortBlock(PortClass::Output) => regular(1, 1, 0, 0),
             PassThrough::PortBlock(PortClass::ActivationInput) => activation(0, 0, 1, 1),
             PassThrough::PortBlock(PortClass::ActivationOutput) => activation(1, 1, 0, 0),
+            PassThrough::Giver(LinkType::Regular) => regular(1, 1, 0, 0),
+            PassThrough::Giver(LinkType::Activation) => activation(1, 1, 0, 0),
+            PassThrough::Taker(LinkType::Regular) => regular(0, 0, 1, 1),
+            PassThrough::Taker(LinkType::Activation) => activation(0, 0, 1, 1),
         }
     }
 }

@@ -74,6 +74,11 @@ fn refuses_blocks(rt: HostRuntime) -> Result<(), Fail> {
             &[],
         ),
         (
+            r#"{"obj":"Block","gui":"GotoTagVisibility","model":{"ipar":7}}"#,
+            Rule::UnknownBlock,
+            &[],
+        ),
+        (
             r#"{"obj":"Block","gui":"SUMMATION","model":{"in":1}}"#,
             Rule::PortShape,
             &[1, 1],
@@ -231,6 +236,15 @@ fn refuses_pass_through_objects(rt: HostRuntime) -> Result<(), Fail> {
             r#""evtin":1,"ipar":-5,"dep_ut":[true,true]"#,
             Rule::BadParameter,
             &[1, 1, -5],
+        ),
+        ("GOTO", r#""in":1,"out":1"#, Rule::PortShape, &[2, 1]),
+        ("FROM", "", Rule::PortShape, &[2, 0]),
+        ("CLKGOTO", r#""evtin":[1,1]"#, Rule::PortShape, &[3, 2]),
+        (
+            "CLKFROM",
+            r#""evtin":1,"evtout":1"#,
+            Rule::PortShape,
+            &[3, 1],
         ),
     ] {
         let mut objs = String::from_str(alloc, r#"{"obj":"Text"},{"obj":"Block","gui":""#)?;

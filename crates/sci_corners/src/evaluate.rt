@@ -1,11 +1,11 @@
 // Calls of the library whose conditions are tested first.
-ghost use Rattle.std.specs.Prelude.{map, IfOk, IfSome};
+ghost use Rattle.std.specs.Prelude.{IfOk, IfSome};
 ghost use Rattle.sci_kinds.specs.Table.{out, first_state};
 ghost use Rattle.sci_bank.specs.Bank.{Tells};
 ghost use Rattle.sci_bank.specs.Library.{AreInOrder};
 
 use sci_bank::calls::{enters, fills, masks};
-use sci_bank::library::Library;
+use sci_bank::library::{Banks, Library};
 use sci_bank::{Bank, Fate};
 use sci_base::NoMemory;
 use sci_kinds::Spec;
@@ -16,8 +16,8 @@ const ARITHMETIC: u8 = 13;
 
 /// Puts a bank into the library, whose kind must be the next.
 pub fn put_next(lib: &mut Library, bank: Box<dyn Bank>) -> anyhow::Result<()>
-    requires { AreInOrder (map (λ b. (⟦<dyn Bank as Bank>⟧ b.vtable).meaning b.value) lib.old.banks.items) }
-    ensures { AreInOrder (map (λ b. (⟦<dyn Bank as Bank>⟧ b.vtable).meaning b.value) lib.new.banks.items) }
+    requires { AreInOrder (⟦<Library as Banks>⟧.banks lib.old) }
+    ensures { AreInOrder (⟦<Library as Banks>⟧.banks lib.new) }
 {
     match lib.next_kind() {
         Some(next) => {
@@ -41,8 +41,8 @@ pub fn evaluate(
     ins: &[i64],
     outs: &mut [i64],
 ) -> Result<Option<Fate>, AllocError>
-    requires { AreInOrder (map (λ b. (⟦<dyn Bank as Bank>⟧ b.vtable).meaning b.value) lib.old.banks.items) }
-    ensures in_order { AreInOrder (map (λ b. (⟦<dyn Bank as Bank>⟧ b.vtable).meaning b.value) lib.new.banks.items) }
+    requires { AreInOrder (⟦<Library as Banks>⟧.banks lib.old) }
+    ensures in_order { AreInOrder (⟦<Library as Banks>⟧.banks lib.new) }
     ensures answer { IfOk result (λ a. IfSome a (λ fate. Tells (out spec.now (first_state spec.now) 0 ins.now) fate outs.new)) }
 {
     if !lib.is_full() {

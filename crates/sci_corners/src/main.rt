@@ -4,7 +4,6 @@
 //! values of its outputs, `overflow` or `zero`. `tools/corner_table.py` writes the rows and what must be printed.
 #![tactic(auto)]
 
-ghost use Rattle.std.specs.Prelude.{map};
 ghost use Rattle.sci_bank.specs.Library.{AreInOrder};
 
 mod evaluate;
@@ -12,7 +11,7 @@ mod row;
 
 use evaluate::{evaluate, put_next};
 use row::Row;
-use sci_bank::library::Library;
+use sci_bank::library::{Banks, Library};
 use sci_bank::{Bank, Fate};
 use sci_bank_math::{
     AbsValue, Const, Convert, DeadBand, Demux, Extractor, GainBlk, MaxMin, Mux, Product,
@@ -23,8 +22,8 @@ use std::io::{BufRead, BufReader};
 
 /// Evaluates a row, and prints it with what the block gives.
 fn show(rt: &impl Print, alloc: Global, lib: &mut Library, line: &str) -> anyhow::Result<()>
-    requires { AreInOrder (map (λ b. (⟦<dyn Bank as Bank>⟧ b.vtable).meaning b.value) lib.old.banks.items) }
-    ensures { AreInOrder (map (λ b. (⟦<dyn Bank as Bank>⟧ b.vtable).meaning b.value) lib.new.banks.items) }
+    requires { AreInOrder (⟦<Library as Banks>⟧.banks lib.old) }
+    ensures { AreInOrder (⟦<Library as Banks>⟧.banks lib.new) }
 {
     let row = Row::of(alloc, line)?;
     let mut outs = row.room(alloc)?;
@@ -45,7 +44,7 @@ fn show(rt: &impl Print, alloc: Global, lib: &mut Library, line: &str) -> anyhow
 
 /// Evaluates all rows.
 fn run(rt: &(impl Input + Print), alloc: Global, lib: &mut Library) -> anyhow::Result<()>
-    requires { AreInOrder (map (λ b. (⟦<dyn Bank as Bank>⟧ b.vtable).meaning b.value) lib.old.banks.items) }
+    requires { AreInOrder (⟦<Library as Banks>⟧.banks lib.old) }
 {
     for line in BufReader::new(alloc, rt.reader())?.lines(alloc) {
         show(rt, alloc, lib, &line?)?;

@@ -1,5 +1,5 @@
 -- What each block waits for.
-use Rattle.std.proofs.Common.{◌≡◌, ◌<◌, ◌≤◌, ◌+◌, ◌-◌, ◌↔◌, ◌∙◌, ℕ, zero, suc, Bool, true, false, List, ◌∷◌, [], ◌++◌, ◌⊎◌, inl, inr, ⊎_elim, refl, sym, ap, subst, arith, length, get_or, take, length-append}
+use Rattle.std.proofs.Common.{◌≡◌, ◌<◌, ◌≤◌, ◌+◌, ◌-◌, ◌↔◌, ◌∙◌, ℕ, zero, suc, Bool, true, false, List, ◌∷◌, [], ◌++◌, ◌⊎◌, inl, inr, ⊎_elim, refl, sym, ap, subst, arith, length, get_or, set, take, replicate, length-append}
 use Rattle.std.specs.Prelude.{Contains, eqb}
 use Rattle.std.specs.List.{dedup}
 use Rattle.std.specs.List.Sorted.{IsStrictlyIncreasing, IsPermutation, IsSorted}
@@ -11,15 +11,15 @@ use Rattle.std.proofs.lemmas.List.Sorted.{Contains-permutation, IsPermutation-sy
 use Rattle.std.proofs.lemmas.List.Kept.{Contains-dedup_nat, Contains-from_dedup}
 use Rattle.std.proofs.lemmas.Map.Keys.{IsStrictlyIncreasing-dedup}
 use Rattle.sci_base.specs.Lists.{truth_at}
-use Rattle.sci_loop.specs.Lists.{list_at}
-use Rattle.sci_net.specs.declared.Feed.{Feed}
+use Rattle.sci_loop.specs.Lists.{list_at, Adds}
+use Rattle.sci_loop.proofs.Adding.{none-there, adds-none, adds-both, adds-one}
 use Rattle.sci_net.specs.Parts.{Parts, numbered, spec_of, wire_of, IsBlock}
+use Rattle.sci_net.specs.Net.{IsNet}
 use Rattle.sci_reaction.specs.Links.{SuppliesThrough, has_feedthrough}
 use Rattle.sci_reaction.specs.Depends.{Conditions}
-use Rattle.sci_inherit.specs.Origins.{Origins, AreOrigins}
-use Rattle.sci_inherit.proofs.Gathering.{reaches_block}
+use Rattle.sci_inherit.proofs.Gathering.{reaches_block, reaches_output}
 use Rattle.sci_dep.specs.Tables.{AreWaits}
-use Rattle.sci_dep.specs.Building.{Puts, SuppliesAt, SuppliesBelow, IsBlockOf, AreBlocksOf, IsWaitsOf, WaitsTo}
+use Rattle.sci_dep.specs.Building.{Puts, SuppliesAt, SuppliesBelow, IsPutTo, PutUpto, AreConditions, IsWaitsOf, WaitsTo}
 
 -- ---- the sources of inputs
 
@@ -85,73 +85,88 @@ puts_through n b old new least most p = record {
       supplies = subst (λ (j : ℕ). SuppliesAt n b j x) (sym next) (record { through = s.through; from = s.from });
     }
 
--- ---- the blocks of branches
+-- ---- the conditions of each block
 
-pub blocks_none : (fs : List Feed) → AreBlocksOf (take 0 fs) []
-blocks_none fs = record { exactly = λ x. ((λ (k, h, e). absurd (omega arith)), λ h. let l = h.has.1 in absurd (omega (arith, l))) }
+-- one more of a list
+taken : (xs : List ℕ) (i : ℕ) → i < length xs → (x : ℕ) → Contains (take (i + 1) xs) x ↔ (Contains (take i xs) x ⊎ (get_or xs i 0 ≡ x))
+taken xs i h x =
+    let y = get_or xs i 0 in
+    let more = take_more xs i 0 h in (
+      λ has. Contains-push_cases (take i xs) y x (subst (λ (l : List ℕ). Contains l x) more has),
+      λ has. subst (λ (l : List ℕ). Contains l x) (sym more) (elim has [
+        | inl l ↦ Contains-append_left (take i xs) (y ∷ []) x l
+        | inr e ↦ subst (Contains (take i xs ++ y ∷ [])) e (Contains-push (take i xs) y)
+      ]),
+    )
 
-pub blocks_next : (fs : List Feed) (i : ℕ) (d : Feed) (old new : List ℕ) → i < length fs → Puts (λ b. (get_or fs i d).block ≡ b) old new → AreBlocksOf (take i fs) old
-    → AreBlocksOf (take (i + 1) fs) new
-blocks_next fs i d old new within puts before = record { exactly = λ x. (to x, from x) }
-  where
-    q : Feed
-    q = get_or fs i d
+pub put_none : (reached : List ℕ) (c : ℕ) (ls : List (List ℕ)) → Adds (IsPutTo (take 0 reached) c) ls ls
+put_none reached c ls = adds-none (IsPutTo (take 0 reached) c) ls (λ b x u. let l = u.reaches.1 in absurd (omega (arith, l)))
 
-    mk : ℕ → ℕ → Feed
-    mk c p = record { block = c; port = p }
+pub put_next : (reached : List ℕ) (c i : ℕ) (old mid new : List (List ℕ)) → i < length reached → get_or reached i 0 < length mid → new ≡ set mid (get_or reached i 0) (list_at mid (get_or reached i 0) ++ c ∷ [])
+    → Adds (IsPutTo (take i reached) c) old mid → Adds (IsPutTo (take (i + 1) reached) c) old new
+put_next reached c i old mid new h inside e before =
+    adds-both (IsPutTo (take i reached) c) (λ b x. (b ≡ get_or reached i 0) × (c ≡ x)) (IsPutTo (take (i + 1) reached) c) old mid new
+    (λ b x. (
+      (λ u. ⊎_elim (λ l. inl (record { reaches = l; is = u.is })) (λ s. inr (sym s, u.is)) ((taken reached i h b).0 u.reaches)),
+      λ u. elim u [
+        | inl l ↦ record { reaches = (taken reached i h b).1 (inl l.reaches); is = l.is }
+        | inr r ↦ record { reaches = (taken reached i h b).1 (inr (sym r.0)); is = r.1 }
+      ],
+    ))
+    before (adds-one mid new (get_or reached i 0) c inside e)
 
-    more : take (i + 1) fs ≡ take i fs ++ q ∷ []
-    more = take_more fs i d within
+pub put_done : (reached : List ℕ) (c i : ℕ) (old new : List (List ℕ)) → length reached ≤ i → Adds (IsPutTo (take i reached) c) old new → Adds (IsPutTo reached c) old new
+put_done reached c i old new all adds = subst (λ (l : List ℕ). Adds (IsPutTo l c) old new) (take_all i reached all) adds
 
-    to : (x : ℕ) → Contains new x → IsBlockOf (take (i + 1) fs) x
-    to x h = elim ((puts.exactly x).0 h) [
-      | inl o ↦
-          let b = (before.exactly x).0 o in
-          record { port = b.port; has = subst (λ (l : List Feed). Contains l (mk x b.port)) (sym more) (Contains-append_left (take i fs) (q ∷ []) (mk x b.port) b.has) }
-      | inr s ↦ record {
-        port = q.port;
-        has = subst (λ (l : List Feed). Contains l (mk x q.port)) (sym more) (subst (λ (c : ℕ). Contains (take i fs ++ q ∷ []) (mk c q.port)) s (Contains-push (take i fs) q));
-      }
-    ]
+condition_block : (n : Parts) → IsNet n → (c b : ℕ) → Conditions n c b → IsBlock n c
+condition_block n net c b k = (reaches_output n (record { block = c; port = k.branch }) net k.reaches).block
 
-    from : (x : ℕ) → IsBlockOf (take (i + 1) fs) x → Contains new x
-    from x b = (puts.exactly x).1 (elim (Contains-push_cases (take i fs) q (mk x b.port) (subst (λ (l : List Feed). Contains l (mk x b.port)) more b.has)) [
-      | inl h ↦ inl ((before.exactly x).1 (record { port = b.port; has = h }))
-      | inr s ↦ inr (ap (λ (r : Feed). r.block) s)
-    ])
+pub turned_none : (n : Parts) (ls : List (List ℕ)) → IsNet n → Adds (PutUpto n 0) ls ls
+turned_none n ls net = adds-none (PutUpto n 0) ls (λ b x u. let l = (condition_block n net x b u.conditions).least in let m = u.below in absurd (omega (arith, l, m)))
 
-pub blocks_all : (fs : List Feed) (i : ℕ) (xs : List ℕ) → length fs ≤ i → AreBlocksOf (take i fs) xs → AreBlocksOf fs xs
-blocks_all fs i xs all are = subst (λ (l : List Feed). AreBlocksOf l xs) (take_all i fs all) are
+pub turned_next : (n : Parts) (os : List (List ℕ)) (k : ℕ) (reached : List ℕ) (old mid new : List (List ℕ)) → ((c b : ℕ) → Contains (list_at os c) b ↔ Conditions n c b) → reached ≡ list_at os (k + 1)
+    → Adds (PutUpto n k) old mid → Adds (IsPutTo reached (k + 1)) mid new → Adds (PutUpto n (k + 1)) old new
+turned_next n os k reached old mid new are same before adds =
+    adds-both (PutUpto n k) (IsPutTo reached (k + 1)) (PutUpto n (k + 1)) old mid new
+    (λ b x. (
+      (λ u. ⊎_elim
+          (λ s. inr (record { reaches = subst (λ (l : List ℕ). Contains l b) (sym same) ((are (k + 1) b).1 (subst (λ (c : ℕ). Conditions n c b) s u.conditions)); is = sym s }))
+          (λ d. inl (record { below = let l = u.below in omega (arith, l, d); conditions = u.conditions }))
+          (cases_eq x (k + 1))),
+      λ u. elim u [
+        | inl l ↦ record { below = let m = l.below in omega (arith, m); conditions = l.conditions }
+        | inr r ↦ record {
+          below = let s = r.is in omega (arith, s);
+          conditions = subst (λ (c : ℕ). Conditions n c b) r.is ((are (k + 1) b).0 (subst (λ (l : List ℕ). Contains l b) same r.reaches));
+        }
+      ],
+    ))
+    before adds
+
+pub turned_all : (n : Parts) (count k : ℕ) (ls : List (List ℕ)) → IsNet n → k ≡ length n.specs → Adds (PutUpto n k) (replicate count []) ls → AreConditions n ls
+turned_all n count k ls net all adds b c = (
+  (λ h. elim ((adds.exactly b c).0 h) [ inl l ↦ absurd (none-there count b c l) | inr u ↦ u.conditions ]),
+  λ h. (adds.exactly b c).1 (inr (record { below = let m = (condition_block n net c b h).most in omega (arith, m, all); conditions = h })),
+)
 
 -- ---- the list of a block
 
-pub waits_are : (n : Parts) (o : Origins) (c : ℕ) (fs : List Feed) (found put sorted kept : List ℕ) → AreOrigins n o → fs ≡ numbered [] o.branches c → AreBlocksOf fs found
+pub waits_are : (n : Parts) (c : ℕ) (found put sorted kept : List ℕ) → ((b : ℕ) → Contains found b ↔ Conditions n b c)
     → Puts (λ b. SuppliesThrough n b c) found put → IsPermutation put sorted → IsSorted nat_cmp sorted → kept ≡ dedup eqb sorted → IsWaitsOf n c kept
-waits_are n o c fs found put sorted kept origins is blocks puts moved in_order e = record {
+waits_are n c found put sorted kept are puts moved in_order e = record {
   rising = subst IsStrictlyIncreasing (sym e) (IsStrictlyIncreasing-dedup sorted in_order);
   exactly = λ b. (to b, from b);
 }
   where
-    branch_to : (b : ℕ) → IsBlockOf fs b → Conditions n b c
-    branch_to b h =
-        let t = (origins.branches_are c (record { block = b; port = h.port })).0 (subst (λ (l : List Feed). Contains l (record { block = b; port = h.port })) is h.has) in
-        record { sync = t.0; branch = h.port; reaches = t.1 }
-
-    branch_from : (b : ℕ) → Conditions n b c → IsBlockOf fs b
-    branch_from b h = record {
-      port = h.branch;
-      has = subst (λ (l : List Feed). Contains l (record { block = b; port = h.branch })) (sym is) ((origins.branches_are c (record { block = b; port = h.branch })).1 (h.sync, h.reaches));
-    }
-
     to : (b : ℕ) → Contains kept b → SuppliesThrough n b c ⊎ Conditions n b c
     to b h =
         let in_sorted : Contains sorted b = Contains-from_dedup eqb sorted b (subst (λ (l : List ℕ). Contains l b) e h) in
         let in_put : Contains put b = Contains-permutation sorted put b (IsPermutation-sym put sorted moved) in_sorted in
-        elim ((puts.exactly b).0 in_put) [ inl f ↦ inr (branch_to b ((blocks.exactly b).0 f)) | inr s ↦ inl s ]
+        elim ((puts.exactly b).0 in_put) [ inl f ↦ inr ((are b).0 f) | inr s ↦ inl s ]
 
     from : (b : ℕ) → SuppliesThrough n b c ⊎ Conditions n b c → Contains kept b
     from b h =
-        let in_put : Contains put b = (puts.exactly b).1 (elim h [ inl s ↦ inr s | inr k ↦ inl ((blocks.exactly b).1 (branch_from b k)) ]) in
+        let in_put : Contains put b = (puts.exactly b).1 (elim h [ inl s ↦ inr s | inr k ↦ inl ((are b).1 k) ]) in
         subst (λ (l : List ℕ). Contains l b) (sym e) (Contains-dedup_nat sorted b (Contains-permutation put sorted b moved in_put))
 
 -- ---- the lists of all blocks

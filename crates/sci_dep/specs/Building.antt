@@ -2,7 +2,6 @@
 use Rattle.std.specs.Prelude.{◌≡◌, ℕ, ◌+◌, ◌<◌, ◌⊎◌, ◌↔◌, true, List, [], length, Contains, slice_index}
 use Rattle.std.specs.List.Sorted.{IsStrictlyIncreasing}
 use Rattle.sci_loop.specs.Lists.{list_at}
-use Rattle.sci_net.specs.declared.Feed.{Feed}
 use Rattle.sci_net.specs.Parts.{Parts, numbered, spec_of, wire_of}
 use Rattle.sci_reaction.specs.Links.{SuppliesThrough, has_feedthrough}
 use Rattle.sci_reaction.specs.Depends.{Conditions}
@@ -22,14 +21,19 @@ pub record SuppliesBelow (n : Parts) (b k x : ℕ) : Type 0 where
   pub below : input < k
   pub supplies : SuppliesAt n b (input + 1) x
 
--- x is the block of one of these activation outputs
-pub record IsBlockOf (fs : List Feed) (x : ℕ) : Type 0 where
-  pub port : ℕ
-  pub has : Contains fs (record { block = x; port = port })
+-- x goes into the list of b, which is one of these
+pub record IsPutTo (reached : List ℕ) (c b x : ℕ) : Type 0 where
+  pub reaches : Contains reached b
+  pub is : c ≡ x
 
--- the blocks of these activation outputs
-pub record AreBlocksOf (fs : List Feed) (xs : List ℕ) : Type 0 where
-  pub exactly : (x : ℕ) → Contains xs x ↔ IsBlockOf fs x
+-- one of the first k blocks goes into the list of b, which a branch of it reaches
+pub record PutUpto (n : Parts) (k b x : ℕ) : Type 0 where
+  pub below : x < k + 1
+  pub conditions : Conditions n x b
+
+-- by number, the synchronous blocks with a branch that reaches the block
+abbrev pub AreConditions : Parts → List (List ℕ) → Type 0
+AreConditions n ls = (b c : ℕ) → Contains (list_at ls b) c ↔ Conditions n c b
 
 -- the blocks that c waits for
 pub record IsWaitsOf (n : Parts) (c : ℕ) (xs : List ℕ) : Type 0 where

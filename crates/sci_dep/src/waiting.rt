@@ -1,14 +1,17 @@
 // What each block waits for, whatever the source is.
-ghost use Rattle.std.specs.Prelude.{◌≡◌, ◌≤◌, [], length, IfOk, OnOk};
+ghost use Rattle.std.specs.Prelude.{◌≡◌, ℕ, ◌≤◌, ◌<◌, ◌+◌, ◌↔◌, [], length, All, Contains, IfOk, OnOk, vec_len};
+ghost use Rattle.sci_loop.specs.Lists.{plain, Adds};
 ghost use Rattle.sci_net.specs.Parts.{numbered, spec_of};
 ghost use Rattle.sci_reaction.specs.Links.{SuppliesThrough};
+ghost use Rattle.sci_reaction.specs.Depends.{Conditions};
 ghost use Rattle.sci_inherit.specs.Origins.{AreOrigins};
 ghost use Rattle.sci_dep.specs.Tables.{AreWaits};
-ghost use Rattle.sci_dep.specs.Building.{Puts, SuppliesAt, AreBlocksOf, IsWaitsOf};
+ghost use Rattle.sci_dep.specs.Building.{Puts, SuppliesAt, IsPutTo, AreConditions, IsWaitsOf};
 
 use sci_base::NoMemory;
 use sci_inherit::Reach;
-use sci_net::{Feed, Net};
+use sci_loop::walk::{empty_lists, push_at};
+use sci_net::Net;
 use std::alloc::Global;
 use std::marker::Model;
 
@@ -69,37 +72,42 @@ fn push_sources(blocks: &mut Vec<u32>, net: &Net, block: u32) -> Result<(), NoMe
     Ok(())
 }
 
-// Puts a block, unless it stands at the end.
-fn push_other(blocks: &mut Vec<u32>, block: u32) -> Result<(), NoMemory>
-    ensures { OnOk result (Puts (λ b. block ≡ b) blocks.old.items blocks.new.items) }
+// Puts a synchronous block at the end of the lists of the blocks that its branches reach.
+fn put(lists: &mut Vec<Vec<u32>>, condition: u32, reached: &[u32]) -> Result<(), NoMemory>
+    requires { All (λ b. b < vec_len lists.old) reached.now }
+    ensures adds { OnOk result (Adds (IsPutTo reached.now condition) (plain lists.old.items) (plain lists.new.items)) }
+    ensures len { OnOk result (vec_len lists.new ≡ vec_len lists.old) }
 {
-    if blocks.last() == Some(&block) {
-        Ok(())
-    } else {
-        blocks.push(block)?;
-        Ok(())
+    for block in reached {
+        push_at(lists, *block as usize, condition)?;
     }
+    Ok(())
 }
 
-// The blocks of some branches, which stand block by block.
-fn blocks_of(alloc: Global, branches: &[Feed]) -> Result<Vec<u32>, NoMemory>
-    ensures { IfOk result (λ v. AreBlocksOf branches.now v.items) }
+// By number, the synchronous blocks with a branch that reaches the block.
+fn conditions(alloc: Global, net: &Net, reach: &Reach) -> Result<Vec<Vec<u32>>, NoMemory>
+    requires { AreOrigins net.now reach.now }
+    ensures conditions { IfOk result (λ v. AreConditions net.now (plain v.items)) }
+    ensures len { IfOk result (λ v. vec_len v ≡ length net.now.specs + 1) }
 {
-    let mut blocks = Vec::new(alloc);
-    for branch in branches {
-        push_other(&mut blocks, branch.block)?;
+    net.well_formed();
+    let onward = reach.onward();
+    let mut lists = empty_lists(alloc, net.len() as usize + 1)?;
+    for at in 0..net.len() {
+        let block = at + 1;
+        put(&mut lists, block, &onward[block as usize])?;
     }
-    Ok(blocks)
+    Ok(lists)
 }
 
-// The blocks that a block waits for.
-fn waits_of(alloc: Global, net: &Net, reach: &Reach, block: u32) -> Result<Vec<u32>, NoMemory>
+// The blocks that a block waits for, by the synchronous blocks with a branch that reaches it.
+fn waits_of(alloc: Global, net: &Net, conditions: &[u32], block: u32) -> Result<Vec<u32>, NoMemory>
     requires least { 1 ≤ block }
     requires most { block ≤ length net.now.specs }
-    requires origins { AreOrigins net.now reach.now }
+    requires conditions { (c : ℕ) → Contains conditions.now c ↔ Conditions net.now c block }
     ensures { IfOk result (λ v. IsWaitsOf net.now block v.items) }
 {
-    let mut blocks = blocks_of(alloc, reach.branches(block))?;
+    let mut blocks = Vec::from_slice(alloc, conditions)?;
     push_sources(&mut blocks, net, block)?;
     blocks.sort_unstable();
     blocks.dedup();
@@ -111,9 +119,12 @@ pub fn made(alloc: Global, net: &Net, reach: &Reach) -> Result<Waits, NoMemory>
     requires { AreOrigins net.now reach.now }
     ensures { IfOk result (λ w. AreWaits net.now w) }
 {
+    net.well_formed();
+    let conditions = conditions(alloc, net, reach)?;
     let mut lists = Vec::new(alloc);
     for at in 0..net.len() {
-        lists.push(waits_of(alloc, net, reach, at + 1)?)?;
+        let block = at + 1;
+        lists.push(waits_of(alloc, net, &conditions[block as usize], block)?)?;
     }
     Ok(Waits { lists })
 }

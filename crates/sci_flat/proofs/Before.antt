@@ -8,7 +8,7 @@ use Rattle.sci_blocks.specs.declared.class.PortClass.TheVariants.{Input, Output,
 use Rattle.sci_blocks.specs.declared.class.LinkType.{LinkType}
 use Rattle.sci_blocks.specs.declared.class.LinkType.TheVariants.{Regular, Activation}
 use Rattle.sci_blocks.specs.declared.pass_through.PassThrough.{PassThrough}
-use Rattle.sci_blocks.specs.declared.pass_through.PassThrough.TheVariants.{Split, ActivationSplit, Union, PortBlock}
+use Rattle.sci_blocks.specs.declared.pass_through.PassThrough.TheVariants.{Split, ActivationSplit, Union, PortBlock, Giver, Taker}
 use Rattle.sci_blocks.specs.Rows.{pass_through}
 use Rattle.sci_blocks.specs.Wiring.{link_type}
 use Rattle.sci_flat.specs.Chain.{Step}
@@ -42,6 +42,8 @@ through_regular at here f (Some Split) p q r s = from_regular _ p (splits here I
 through_regular at here f (Some ActivationSplit) p q r s = absurd (irregular ActivationOutput q (splits here ActivationInput ActivationOutput f.evtout p q s).class r)
 through_regular at here f (Some Union) p q r s = absurd (irregular ActivationOutput q (unites here f.evtin p q s) r)
 through_regular at here f (Some (PortBlock c)) p q r s = numbered_regular at here c f.ipar p q r s
+through_regular at here f (Some (Giver l)) p q r s = absurd s
+through_regular at here f (Some (Taker l)) p q r s = absurd s
 
 link_regular : (at : List ℕ) (from to : End) (o : Option LinkType) (p q : Port) → IsRegular q.class → Step (link_steps at from to o) p q → IsRegular p.class
 link_regular at from to None p q r s = absurd s
@@ -65,5 +67,5 @@ mutual
   regular_of at here text p q r s = absurd s
   regular_of at here deleted p q r s = absurd s
 
-pub regular_before : (t : Objects) (p q : Port) → IsRegular q.class → Step (tree_steps t) p q → IsRegular p.class
-regular_before t p q r s = regular_in [] 1 t p q r s
+pub regular_drawn_before : (t : Objects) (p q : Port) → IsRegular q.class → Step (tree_steps t) p q → IsRegular p.class
+regular_drawn_before t p q r s = regular_in [] 1 t p q r s

@@ -1,11 +1,10 @@
 -- The specs of a diagram's blocks are formed, and say what is declared; there are few of them.
-use Rattle.std.proofs.Common.{◌≡◌, ◌<◌, ◌≤◌, ◌+◌, ℕ, zero, suc, ℤ, pos, negsuc, List, [], ◌∷◌, ◌++◌, inl, inr, length, get_or, Bool, true, false, cond, not, ◌&&◌, ◌||◌, Option, Some, None, Ok, Err, codes, refl, ap, ◌∙◌, subst, arith, true≢false}
+use Rattle.std.proofs.Common.{◌≡◌, ◌<◌, ◌≤◌, ◌+◌, ℕ, zero, suc, ℤ, pos, negsuc, List, [], ◌∷◌, ◌++◌, inl, inr, length, get_or, Bool, true, false, cond, not, ◌&&◌, ◌||◌, Option, Some, None, Ok, Err, codes, refl, ap, subst, arith, true≢false}
 use Rattle.std.specs.Prelude.{All, int_lt, ◌^◌, nat_eq}
 use Rattle.std.specs.List.{list_all}
 use Rattle.std.specs.Str.{bytes_eq}
 use Rattle.std.proofs.lemmas.Bool.{cases_lt}
 use Rattle.std.proofs.lemmas.List.{length-append}
-use Rattle.std.proofs.lemmas.Slice.Eq.{bytes_eq-Decides}
 use Rattle.std.proofs.lemmas.List.Elements.{All-nil, All-push}
 use Rattle.sci_base.specs.Lists.{at}
 use Rattle.sci_base.specs.Plain.{Violation, Fields}
@@ -23,8 +22,9 @@ use Rattle.sci_check.specs.Laws.{CheckedLaw}
 use Rattle.sci_check.specs.Check.{is_integer, integer_at, not_integer, side_broken, forms_broken, types_broken, active_broken, values_broken, broken, columns_at, declared_port, declared_ports, spec_of, judged, checked_kind, checked}
 use Rattle.sci_net.specs.Flat.{is_declared, AreDeclared}
 use Rattle.sci_blocks.specs.declared.class.PortClass.TheVariants.{Input, Output, ActivationInput, ActivationOutput}
+use Rattle.sci_blocks.specs.declared.class.LinkType.TheVariants.{Regular, Activation}
 use Rattle.sci_blocks.specs.declared.pass_through.PassThrough.{PassThrough}
-use Rattle.sci_blocks.specs.declared.pass_through.PassThrough.TheVariants.{Split, ActivationSplit, Union, PortBlock}
+use Rattle.sci_blocks.specs.declared.pass_through.PassThrough.TheVariants.{Split, ActivationSplit, Union, PortBlock, Giver, Taker}
 use Rattle.sci_blocks.specs.Rows.{pass_through, joint_checked}
 use Rattle.sci_blocks.specs.Ports.{ports, ports_matched}
 use Rattle.sci_blocks.specs.Blocks.{Placed, placed, block_parts, parts_in, object_parts}
@@ -168,50 +168,38 @@ mutual
 some : (p : PassThrough) → Some p ≡ None → ⊥
 some p e = cc
 
-role_none : (a b c d e f g h t : Bool)
-    → cond a (Some Split) (cond b (Some ActivationSplit) (cond (c || d) (Some Union) (cond e (Some (PortBlock Input)) (cond f (Some (PortBlock Output)) (cond g (Some (PortBlock ActivationInput)) (cond h (Some (PortBlock ActivationOutput)) None)))))) ≡ None
-    → t ≡ false → 1 ≤ one_of_kind (cond (e || f || g || h) IsPort (cond (a || b || c || d) Joint (cond t Tag IsKind)))
-role_none true b c d e f g h t n k = absurd (some Split n)
-role_none false true c d e f g h t n k = absurd (some ActivationSplit n)
-role_none false false true d e f g h t n k = absurd (some Union n)
-role_none false false false true e f g h t n k = absurd (some Union n)
-role_none false false false false true f g h t n k = absurd (some (PortBlock Input) n)
-role_none false false false false false true g h t n k = absurd (some (PortBlock Output) n)
-role_none false false false false false false true h t n k = absurd (some (PortBlock ActivationInput) n)
-role_none false false false false false false false true t n k = absurd (some (PortBlock ActivationOutput) n)
-role_none false false false false false false false false true n k = absurd (true≢false k)
-role_none false false false false false false false false false n k = omega arith
+role_none : (a b c d e f g h t : Bool) (o : Option PassThrough)
+    → cond a (Some Split) (cond b (Some ActivationSplit) (cond (c || d) (Some Union) (cond e (Some (PortBlock Input)) (cond f (Some (PortBlock Output)) (cond g (Some (PortBlock ActivationInput)) (cond h (Some (PortBlock ActivationOutput)) o)))))) ≡ None
+    → (o ≡ None → t ≡ false) → 1 ≤ one_of_kind (cond (e || f || g || h) IsPort (cond (a || b || c || d) Joint (cond t Tag IsKind)))
+role_none true b c d e f g h t o n k = absurd (some Split n)
+role_none false true c d e f g h t o n k = absurd (some ActivationSplit n)
+role_none false false true d e f g h t o n k = absurd (some Union n)
+role_none false false false true e f g h t o n k = absurd (some Union n)
+role_none false false false false true f g h t o n k = absurd (some (PortBlock Input) n)
+role_none false false false false false true g h t o n k = absurd (some (PortBlock Output) n)
+role_none false false false false false false true h t o n k = absurd (some (PortBlock ActivationInput) n)
+role_none false false false false false false false true t o n k = absurd (some (PortBlock ActivationOutput) n)
+role_none false false false false false false false false true o n k = absurd (true≢false (k n))
+role_none false false false false false false false false false o n k = omega arith
 
-one_block : (gui : List ℕ) → pass_through gui ≡ None → is_tag gui ≡ false → 1 ≤ one_of_kind (role_of gui)
+no_tag : (a b c d : Bool) → cond a (Some (Giver Regular)) (cond b (Some (Taker Regular)) (cond c (Some (Giver Activation)) (cond d (Some (Taker Activation)) None))) ≡ None → (a || b || c || d) ≡ false
+no_tag true b c d n = absurd (some (Giver Regular) n)
+no_tag false true c d n = absurd (some (Taker Regular) n)
+no_tag false false true d n = absurd (some (Giver Activation) n)
+no_tag false false false true n = absurd (some (Taker Activation) n)
+no_tag false false false false n = refl
+
+one_block : (gui : List ℕ) → pass_through gui ≡ None → 1 ≤ one_of_kind (role_of gui)
 one_block gui h =
     role_none (bytes_eq gui (codes "SPLIT_f")) (bytes_eq gui (codes "CLKSPLIT_f")) (bytes_eq gui (codes "CLKSOM_f")) (bytes_eq gui (codes "CLKSOMV_f"))
-    (bytes_eq gui (codes "IN_f")) (bytes_eq gui (codes "OUT_f")) (bytes_eq gui (codes "CLKINV_f")) (bytes_eq gui (codes "CLKOUTV_f")) (is_tag gui) h
-
--- a tag object is no block of a kind
-no_kind : (gui name : List ℕ) → by_name name ≡ None → bytes_eq gui name ≡ true → by_name gui ≡ None
-no_kind gui name none e = ap by_name ((bytes_eq-Decides gui name).0 e) ∙ none
-
-tag_unknown : (gui : List ℕ) (a b c d : Bool) → bytes_eq gui (codes "GOTO") ≡ a → bytes_eq gui (codes "FROM") ≡ b → bytes_eq gui (codes "CLKGOTO") ≡ c → bytes_eq gui (codes "CLKFROM") ≡ d → (a || b || c || d) ≡ true → by_name gui ≡ None
-tag_unknown gui true b c d p q r s h = no_kind gui (codes "GOTO") refl p
-tag_unknown gui false true c d p q r s h = no_kind gui (codes "FROM") refl q
-tag_unknown gui false false true d p q r s h = no_kind gui (codes "CLKGOTO") refl r
-tag_unknown gui false false false true p q r s h = no_kind gui (codes "CLKFROM") refl s
-tag_unknown gui false false false false p q r s h = cc
-
-unchecked : (here : List ℕ) (f : Fields) (o : Option Kind) (s : Spec) → o ≡ None → checked_kind here f o ≡ Ok s → ⊥
-unchecked here f None s e h = cc
-unchecked here f (Some c) s e h = cc
-
-not_tag : (here gui : List ℕ) (f : Fields) (s : Spec) (t : Bool) → is_tag gui ≡ t → checked here gui f ≡ Ok s → is_tag gui ≡ false
-not_tag here gui f s false e h = e
-not_tag here gui f s true e h =
-    absurd (unchecked here f (by_name gui) s (tag_unknown gui (bytes_eq gui (codes "GOTO")) (bytes_eq gui (codes "FROM")) (bytes_eq gui (codes "CLKGOTO")) (bytes_eq gui (codes "CLKFROM")) refl refl refl refl e) h)
+    (bytes_eq gui (codes "IN_f")) (bytes_eq gui (codes "OUT_f")) (bytes_eq gui (codes "CLKINV_f")) (bytes_eq gui (codes "CLKOUTV_f")) (is_tag gui) _ h
+    (no_tag (bytes_eq gui (codes "GOTO")) (bytes_eq gui (codes "FROM")) (bytes_eq gui (codes "CLKGOTO")) (bytes_eq gui (codes "CLKFROM")))
 
 block_few : (here gui : List ℕ) (f : Fields) (o : Option PassThrough) (ps : List Placed) → pass_through gui ≡ o → block_parts here gui f o ≡ Ok ps → length ps ≤ one_of_kind (role_of gui)
 block_few here gui f None ps e h =
     let a = then_ok (checked here gui f) (λ s. Ok (placed here s ∷ [])) ps h in
     let is : placed here a.0 ∷ [] ≡ ps = cc in
-    let one = one_block gui e (not_tag here gui f a.0 (is_tag gui) refl a.1) in
+    let one = one_block gui e in
     let long = ap length is in
     omega (arith, one, long)
 block_few here gui f (Some p) ps e h =

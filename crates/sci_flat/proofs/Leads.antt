@@ -1,5 +1,5 @@
 -- Where the steps of a diagram lead: to a port of its superblock, to a port within it, or along a link.
-use Rattle.std.proofs.Common.{◌≡◌, ℕ, zero, suc, ◌+◌, ◌≤◌, ℤ, pos, negsuc, List, [], ◌∷◌, ◌++◌, length, Bool, true, false, cond, ◌||◌, ◌⊎◌, inl, inr, Option, Some, None, refl, sym, ap, ◌∙◌, subst, arith, append_assoc}
+use Rattle.std.proofs.Common.{◌≡◌, ℕ, zero, suc, ◌+◌, ◌≤◌, ℤ, pos, negsuc, List, [], ◌∷◌, ◌++◌, length, true, ◌⊎◌, inl, inr, Option, Some, None, refl, sym, ap, ◌∙◌, subst, arith, append_assoc}
 use Rattle.std.specs.Prelude.{codes}
 use Rattle.std.specs.Str.{bytes_eq}
 use Rattle.std.specs.List.{zip}
@@ -11,7 +11,7 @@ use Rattle.sci_blocks.specs.declared.class.PortClass.TheVariants.{Input, Output,
 use Rattle.sci_blocks.specs.declared.class.LinkType.{LinkType}
 use Rattle.sci_blocks.specs.declared.class.LinkType.TheVariants.{Regular, Activation}
 use Rattle.sci_blocks.specs.declared.pass_through.PassThrough.{PassThrough}
-use Rattle.sci_blocks.specs.declared.pass_through.PassThrough.TheVariants.{Split, ActivationSplit, Union, PortBlock}
+use Rattle.sci_blocks.specs.declared.pass_through.PassThrough.TheVariants.{Split, ActivationSplit, Union, PortBlock, Giver, Taker}
 use Rattle.sci_blocks.specs.Ports.{named_number, object_number, numbers, times}
 use Rattle.sci_blocks.specs.Rows.{pass_through, number_broken}
 use Rattle.sci_blocks.specs.Wiring.{link_type, regular_end, fed_by}
@@ -19,6 +19,7 @@ use Rattle.sci_blocks.specs.Kept.{IsBlockKept, AreObjectsKept, IsObjectKept, reg
 use Rattle.sci_flat.specs.Chain.{Step}
 use Rattle.sci_flat.specs.Ports.{Port, port, place_port, link_steps, split_steps, union_steps, numbered_steps, through_steps, steps_of, object_steps}
 use Rattle.sci_flat.specs.Laws.{IsRegular}
+use Rattle.sci_flat.proofs.Valid.{block_name}
 use Rattle.sci_flat.proofs.Lists.{step_append, step_map, not_longer, same_first, same_rest, times-append, ends_at-append, one_up, times_own, ends_own}
 
 -- ---- where a step leads
@@ -111,17 +112,7 @@ unites here ins p q s = step_map (λ k. (port here ActivationInput (pos k), port
 -- ---- port blocks
 
 out_named : (gui : List ℕ) → pass_through gui ≡ Some (PortBlock Output) → bytes_eq gui (codes "OUT_f") ≡ true
-out_named gui h = pick (bytes_eq gui (codes "SPLIT_f")) (bytes_eq gui (codes "CLKSPLIT_f")) (bytes_eq gui (codes "CLKSOM_f") || bytes_eq gui (codes "CLKSOMV_f")) (bytes_eq gui (codes "IN_f")) (bytes_eq gui (codes "OUT_f")) (bytes_eq gui (codes "CLKINV_f")) (bytes_eq gui (codes "CLKOUTV_f")) h
-  where
-    pick : (a b c d e f g : Bool) → cond a (Some Split) (cond b (Some ActivationSplit) (cond c (Some Union) (cond d (Some (PortBlock Input)) (cond e (Some (PortBlock Output)) (cond f (Some (PortBlock ActivationInput)) (cond g (Some (PortBlock ActivationOutput)) None)))))) ≡ Some (PortBlock Output) → e ≡ true
-    pick true b c d e f g h = cc
-    pick false true c d e f g h = cc
-    pick false false true d e f g h = cc
-    pick false false false true e f g h = cc
-    pick false false false false true f g h = refl
-    pick false false false false false true g h = cc
-    pick false false false false false false true h = cc
-    pick false false false false false false false h = cc
+out_named gui h = block_name gui Output h
 
 named_own : (gui : List ℕ) (n : ℕ) → bytes_eq gui (codes "OUT_f") ≡ true → 1 ≤ times (suc n) (named_number Output gui (pos (suc n) ∷ []))
 named_own gui n e = rw (e, one_up n) (times_own (suc n))
@@ -157,6 +148,8 @@ through_leads at k gui f (Some Split) e kept p q r s = let o = splits (at ++ k �
 through_leads at k gui f (Some ActivationSplit) e kept p q r s = absurd (irregular ActivationOutput q (splits (at ++ k ∷ []) ActivationInput ActivationOutput f.evtout p q s).class r)
 through_leads at k gui f (Some Union) e kept p q r s = absurd (irregular ActivationOutput q (unites (at ++ k ∷ []) f.evtin p q s) r)
 through_leads at k gui f (Some (PortBlock c)) e kept p q r s = numbered_leads at k c gui e f.ipar kept.1 p q r s
+through_leads at k gui f (Some (Giver l)) e kept p q r s = absurd s
+through_leads at k gui f (Some (Taker l)) e kept p q r s = absurd s
 
 -- ---- links
 

@@ -20,12 +20,15 @@ pub mod Naming
 pub mod Walking
 pub mod Finding
 pub mod Placing
+pub mod Tagging
 pub mod StepsWhole
+pub mod Joining
 mod Lists
 mod Leads
-pub mod OneBefore
+mod OneBefore
 mod Before
 mod SingleBlocks
+pub mod TagSource
 pub mod Source
 pub mod Origins
 pub mod Sharing

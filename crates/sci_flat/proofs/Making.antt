@@ -17,11 +17,13 @@ use Rattle.sci_blocks.specs.declared.class.PortClass.{PortClass}
 use Rattle.sci_blocks.specs.declared.class.PortClass.TheVariants.{Input, Output, ActivationInput, ActivationOutput}
 use Rattle.sci_blocks.specs.Blocks.{Placed, placed, parts_in, parts_of}
 use Rattle.sci_blocks.specs.Wiring.{links_of}
+use Rattle.sci_goto.specs.Phase.{tags_of}
 use Rattle.sci_flat.specs.Lists.{list_at}
 use Rattle.sci_flat.specs.declared.steps.seat.Seat.{Seat}
 use Rattle.sci_flat.specs.declared.steps.numbered.Numbered.{Numbered}
 use Rattle.sci_flat.specs.Seat.{start, count, no_seat}
 use Rattle.sci_flat.specs.Numbered.{IsNumbered}
+use Rattle.sci_flat.specs.Tagged.{all_steps}
 use Rattle.sci_flat.proofs.Valid.{then_ok, tree_ok}
 use Rattle.sci_base.specs.declared.stop.Stop.{Stop}
 use Rattle.sci_base.specs.declared.stop.Stop.TheVariants.{Refused, Memory}
@@ -38,10 +40,11 @@ use Rattle.sci_flat.proofs.Net.{broken}
 use Rattle.sci_flat.proofs.Formed.{all_good, parts_few}
 use Rattle.sci_flat.proofs.Whole.{Made}
 
--- the blocks, where no object and no link breaks a rule
+-- the blocks, where no tag, no object and no link breaks a rule
 pub blocks_found : (t : Objects) (ps : List Placed) → blocks t ≡ Ok ps → (parts_of t ≡ Ok ps) × (links_of t ≡ Ok tt)
 blocks_found t ps h =
-    let a = then_ok (parts_of t) (λ ps. links_of t >>= λ _. Ok ps) ps h in
+    let g = then_ok (tags_of t) (λ _. parts_of t >>= λ ps. links_of t >>= λ _. Ok ps) ps h in
+    let a = then_ok (parts_of t) (λ ps. links_of t >>= λ _. Ok ps) ps g.2 in
     let b = then_ok (links_of t) (λ _. Ok a.0) ps a.2 in
     let is : a.0 ≡ ps = cc in
     (a.1 ∙ ap Ok is, b.1)
@@ -76,7 +79,7 @@ placed_push (r ∷ ss) (p ∷ qs) s q h = ap (λ (l : List Placed). placed p.pat
 
 -- ---- what the calls want
 
-module _ (t : Objects) (ps : List Placed) (n : Numbered) (num : IsNumbered t ps n) where
+module _ (t : Objects) (ps : List Placed) (n : Numbered) (num : IsNumbered t ps (all_steps t) n) where
   seats_inside : All (IsInside n.ports) n.blocks.items
   seats_inside b d h c k l =
       let low : b < length ps = omega (arith, h, num.one_seat_each) in
@@ -108,7 +111,7 @@ pub stop_flattened : (t : Objects) (P : Violation → Type 0) (e : Stop) → ((v
 stop_flattened t P (Refused r) f s = f (violation_of r) s
 stop_flattened t P Memory f s = tt
 
-pub wires_stop : (t : Objects) (specs : List Spec) (places : List Place) (n : Numbered) (num : IsNumbered t (placed_all specs places) n) → blocks t ≡ Ok (placed_all specs places) → length places ≡ length specs → (ss : List Seat) (es : List (ℕ × ℕ)) → ss ≡ n.blocks.items → es ≡ n.steps.items
+pub wires_stop : (t : Objects) (specs : List Spec) (places : List Place) (n : Numbered) (num : IsNumbered t (placed_all specs places) (all_steps t) n) → blocks t ≡ Ok (placed_all specs places) → length places ≡ length specs → (ss : List Seat) (es : List (ℕ × ℕ)) → ss ≡ n.blocks.items → es ≡ n.steps.items
     → (feeds : List Feed) (lists : List (List ℕ)) → AreFeeding ss es n.ports Output Input feeds lists → (specs' : List Spec) (places' : List Place) → specs' ≡ specs → places' ≡ places → (e : Stop) → StopsBy (BreaksAt lists ss specs' (paths_of places')) e → IsFlattened t (Err e)
 wires_stop t specs places n num found long ss es ss_is es_is feeds lists fed specs' places' specs_is places_is e s =
     let ps = placed_all specs places in
@@ -121,7 +124,7 @@ wires_stop t specs places n num found long ss es ss_is es_is feeds lists fed spe
     (λ v b. inr (ps, found, broken t ps n num specs (placed_specs specs places long) feeds lists (subst Q es_is (subst P ss_is fed)) (paths_of places) (placed_paths specs places long) v b))
     (subst C places_is (subst B specs_is (subst A ss_is s)))
 
-pub made : CheckedLaw → (t : Objects) (specs : List Spec) (places : List Place) (n : Numbered) → IsReady t → IsNumbered t (placed_all specs places) n → blocks t ≡ Ok (placed_all specs places) → length places ≡ length specs → (ss : List Seat) (es : List (ℕ × ℕ)) → ss ≡ n.blocks.items → es ≡ n.steps.items
+pub made : CheckedLaw → (t : Objects) (specs : List Spec) (places : List Place) (n : Numbered) → IsReady t → IsNumbered t (placed_all specs places) (all_steps t) n → blocks t ≡ Ok (placed_all specs places) → length places ≡ length specs → (ss : List Seat) (es : List (ℕ × ℕ)) → ss ≡ n.blocks.items → es ≡ n.steps.items
     → (feeds : List Feed) (lists : List (List ℕ)) → AreFeeding ss es n.ports Output Input feeds lists → (specs' : List Spec) → specs' ≡ specs → (wires : List (Vec Wire Global)) → AllWired feeds lists ss specs' (length ss) (rows_of wires)
     → (acts : List Feed) (act_lists : List (List ℕ)) → AreFeeding ss es n.ports ActivationOutput ActivationInput acts act_lists → (rows : List (List (List Feed))) → AllFed acts act_lists ss (length ss) rows
     → Made t (placed_all specs places) n (net_parts specs places wires rows)

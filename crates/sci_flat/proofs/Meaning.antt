@@ -19,6 +19,7 @@ use Rattle.sci_flat.specs.declared.steps.numbered.Numbered.{Numbered}
 use Rattle.sci_flat.specs.Seat.{start, count, no_seat}
 use Rattle.sci_flat.specs.Ports.{Port, port, PortStep}
 use Rattle.sci_flat.specs.Numbered.{no_port, named_step, IsSeat, IsNumbered}
+use Rattle.sci_flat.specs.Tagged.{all_steps}
 use Rattle.sci_flat.specs.Ends.{end_of, seat_numbers, seat_ends, numbers_of, ends_of, AreFeeding}
 use Rattle.sci_flat.specs.Wired.{feed_at, seat_of}
 use Rattle.sci_flat.specs.Flat.{block_at, FedBy}
@@ -174,7 +175,7 @@ chain_back names n es distinct w (onward {q = q} {r = r} before s) y h e =
 
 -- ---- which ports feed a port
 
-pub seat_is : (t : Objects) (ps : List Placed) (n : Numbered) (num : IsNumbered t ps n) (b : ℕ) → b < length ps → IsSeat num.names (block_at ps (suc b)) (seat_of n.blocks.items b)
+pub seat_is : (t : Objects) (ps : List Placed) (n : Numbered) (num : IsNumbered t ps (all_steps t) n) (b : ℕ) → b < length ps → IsSeat num.names (block_at ps (suc b)) (seat_of n.blocks.items b)
 seat_is t ps n num b h =
     num.seats b (block_at ps (suc b)) (seat_of n.blocks.items b) h (get_or_default ps b (placed [] no_spec) (block_at ps (suc b)) h)
     (get_or_default n.blocks.items b (no_seat 0) (seat_of n.blocks.items b) (omega (arith, h, num.one_seat_each)))
@@ -187,7 +188,7 @@ pub record Source (ps : List Placed) (n : Numbered) (from : PortClass) (feeds : 
   pub there : port < count (seat_of n.blocks.items block) from
   pub is : feed_at feeds i ≡ end_of (suc block) (suc port)
 
-module _ (t : Objects) (ps : List Placed) (n : Numbered) (num : IsNumbered t ps n) (from to : PortClass) (feeds : List Feed) (lists : List (List ℕ)) (fed : AreFeeding n.blocks.items n.steps.items n.ports from to feeds lists) where
+module _ (t : Objects) (ps : List Placed) (n : Numbered) (num : IsNumbered t ps (all_steps t) n) (from to : PortClass) (feeds : List Feed) (lists : List (List ℕ)) (fed : AreFeeding n.blocks.items n.steps.items n.ports from to feeds lists) where
   -- the target is port p + 1 of block b + 1
   pub listed_feeds : (b p : ℕ) → b < length ps → p < count (seat_of n.blocks.items b) to → (i : ℕ) → Contains (list_at lists (start (seat_of n.blocks.items b) to + p)) i
       → FedBy t ps from to (feed_at feeds i).block (feed_at feeds i).port (suc b) (suc p) × Source ps n from feeds i

@@ -12,7 +12,7 @@ use Rattle.sci_blocks.specs.declared.class.PortClass.{PortClass}
 use Rattle.sci_blocks.specs.declared.class.PortClass.TheVariants.{Input, Output, ActivationInput, ActivationOutput}
 use Rattle.sci_blocks.specs.declared.class.LinkType.{LinkType}
 use Rattle.sci_blocks.specs.declared.pass_through.PassThrough.{PassThrough}
-use Rattle.sci_blocks.specs.declared.pass_through.PassThrough.TheVariants.{Split, ActivationSplit, Union, PortBlock}
+use Rattle.sci_blocks.specs.declared.pass_through.PassThrough.TheVariants.{Split, ActivationSplit, Union, PortBlock, Giver, Taker}
 use Rattle.sci_blocks.specs.Rows.{pass_through}
 use Rattle.sci_blocks.specs.Ports.{ports, no_ports}
 use Rattle.sci_blocks.specs.Wiring.{is_port_of, object_ports, ports_of, at_position, side_number, link_type, source_class, target_class}
@@ -30,20 +30,20 @@ pub record Named (names : List Port) (xs : Steps) (ys : List PortStep) : Type 0 
   pub same : map (named_step names) xs ≡ ys
   pub within : AllWithin (length names) xs
 
-named_nil : (names : List Port) → Named names [] []
+pub named_nil : (names : List Port) → Named names [] []
 named_nil names = record { same = refl; within = tt }
 
-within_append : (n : ℕ) (xs ys : Steps) → AllWithin n xs → AllWithin n ys → AllWithin n (xs ++ ys)
+pub within_append : (n : ℕ) (xs ys : Steps) → AllWithin n xs → AllWithin n ys → AllWithin n (xs ++ ys)
 within_append n [] ys a b = b
 within_append n (x ∷ xs) ys a b = (a.0, a.1, within_append n xs ys a.2 b)
 
-named_append : (names : List Port) (xs ys : Steps) (us vs : List PortStep) → Named names xs us → Named names ys vs → Named names (xs ++ ys) (us ++ vs)
+pub named_append : (names : List Port) (xs ys : Steps) (us vs : List PortStep) → Named names xs us → Named names ys vs → Named names (xs ++ ys) (us ++ vs)
 named_append names xs ys us vs a b = record {
   same = map-append (named_step names) xs ys ∙ (ap (λ (l : List PortStep). l ++ map (named_step names) ys) a.same ∙ ap (λ (l : List PortStep). us ++ l) b.same);
   within = within_append (length names) xs ys a.within b.within;
 }
 
-named_one : (names : List Port) (a b : ℕ) (p q : Port) → a < length names → b < length names → get_or names a no_port ≡ p → get_or names b no_port ≡ q → Named names ((a, b) ∷ []) ((p, q) ∷ [])
+pub named_one : (names : List Port) (a b : ℕ) (p q : Port) → a < length names → b < length names → get_or names a no_port ≡ p → get_or names b no_port ≡ q → Named names ((a, b) ∷ []) ((p, q) ∷ [])
 named_one names a b p q ha hb e f = record {
   same = ap (λ (s : PortStep). s ∷ []) (ap (λ (x : Port). let s : PortStep = (x, get_or names b no_port) in s) e ∙ ap (λ (x : Port). let s : PortStep = (p, x) in s) f);
   within = (ha, hb, tt);
@@ -175,6 +175,8 @@ through_named names at here outer s cnt f (Some Split) a b same own j = fan_out_
 through_named names at here outer s cnt f (Some ActivationSplit) a b same own j = fan_out_named names here s ActivationInput ActivationOutput _ f.evtout (sym (own ActivationOutput)) b (first_named names here s ActivationInput b (subst (λ (i : ℕ). 1 ≤ i) (sym (own ActivationInput)) j))
 through_named names at here outer s cnt f (Some Union) a b same own j = fan_in_named names here s _ f.evtin (sym (own ActivationInput)) b (first_named names here s ActivationOutput b (subst (λ (i : ℕ). 1 ≤ i) (sym (own ActivationOutput)) j))
 through_named names at here outer s cnt f (Some (PortBlock c)) a b same own j = block_named names at here outer s cnt f c a b same own j
+through_named names at here outer s cnt f (Some (Giver l)) a b same own j = named_nil names
+through_named names at here outer s cnt f (Some (Taker l)) a b same own j = named_nil names
 
 -- ---- along a link
 
@@ -210,7 +212,7 @@ record EndNamed (names : List Port) (at : List ℕ) (all : List Seat) (c : PortC
   one : end_port at c e ≡ target ∷ []
   named : PortNamed names (end_number all c e) target
 
-both_true : (a b : Bool) → (a && b) ≡ true → (a ≡ true) × (b ≡ true)
+pub both_true : (a b : Bool) → (a && b) ≡ true → (a ≡ true) × (b ≡ true)
 both_true true b e = (refl, e)
 both_true false b e = cc
 

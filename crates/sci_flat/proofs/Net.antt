@@ -16,13 +16,14 @@ use Rattle.sci_blocks.specs.Blocks.{Placed, placed}
 use Rattle.sci_flat.specs.declared.steps.numbered.Numbered.{Numbered}
 use Rattle.sci_flat.specs.Seat.{start, count}
 use Rattle.sci_flat.specs.Numbered.{spec_ports, IsNumbered}
+use Rattle.sci_flat.specs.Tagged.{all_steps}
 use Rattle.sci_flat.specs.Ends.{end_of, ends_of, AreFeeding}
 use Rattle.sci_flat.specs.Wired.{feed_at, wire_at, no_wire, input_list, activation_list, seat_of, spec_at, IsTakenAt, IsReached, IsSoundAt, AllWired, AllFed, IsUnreached, source_missing, column_shared, BreaksAt}
 use Rattle.sci_flat.specs.Flat.{block_at, IsWire, IsFeed}
 use Rattle.sci_flat.specs.Refused.{ShareColumn, HasInput, IsFed, IsTaken, IsSound, AreSoundBefore, no_source, BreaksBlocks}
 use Rattle.sci_flat.proofs.Meaning.{ends_rise, number_listed, seat_is, Source, listed_feeds, feeds_listed}
 
-module _ (t : Objects) (ps : List Placed) (n : Numbered) (num : IsNumbered t ps n) (specs : List Spec) (specs_is : specs ≡ map (λ p. p.spec) ps) where
+module _ (t : Objects) (ps : List Placed) (n : Numbered) (num : IsNumbered t ps (all_steps t) n) (specs : List Spec) (specs_is : specs ≡ map (λ p. p.spec) ps) where
   pub long_specs : length specs ≡ length ps
   long_specs = ap length specs_is ∙ length-map ps _
 

@@ -8,7 +8,7 @@ use Rattle.sci_blocks.specs.declared.class.PortClass.{PortClass}
 use Rattle.sci_blocks.specs.declared.class.PortClass.TheVariants.{Input, Output, ActivationInput, ActivationOutput}
 use Rattle.sci_blocks.specs.declared.class.LinkType.{LinkType}
 use Rattle.sci_blocks.specs.declared.pass_through.PassThrough.{PassThrough}
-use Rattle.sci_blocks.specs.declared.pass_through.PassThrough.TheVariants.{Split, ActivationSplit, Union, PortBlock}
+use Rattle.sci_blocks.specs.declared.pass_through.PassThrough.TheVariants.{Split, ActivationSplit, Union, PortBlock, Giver, Taker}
 use Rattle.sci_blocks.specs.Ports.{ports, no_ports, object_number, numbers, times}
 use Rattle.sci_blocks.specs.Rows.{pass_through}
 use Rattle.sci_blocks.specs.Wiring.{link_type, source_class, target_class, fed_by}
@@ -44,6 +44,8 @@ through_one at here f (Some Split) p p' q r s t = sym (splits here Input Output 
 through_one at here f (Some ActivationSplit) p p' q r s t = sym (splits here ActivationInput ActivationOutput f.evtout p q s).source ∙ (splits here ActivationInput ActivationOutput f.evtout p' q t).source
 through_one at here f (Some Union) p p' q r s t = absurd (irregular ActivationOutput q (unites here f.evtin p q s) r)
 through_one at here f (Some (PortBlock c)) p p' q r s t = numbered_one at here c f.ipar p p' q s t
+through_one at here f (Some (Giver l)) p p' q r s t = absurd s
+through_one at here f (Some (Taker l)) p p' q r s t = absurd s
 
 joins_one : (at : List ℕ) (c d : PortClass) (x y a b : ℤ) (p p' q : Port) → Step (zip (place_port at c x a) (place_port at d y b)) p q → Step (zip (place_port at c x a) (place_port at d y b)) p' q → p ≡ p'
 joins_one at c d x y (negsuc i) b p p' q s t = absurd s
@@ -96,5 +98,5 @@ mutual
   one_of at k all text kept ends p p' q r s t = absurd s
   one_of at k all deleted kept ends p p' q r s t = absurd s
 
-pub one_before : (t : Objects) → AreBlocksKept t → AreLinksKept t → (p p' q : Port) → IsRegular q.class → Step (tree_steps t) p q → Step (tree_steps t) p' q → p ≡ p'
-one_before t blocks links p p' q r s s' = one_in [] 1 t t blocks.1 links.0 (at_most_once no_ports t blocks.0 Output) links.1 p p' q r s s'
+pub one_drawn_before : (t : Objects) → AreBlocksKept t → AreLinksKept t → (p p' q : Port) → IsRegular q.class → Step (tree_steps t) p q → Step (tree_steps t) p' q → p ≡ p'
+one_drawn_before t blocks links p p' q r s s' = one_in [] 1 t t blocks.1 links.0 (at_most_once no_ports t blocks.0 Output) links.1 p p' q r s s'

@@ -1,10 +1,9 @@
 -- Ports that the same sources reach.
-use Rattle.std.proofs.Common.{◌≡◌, ◌≢◌, ◌<◌, ◌≤◌, ◌+◌, ℕ, zero, suc, List, [], ◌∷◌, ◌++◌, length, map, get_or, inl, inr, refl, sym, ap, ◌∙◌, subst, arith, add-one, get_or-set_same, get_or-set_other}
+use Rattle.std.proofs.Common.{◌≡◌, ◌≢◌, ◌<◌, ◌≤◌, ◌+◌, ℕ, zero, suc, List, [], ◌∷◌, ◌++◌, length, get_or, inl, inr, refl, sym, ap, ◌∙◌, subst, arith, add-one, get_or-set_same, get_or-set_other}
 use Rattle.std.proofs.Math.ListN.{set, replicate, length-set}
-use Rattle.std.specs.Prelude.{Contains, All, AllPairs, ◌↔◌}
+use Rattle.std.specs.Prelude.{Contains, All}
 use Rattle.std.proofs.lemmas.Bool.Decides.{eqb_tells}
 use Rattle.std.proofs.lemmas.List.{get_or-map, get_or_default, get_or-replicate, length-replicate, length_push, get_or_push, get_or_append_left}
-use Rattle.std.proofs.lemmas.List.Elements.{Contains-get_or}
 use Rattle.sci_flat.specs.declared.reach.origins.Before.{Before}
 use Rattle.sci_flat.specs.declared.reach.origins.Before.TheVariants.{Nothing, One, Several}
 use Rattle.sci_flat.specs.Chain.{Step, Chain, stay, onward, AllWithin}

@@ -70,7 +70,7 @@ pub record BlockOf (names : List Port) (at : List ℕ) (k m n : ℕ) (os : Objec
   pub seated : Seated names p.place s
   pub counts : (c : PortClass) → count s c ≡ spec_ports p.spec c
 
-zip_append : {A B : Type 0} (R : A → B → Type 0) (xs ys : List A) (us vs : List B) → AllZip R xs us → AllZip R ys vs → AllZip R (xs ++ ys) (us ++ vs)
+pub zip_append : {A B : Type 0} (R : A → B → Type 0) (xs ys : List A) (us vs : List B) → AllZip R xs us → AllZip R ys vs → AllZip R (xs ++ ys) (us ++ vs)
 zip_append R [] ys [] vs a b = b
 zip_append R [] ys (u ∷ us) vs a b = absurd a
 zip_append R (x ∷ xs) ys [] vs a b = absurd a

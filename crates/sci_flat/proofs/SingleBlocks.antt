@@ -48,26 +48,26 @@ split xs ys i h = elim (cases_lt i (length xs)) [
 
 -- ---- the parts of a list of objects are those of the first and those of the others
 
-record Two (at : List ℕ) (k : ℕ) (o : Object) (os : Objects) (ps : List Placed) : Type 0 where
-  first : List Placed
-  others : List Placed
-  of_first : object_parts (at ++ k ∷ []) o ≡ Ok first
-  of_others : parts_in at (k + 1) os ≡ Ok others
-  both : first ++ others ≡ ps
+pub record Two (at : List ℕ) (k : ℕ) (o : Object) (os : Objects) (ps : List Placed) : Type 0 where
+  pub first : List Placed
+  pub others : List Placed
+  pub of_first : object_parts (at ++ k ∷ []) o ≡ Ok first
+  pub of_others : parts_in at (k + 1) os ≡ Ok others
+  pub both : first ++ others ≡ ps
 
-two : (at : List ℕ) (k : ℕ) (o : Object) (os : Objects) (ps : List Placed) → parts_in at k (object o os) ≡ Ok ps → Two at k o os ps
+pub two : (at : List ℕ) (k : ℕ) (o : Object) (os : Objects) (ps : List Placed) → parts_in at k (object o os) ≡ Ok ps → Two at k o os ps
 unfolding parts_in object_parts
 two at k o os ps h =
     let a = before (object_parts (at ++ k ∷ []) o) (λ ps. parts_in at (k + 1) os >>= λ qs. Ok (ps ++ qs)) ps h in
     let b = before (parts_in at (k + 1) os) (λ qs. Ok (a.0 ++ qs)) ps a.2 in
     record { first = a.0; others = b.0; of_first = a.1; of_others = b.1; both = let e = b.2 in cc }
 
-inside : (here gui : List ℕ) (f : Fields) (os : Objects) (ps : List Placed) → object_parts here (superblock gui f os) ≡ Ok ps → parts_in here 1 os ≡ Ok ps
+pub inside : (here gui : List ℕ) (f : Fields) (os : Objects) (ps : List Placed) → object_parts here (superblock gui f os) ≡ Ok ps → parts_in here 1 os ≡ Ok ps
 unfolding parts_in object_parts
 inside here gui f os ps h = (before (ports_matched here (ports f) os) (λ _. parts_in here 1 os) ps h).2
 
 -- what holds of an element of two lists, where it holds of each element of each
-either_list : (P : Placed → Type 0) (xs ys ps : List Placed) → xs ++ ys ≡ ps → ((i : ℕ) → i < length xs → P (get_or xs i nowhere)) → ((i : ℕ) → i < length ys → P (get_or ys i nowhere)) → (i : ℕ) → i < length ps → P (get_or ps i nowhere)
+pub either_list : (P : Placed → Type 0) (xs ys ps : List Placed) → xs ++ ys ≡ ps → ((i : ℕ) → i < length xs → P (get_or xs i nowhere)) → ((i : ℕ) → i < length ys → P (get_or ys i nowhere)) → (i : ℕ) → i < length ps → P (get_or ps i nowhere)
 either_list P xs ys ps e f g i l =
     subst (λ (l : List Placed). P (get_or l i nowhere)) e (elim (split xs ys i (subst (λ (l : List Placed). i < length l) (sym e) l)) as (λ _. P (get_or (xs ++ ys) i nowhere)) [
       | inl a ↦ subst P (sym a.1) (f i a.0)
@@ -77,16 +77,16 @@ either_list P xs ys ps e f g i l =
 -- ---- places
 
 -- within an object whose position is at least k
-record From (at : List ℕ) (k : ℕ) (place : List ℕ) : Type 0 where
-  j : ℕ
-  rest : List ℕ
-  is : place ≡ at ++ j ∷ rest
-  later : k ≤ j
+pub record From (at : List ℕ) (k : ℕ) (place : List ℕ) : Type 0 where
+  pub j : ℕ
+  pub rest : List ℕ
+  pub is : place ≡ at ++ j ∷ rest
+  pub later : k ≤ j
 
 -- within the object at position k
-record At (at : List ℕ) (k : ℕ) (place : List ℕ) : Type 0 where
-  rest : List ℕ
-  is : place ≡ at ++ k ∷ rest
+pub record At (at : List ℕ) (k : ℕ) (place : List ℕ) : Type 0 where
+  pub rest : List ℕ
+  pub is : place ≡ at ++ k ∷ rest
 
 at_from : (at : List ℕ) (k : ℕ) (place : List ℕ) → At at k place → From at k place
 at_from at k place a = record { j = k; rest = a.rest; is = a.is; later = omega arith }
@@ -97,10 +97,10 @@ later_from at k place a = record { j = a.j; rest = a.rest; is = a.is; later = om
 from_at : (at : List ℕ) (k : ℕ) (place : List ℕ) → From (at ++ k ∷ []) 1 place → At at k place
 from_at at k place a = record { rest = a.j ∷ a.rest; is = a.is ∙ append_assoc at (k ∷ []) (a.j ∷ a.rest) }
 
-none_given : (ps : List Placed) → (let o : Outcome (List Placed) = Ok [] in o ≡ Ok ps) → [] ≡ ps
+pub none_given : (ps : List Placed) → (let o : Outcome (List Placed) = Ok [] in o ≡ Ok ps) → [] ≡ ps
 none_given ps h = cc
 
-none_there : (ps : List Placed) → [] ≡ ps → (i : ℕ) → i < length ps → ⊥
+pub none_there : (ps : List Placed) → [] ≡ ps → (i : ℕ) → i < length ps → ⊥
 none_there ps e i l = below (subst (λ (l : List Placed). i < length l) (sym e) l)
   where
     below : i < 0 → ⊥
@@ -196,17 +196,17 @@ mutual
 
 -- ---- no step to an output of a block
 
-later_off : (at : List ℕ) (k : ℕ) (ns : List ℕ) (es : List End) (place : List ℕ) (q : Port) → At at k place → q.place ≡ place → q.class ≡ Output → Later at (k + 1) ns es q → ⊥
+pub later_off : (at : List ℕ) (k : ℕ) (ns : List ℕ) (es : List End) (place : List ℕ) (q : Port) → At at k place → q.place ≡ place → q.class ≡ Output → Later at (k + 1) ns es q → ⊥
 later_off at k ns es place q a e c (inl u) = not_longer at k a.rest (sym u.place ∙ (e ∙ a.is))
 later_off at k ns es place q a e c (inr (inl b)) = let f : Output ≡ Input = sym c ∙ b.class in cc
 later_off at k ns es place q a e c (inr (inr d)) = omega (arith, same_first at k d.j a.rest d.rest (sym a.is ∙ (sym e ∙ d.place)), d.there)
 
-first_off : (at : List ℕ) (k : ℕ) (ns : List ℕ) (es : List End) (place : List ℕ) (q : Port) → From at (k + 1) place → q.place ≡ place → q.class ≡ Output → First at k ns es q → ⊥
+pub first_off : (at : List ℕ) (k : ℕ) (ns : List ℕ) (es : List End) (place : List ℕ) (q : Port) → From at (k + 1) place → q.place ≡ place → q.class ≡ Output → First at k ns es q → ⊥
 first_off at k ns es place q a e c (inl u) = not_longer at a.j a.rest (sym u.place ∙ (e ∙ a.is))
 first_off at k ns es place q a e c (inr (inl b)) = let f : Output ≡ Input = sym c ∙ b.class in cc
 first_off at k ns es place q a e c (inr (inr d)) = omega (arith, same_first at a.j d.j a.rest d.rest (sym a.is ∙ (sym e ∙ d.place)), a.later, d.there)
 
-output_regular : (q : Port) → q.class ≡ Output → IsRegular q.class
+pub output_regular : (q : Port) → q.class ≡ Output → IsRegular q.class
 output_regular q c = subst (λ (x : PortClass). IsRegular x) (sym c) tt
 
 -- none of the steps leads to an output of this block
@@ -246,12 +246,12 @@ mutual
 
 -- ---- the blocks of a whole diagram
 
-whole : (t : Objects) (ps : List Placed) → parts_of t ≡ Ok ps → parts_in [] 1 t ≡ Ok ps
+pub whole : (t : Objects) (ps : List Placed) → parts_of t ≡ Ok ps → parts_in [] 1 t ≡ Ok ps
 unfolding parts_of
 whole t ps h = (before (ports_matched [] no_ports t) (λ _. parts_in [] 1 t) ps h).2
 
 pub own_place : (t : Objects) (ps : List Placed) → parts_of t ≡ Ok ps → (i j : ℕ) → i < length ps → j < length ps → (get_or ps i nowhere).place ≡ (get_or ps j nowhere).place → i ≡ j
 own_place t ps h = apart_in [] 1 t ps (whole t ps h)
 
-pub none_into : (t : Objects) (ps : List Placed) → parts_of t ≡ Ok ps → (i : ℕ) → i < length ps → (p q : Port) → q.place ≡ (get_or ps i nowhere).place → q.class ≡ Output → Step (tree_steps t) p q → ⊥
-none_into t ps h i l = sources_in [] 1 t ps (whole t ps h) (blocks_kept t ps h).1 i l
+pub none_drawn_into : (t : Objects) (ps : List Placed) → parts_of t ≡ Ok ps → (i : ℕ) → i < length ps → (p q : Port) → q.place ≡ (get_or ps i nowhere).place → q.class ≡ Output → Step (tree_steps t) p q → ⊥
+none_drawn_into t ps h i l = sources_in [] 1 t ps (whole t ps h) (blocks_kept t ps h).1 i l

@@ -2,7 +2,6 @@
 use Rattle.std.proofs.Common.{◌≡◌, ◌<◌, ℕ, List, [], ◌++◌, ◌∷◌, get_or, Vec, sym, ap, ◌∙◌, subst, inl, inr, length}
 use Rattle.std.specs.declared.alloc.Global.{Global}
 use Rattle.std.proofs.lemmas.List.{get_or-map, get_or_default, map_push}
-use Rattle.sci_base.specs.Plain.{Violation}
 use Rattle.sci_base.specs.declared.refusal.Place.{Place}
 use Rattle.sci_forms.specs.declared.spec.Spec.{Spec}
 use Rattle.sci_net.specs.declared.Wire.{Wire}
@@ -13,7 +12,6 @@ use Rattle.sci_flat.specs.Lists.{plain}
 use Rattle.sci_flat.specs.declared.steps.seat.Seat.{Seat}
 use Rattle.sci_flat.specs.Seat.{count}
 use Rattle.sci_base.specs.declared.stop.Stop.{Stop}
-use Rattle.sci_base.specs.declared.stop.Stop.TheVariants.{Refused, Memory}
 use Rattle.sci_base.specs.Stops.{IsViolation, StopsBy}
 use Rattle.sci_base.proofs.Stopping.{stops_by}
 use Rattle.sci_flat.specs.Wired.{AreWires, IsFirstUnfed, seat_of, spec_at, IsTakenAt, AllWired, source_missing, column_shared, BreaksAt}

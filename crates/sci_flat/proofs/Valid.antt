@@ -14,8 +14,9 @@ use Rattle.sci_check.specs.Check.{shape}
 use Rattle.sci_blocks.specs.declared.class.PortClass.{PortClass}
 use Rattle.sci_blocks.specs.declared.class.PortClass.TheVariants.{Input, Output, ActivationInput, ActivationOutput}
 use Rattle.sci_blocks.specs.declared.class.LinkType.{LinkType}
+use Rattle.sci_blocks.specs.declared.class.LinkType.TheVariants.{Regular, Activation}
 use Rattle.sci_blocks.specs.declared.pass_through.PassThrough.{PassThrough}
-use Rattle.sci_blocks.specs.declared.pass_through.PassThrough.TheVariants.{Split, ActivationSplit, Union, PortBlock}
+use Rattle.sci_blocks.specs.declared.pass_through.PassThrough.TheVariants.{Split, ActivationSplit, Union, PortBlock, Giver, Taker}
 use Rattle.sci_blocks.specs.Rows.{pass_through, row, row_broken, number_broken, parameters_broken, outcome_at, joint_checked}
 use Rattle.sci_blocks.specs.Ports.{ports, no_ports, name_of, number, object_number, numbers, is_once, least, first_broken, unless_broken, class_matched, ports_matched}
 use Rattle.sci_blocks.specs.Blocks.{Placed, block_parts, parts_in, object_parts, parts_of}
@@ -43,6 +44,8 @@ JointOk cnt f (Some Split) = 1 ≤ length f.ins
 JointOk cnt f (Some ActivationSplit) = 1 ≤ f.evtin
 JointOk cnt f (Some Union) = 1 ≤ f.evtout
 JointOk cnt f (Some (PortBlock c)) = StandsFor cnt c f
+JointOk cnt f (Some (Giver l)) = Unit {0}
+JointOk cnt f (Some (Taker l)) = Unit {0}
 
 abbrev pub LinkOk : Objects → End → End → Option LinkType → Type 0
 LinkOk all from to None = ⊥
@@ -136,32 +139,41 @@ picked d e f g Output = e
 picked d e f g ActivationInput = f
 picked d e f g ActivationOutput = g
 
-by_name : (a b c d e f g : Bool) (k : PortClass)
-    → cond a (Some Split) (cond b (Some ActivationSplit) (cond c (Some Union) (cond d (Some (PortBlock Input)) (cond e (Some (PortBlock Output)) (cond f (Some (PortBlock ActivationInput)) (cond g (Some (PortBlock ActivationOutput)) None)))))) ≡ Some (PortBlock k)
+-- no tag object is a port block
+no_tag_block : (a b c d : Bool) (k : PortClass) → cond a (Some (Giver Regular)) (cond b (Some (Taker Regular)) (cond c (Some (Giver Activation)) (cond d (Some (Taker Activation)) None))) ≡ Some (PortBlock k) → ⊥
+no_tag_block true b c d k h = cc
+no_tag_block false true c d k h = cc
+no_tag_block false false true d k h = cc
+no_tag_block false false false true k h = cc
+no_tag_block false false false false k h = cc
+
+by_name : (a b c d e f g : Bool) (t : Option PassThrough) (k : PortClass) → (t ≡ Some (PortBlock k) → ⊥)
+    → cond a (Some Split) (cond b (Some ActivationSplit) (cond c (Some Union) (cond d (Some (PortBlock Input)) (cond e (Some (PortBlock Output)) (cond f (Some (PortBlock ActivationInput)) (cond g (Some (PortBlock ActivationOutput)) t)))))) ≡ Some (PortBlock k)
     → picked d e f g k ≡ true
-by_name true b c d e f g k h = cc
-by_name false true c d e f g k h = cc
-by_name false false true d e f g k h = cc
-by_name false false false true e f g Input h = refl
-by_name false false false true e f g Output h = cc
-by_name false false false true e f g ActivationInput h = cc
-by_name false false false true e f g ActivationOutput h = cc
-by_name false false false false true f g Input h = cc
-by_name false false false false true f g Output h = refl
-by_name false false false false true f g ActivationInput h = cc
-by_name false false false false true f g ActivationOutput h = cc
-by_name false false false false false true g Input h = cc
-by_name false false false false false true g Output h = cc
-by_name false false false false false true g ActivationInput h = refl
-by_name false false false false false true g ActivationOutput h = cc
-by_name false false false false false false true Input h = cc
-by_name false false false false false false true Output h = cc
-by_name false false false false false false true ActivationInput h = cc
-by_name false false false false false false true ActivationOutput h = refl
-by_name false false false false false false false k h = cc
+by_name true b c d e f g t k none h = cc
+by_name false true c d e f g t k none h = cc
+by_name false false true d e f g t k none h = cc
+by_name false false false true e f g t Input none h = refl
+by_name false false false true e f g t Output none h = cc
+by_name false false false true e f g t ActivationInput none h = cc
+by_name false false false true e f g t ActivationOutput none h = cc
+by_name false false false false true f g t Input none h = cc
+by_name false false false false true f g t Output none h = refl
+by_name false false false false true f g t ActivationInput none h = cc
+by_name false false false false true f g t ActivationOutput none h = cc
+by_name false false false false false true g t Input none h = cc
+by_name false false false false false true g t Output none h = cc
+by_name false false false false false true g t ActivationInput none h = refl
+by_name false false false false false true g t ActivationOutput none h = cc
+by_name false false false false false false true t Input none h = cc
+by_name false false false false false false true t Output none h = cc
+by_name false false false false false false true t ActivationInput none h = cc
+by_name false false false false false false true t ActivationOutput none h = refl
+by_name false false false false false false false t k none h = absurd (none h)
 
 pub block_name : (gui : List ℕ) (k : PortClass) → pass_through gui ≡ Some (PortBlock k) → bytes_eq gui (name_of k) ≡ true
-block_name gui k h = pick k (by_name (bytes_eq gui (codes "SPLIT_f")) (bytes_eq gui (codes "CLKSPLIT_f")) (bytes_eq gui (codes "CLKSOM_f") || bytes_eq gui (codes "CLKSOMV_f")) (bytes_eq gui (codes "IN_f")) (bytes_eq gui (codes "OUT_f")) (bytes_eq gui (codes "CLKINV_f")) (bytes_eq gui (codes "CLKOUTV_f")) k h)
+block_name gui k h = pick k (by_name (bytes_eq gui (codes "SPLIT_f")) (bytes_eq gui (codes "CLKSPLIT_f")) (bytes_eq gui (codes "CLKSOM_f") || bytes_eq gui (codes "CLKSOMV_f")) (bytes_eq gui (codes "IN_f")) (bytes_eq gui (codes "OUT_f")) (bytes_eq gui (codes "CLKINV_f")) (bytes_eq gui (codes "CLKOUTV_f")) _
+    k (no_tag_block (bytes_eq gui (codes "GOTO")) (bytes_eq gui (codes "FROM")) (bytes_eq gui (codes "CLKGOTO")) (bytes_eq gui (codes "CLKFROM")) k) h)
   where
     pick : (k : PortClass) → picked (bytes_eq gui (codes "IN_f")) (bytes_eq gui (codes "OUT_f")) (bytes_eq gui (codes "CLKINV_f")) (bytes_eq gui (codes "CLKOUTV_f")) k ≡ true → bytes_eq gui (name_of k) ≡ true
     pick Input h = h
@@ -212,6 +224,8 @@ joint_ok here gui f cnt (Some p) ps e h low =
     kinds (PortBlock Output) e r q = stands_for cnt gui f Output (block_name gui Output e) q r.0 (low Output)
     kinds (PortBlock ActivationInput) e r q = stands_for cnt gui f ActivationInput (block_name gui ActivationInput e) q r.3 (low ActivationInput)
     kinds (PortBlock ActivationOutput) e r q = stands_for cnt gui f ActivationOutput (block_name gui ActivationOutput e) q r.2 (low ActivationOutput)
+    kinds (Giver l) e r q = tt
+    kinds (Taker l) e r q = tt
 
 -- ---- links
 

@@ -7,7 +7,7 @@ use Rattle.sci_diagram.specs.declared.diagram.Obj.{Obj}
 use Rattle.sci_diagram.specs.declared.diagram.Diagram.{Diagram, out-Diagram, the_lemmas}
 use Rattle.sci_diagram.specs.Count.{objects_in, objects_within}
 use Rattle.sci_flat.specs.declared.steps.seat.Seat.{Seat}
-use Rattle.sci_flat.specs.Numbers.{Steps, insides_past, inside_past, steps_by, object_steps_by, blocks_by, object_blocks_by}
+use Rattle.sci_flat.specs.Numbers.{Steps, insides_past, inside_past, steps_by, object_steps_by, blocks_by, object_blocks_by, tags_by, object_tags_by}
 
 range_more : (a n : ℕ) → range_with_len a (suc n) ≡ range_with_len a n ++ (a + n) ∷ []
 range_more a zero = let e : a + 0 ≡ a = omega arith in rw e refl
@@ -66,3 +66,14 @@ blocks_more ss d os i r g h is n m xs ys w e grown whole =
 pub blocks_end : (ss : List Seat) (os : List Obj) (i n : ℕ) (xs w : List Seat) → length os ≤ i → xs ++ blocks_by ss n (objects_of (map object_view (drop i os))) ≡ w → xs ≡ w
 unfolding blocks_by
 blocks_end ss os i n xs w h whole = sym (append-nil xs) ∙ (rw (drop_all i os h) at whole)
+
+pub tags_more : (ss : List Seat) (d : Seat) (os : List Obj) (i : ℕ) (r : Obj) → i < length ss → i < length os → r ≡ get_or os i r → (n m : ℕ) (xs ys w : List ℕ) → m ≡ inside_past n (object_view r)
+    → ys ≡ xs ++ object_tags_by (get_or ss i d) n (object_view r) → xs ++ tags_by (drop i ss) n (objects_of (map object_view (drop i os))) ≡ w → ys ++ tags_by (drop (i + 1) ss) m (objects_of (map object_view (drop (i + 1) os))) ≡ w
+unfolding tags_by
+tags_more ss d os i r g h is n m xs ys w e grown whole =
+    let now = rw (opened os i r h is, drop_more ss i d g) at whole in
+    rw (grown, e) (append_assoc xs _ _ ∙ now)
+
+pub tags_end : (ss : List Seat) (os : List Obj) (i n : ℕ) (xs w : List ℕ) → length os ≤ i → xs ++ tags_by ss n (objects_of (map object_view (drop i os))) ≡ w → xs ≡ w
+unfolding tags_by
+tags_end ss os i n xs w h whole = sym (append-nil xs) ∙ (rw (drop_all i os h) at whole)

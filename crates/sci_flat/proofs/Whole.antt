@@ -12,6 +12,7 @@ use Rattle.sci_blocks.specs.Blocks.{Placed, placed}
 use Rattle.sci_flat.specs.declared.steps.numbered.Numbered.{Numbered}
 use Rattle.sci_flat.specs.Seat.{count}
 use Rattle.sci_flat.specs.Numbered.{IsNumbered}
+use Rattle.sci_flat.specs.Tagged.{all_steps}
 use Rattle.sci_flat.specs.Ends.{AreFeeding}
 use Rattle.sci_flat.specs.Wired.{feed_at, seat_of, AllWired, AllFed}
 use Rattle.sci_flat.specs.Flat.{blocks, IsWire, IsFeedList, IsFlatNet}
@@ -21,7 +22,7 @@ use Rattle.sci_flat.proofs.Formed.{IsGood, AllGood, good_at}
 
 -- all that the net is made from
 pub record Made (t : Objects) (ps : List Placed) (n : Numbered) (m : Parts) : Type 0 where
-  pub num : IsNumbered t ps n
+  pub num : IsNumbered t ps (all_steps t) n
   pub blocks : blocks t ≡ Ok ps
   pub few : length ps ≤ 2048
   pub good : AllGood ps

@@ -10,12 +10,13 @@ use Rattle.sci_blocks.specs.declared.class.PortClass.{PortClass}
 use Rattle.sci_blocks.specs.declared.class.PortClass.TheVariants.{Input, Output, ActivationInput, ActivationOutput}
 use Rattle.sci_blocks.specs.Blocks.{Placed, placed, parts_of}
 use Rattle.sci_blocks.specs.Wiring.{links_of}
+use Rattle.sci_goto.specs.Phase.{tags_of}
 use Rattle.sci_flat.specs.Ports.{port}
 use Rattle.sci_flat.specs.Feeds.{Feeds}
 
--- the blocks in tree order, where no object and no link breaks a rule; else the first rule broken
+-- the blocks in tree order, where no tag, no object and no link breaks a rule; else the first rule broken, those on tags first
 abbrev pub blocks : Objects → Outcome (List Placed)
-blocks t = parts_of t >>= λ ps. links_of t >>= λ _. Ok ps
+blocks t = tags_of t >>= λ _. parts_of t >>= λ ps. links_of t >>= λ _. Ok ps
 
 -- the block of this number, counted from 1
 abbrev pub block_at : List Placed → ℕ → Placed

@@ -8,7 +8,8 @@ use Rattle.sci_blocks.specs.Wiring.{links_of}
 use Rattle.sci_blocks.specs.Kept.{AreBlocksKept, AreLinksKept}
 use Rattle.sci_net.specs.Parts.{numbered, no_spec}
 use Rattle.sci_flat.specs.Chain.{Step, Chain}
-use Rattle.sci_flat.specs.Ports.{Port, port, tree_steps}
+use Rattle.sci_flat.specs.Ports.{Port, port}
+use Rattle.sci_flat.specs.Tagged.{all_steps}
 
 -- a class of ports for signals, not for activation
 abbrev pub IsRegular : PortClass → Type 0
@@ -19,7 +20,7 @@ IsRegular ActivationOutput = ⊥
 
 -- no two steps lead to the same regular port
 abbrev pub OneBefore : Type 0
-OneBefore = (t : Objects) → AreBlocksKept t → AreLinksKept t → (p p' q : Port) → IsRegular q.class → Step (tree_steps t) p q → Step (tree_steps t) p' q → p ≡ p'
+OneBefore = (t : Objects) → AreBlocksKept t → AreLinksKept t → (p p' q : Port) → IsRegular q.class → Step (all_steps t) p q → Step (all_steps t) p' q → p ≡ p'
 
 -- output k of the block of this number, counted from 1
 abbrev pub output : List Placed → ℕ → ℕ → Port
@@ -28,11 +29,11 @@ output ps s k = port (numbered (placed [] no_spec) ps s).place Output (pos k)
 -- chains from two outputs of blocks to the same regular input are from one output
 abbrev pub OneSource : Type 0
 OneSource = (t : Objects) (ps : List Placed) (u : Unit {0}) → parts_of t ≡ Ok ps → links_of t ≡ Ok u → (s k s' k' : ℕ) → 1 ≤ s → s ≤ length ps → 1 ≤ s' → s' ≤ length ps → (q : Port) → q.class ≡ Input
-    → Chain (tree_steps t) (output ps s k) q → Chain (tree_steps t) (output ps s' k') q → (s ≡ s') × (k ≡ k')
+    → Chain (all_steps t) (output ps s k) q → Chain (all_steps t) (output ps s' k') q → (s ≡ s') × (k ≡ k')
 
 -- no step leads to an output of a block
 abbrev pub NoneInto : Type 0
-NoneInto = (t : Objects) (ps : List Placed) → parts_of t ≡ Ok ps → (s k : ℕ) → 1 ≤ s → s ≤ length ps → (p : Port) → Step (tree_steps t) p (output ps s k) → ⊥
+NoneInto = (t : Objects) (ps : List Placed) → parts_of t ≡ Ok ps → (s k : ℕ) → 1 ≤ s → s ≤ length ps → (p : Port) → Step (all_steps t) p (output ps s k) → ⊥
 
 -- no two blocks are at one place
 abbrev pub OwnPlace : Type 0

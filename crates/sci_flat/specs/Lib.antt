@@ -1,3 +1,4 @@
+pub mod Tagged
 pub mod Feeds
 pub mod Flat
 pub mod Refused

@@ -1,5 +1,5 @@
 -- The numbers that a walk gives to ports: those of a diagram's own objects first, one object after another, and then those inside its
--- superblocks. The steps and the blocks by these numbers.
+-- superblocks. The steps, the blocks and the tag objects by these numbers.
 use Rattle.std.specs.Prelude.{ℕ, zero, suc, ℤ, pos, negsuc, List, [], ◌∷◌, ◌++◌, map, Option, Some, None, slice_get}
 use Rattle.std.specs.List.{range_with_len}
 use Rattle.sci_diagram.specs.declared.diagram.End.{End}
@@ -8,7 +8,7 @@ use Rattle.sci_blocks.specs.declared.class.PortClass.{PortClass}
 use Rattle.sci_blocks.specs.declared.class.PortClass.TheVariants.{Input, Output, ActivationInput, ActivationOutput}
 use Rattle.sci_blocks.specs.declared.class.LinkType.{LinkType}
 use Rattle.sci_blocks.specs.declared.pass_through.PassThrough.{PassThrough}
-use Rattle.sci_blocks.specs.declared.pass_through.PassThrough.TheVariants.{Split, ActivationSplit, Union, PortBlock}
+use Rattle.sci_blocks.specs.declared.pass_through.PassThrough.TheVariants.{Split, ActivationSplit, Union, PortBlock, Giver, Taker}
 use Rattle.sci_blocks.specs.Rows.{pass_through}
 use Rattle.sci_blocks.specs.Wiring.{link_type, source_class, target_class}
 use Rattle.sci_flat.specs.declared.steps.seat.Seat.{Seat}
@@ -97,6 +97,8 @@ through_numbers outer s ipar (Some Split) = fan_out (port_number s Input (pos 1)
 through_numbers outer s ipar (Some ActivationSplit) = fan_out (port_number s ActivationInput (pos 1)) (start s ActivationOutput) (count s ActivationOutput)
 through_numbers outer s ipar (Some Union) = fan_in (start s ActivationInput) (count s ActivationInput) (port_number s ActivationOutput (pos 1))
 through_numbers outer s ipar (Some (PortBlock c)) = block_numbers outer s c ipar
+through_numbers outer s ipar (Some (Giver l)) = []
+through_numbers outer s ipar (Some (Taker l)) = []
 
 -- the steps of objects with these seats; `all` are the seats of the whole diagram, `outer` that of the superblock around it, and `n` is the
 -- first number inside the objects
@@ -131,3 +133,27 @@ unfoldable mutual
   object_blocks_by s n (link from to kind) = []
   object_blocks_by s n text = []
   object_blocks_by s n deleted = []
+
+-- ---- the number of the first port of each tag object, in tree order; in one that keeps the rules on tags it is the only port
+
+abbrev pub tag_numbers : Seat → Option PassThrough → List ℕ
+tag_numbers s None = []
+tag_numbers s (Some Split) = []
+tag_numbers s (Some ActivationSplit) = []
+tag_numbers s (Some Union) = []
+tag_numbers s (Some (PortBlock c)) = []
+tag_numbers s (Some (Giver l)) = s.first ∷ []
+tag_numbers s (Some (Taker l)) = s.first ∷ []
+
+unfoldable mutual
+  pub tags_by : List Seat → ℕ → Objects → List ℕ
+  tags_by ss n no_objects = []
+  tags_by [] n (object o os) = []
+  tags_by (s ∷ ss) n (object o os) = object_tags_by s n o ++ tags_by ss (inside_past n o) os
+
+  pub object_tags_by : Seat → ℕ → Object → List ℕ
+  object_tags_by s n (block gui f) = tag_numbers s (pass_through gui)
+  object_tags_by s n (superblock gui f os) = tags_by (seats n os) (own_past n os) os
+  object_tags_by s n (link from to kind) = []
+  object_tags_by s n text = []
+  object_tags_by s n deleted = []

@@ -1,5 +1,5 @@
 -- Ports that the same sources reach.
-use Rattle.std.specs.Prelude.{◌≡◌, ℕ, zero, suc, ◌<◌, ◌==◌, ◌↔◌, ◌⊎◌, List, [], length, map, All, Contains, slice_index, slice_index_or, if◌then◌else◌}
+use Rattle.std.specs.Prelude.{◌≡◌, ℕ, zero, suc, ◌<◌, ◌==◌, ◌↔◌, ◌⊎◌, List, length, map, Contains, slice_index, slice_index_or, if◌then◌else◌}
 use Rattle.sci_flat.specs.Chain.{Chain}
 use Rattle.sci_flat.specs.Lists.{list_at}
 use Rattle.sci_flat.specs.Successors.{from_at, to_at}

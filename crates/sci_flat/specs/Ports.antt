@@ -1,4 +1,4 @@
--- The ports of a tree, and the steps between them: along a link, through a split, a union or a superblock's port.
+-- The ports of a tree, and the steps between them that are drawn: along a link, through a split, a union or a superblock's port.
 use Rattle.std.specs.Prelude.{ℕ, ◌+◌, ℤ, pos, negsuc, List, [], ◌∷◌, ◌++◌, length, map, Option, Some, None}
 use Rattle.std.specs.List.{range_with_len, zip}
 use Rattle.sci_base.specs.Plain.{Fields}
@@ -8,7 +8,7 @@ use Rattle.sci_blocks.specs.declared.class.PortClass.{PortClass}
 use Rattle.sci_blocks.specs.declared.class.PortClass.TheVariants.{Input, Output, ActivationInput, ActivationOutput}
 use Rattle.sci_blocks.specs.declared.class.LinkType.{LinkType}
 use Rattle.sci_blocks.specs.declared.pass_through.PassThrough.{PassThrough}
-use Rattle.sci_blocks.specs.declared.pass_through.PassThrough.TheVariants.{Split, ActivationSplit, Union, PortBlock}
+use Rattle.sci_blocks.specs.declared.pass_through.PassThrough.TheVariants.{Split, ActivationSplit, Union, PortBlock, Giver, Taker}
 use Rattle.sci_blocks.specs.Rows.{pass_through}
 use Rattle.sci_blocks.specs.Wiring.{link_type, source_class, target_class}
 
@@ -39,7 +39,7 @@ abbrev pub link_steps : List ℕ → End → End → Option LinkType → List Po
 link_steps at from to None = []
 link_steps at from to (Some t) = zip (end_port at (source_class t) from) (end_port at (target_class t) to)
 
--- ---- through an object
+-- ---- through an object; a tag leads from one object to another, so none leads through a tag object
 
 -- from a split's input to each of its outputs
 abbrev pub split_steps : List ℕ → PortClass → PortClass → ℕ → List PortStep
@@ -67,6 +67,8 @@ through_steps at here f (Some Split) = split_steps here Input Output (length f.o
 through_steps at here f (Some ActivationSplit) = split_steps here ActivationInput ActivationOutput f.evtout
 through_steps at here f (Some Union) = union_steps here f.evtin
 through_steps at here f (Some (PortBlock c)) = numbered_steps at here c f.ipar
+through_steps at here f (Some (Giver l)) = []
+through_steps at here f (Some (Taker l)) = []
 
 -- ---- the steps of the objects of the diagram at a place, the first of them at position k
 

@@ -68,6 +68,6 @@ column_twice ps b = record { rule = ColumnTwice; place = (block_at ps b).place; 
 abbrev pub BreaksBlocks : Objects → List Placed → Violation → Type 0
 BreaksBlocks t ps v = ((b : ℕ) × (k : ℕ) × IsNoSource t ps b k × (v ≡ no_source ps b k)) ⊎ ((b : ℕ) × IsColumnTwice t ps b × (v ≡ column_twice ps b))
 
--- the first rule that the tree breaks: by its objects and links, and then by its blocks
+-- the first rule that the tree breaks: by its tags, its objects and its links, and then by its blocks
 abbrev pub Breaks : Objects → Violation → Type 0
 Breaks t v = (blocks t ≡ Err v) ⊎ ((ps : List Placed) × (blocks t ≡ Ok ps) × BreaksBlocks t ps v)

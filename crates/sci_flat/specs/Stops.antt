@@ -1,5 +1,5 @@
 -- Why a block has no wires.
-use Rattle.std.specs.Prelude.{◌≡◌, ℕ, List}
+use Rattle.std.specs.Prelude.{ℕ, List}
 use Rattle.sci_flat.specs.declared.steps.seat.Seat.{Seat}
 use Rattle.sci_flat.specs.declared.rows.RowStop.{RowStop}
 use Rattle.sci_flat.specs.declared.rows.RowStop.TheVariants.{Unfed, Memory}

@@ -177,3 +177,54 @@ fn unfed_inputs_and_shared_columns_are_refused(rt: HostRuntime) -> Result<(), Fa
     check_refusal(&rt, alloc, first, Rule::NoSource, &[2], &[1]);
     Ok(())
 }
+
+// A clock and a constant go by tags from the outermost level into a superblock; inside it a local tag stands before a
+// global one of the same number, which comes out again.
+#[test]
+fn tags_lead_over_levels(rt: HostRuntime) -> Result<(), Fail> {
+    let text = r#"{"objs":[
+{"obj":"Block","gui":"EVTDLY_c","model":{"evtin":1,"evtout":1,"ipar":5,"firing":0}},
+{"obj":"Block","gui":"CLKGOTO","model":{"evtin":1,"ipar":[4,3]}},
+{"obj":"Block","gui":"CONST_m","model":{"out":1,"outtyp":3,"ipar":1}},
+{"obj":"Block","gui":"S","model":{"sim":"super","rpar":{"objs":[
+ {"obj":"Block","gui":"CLKFROM","model":{"evtout":1,"ipar":4}},
+ {"obj":"Block","gui":"FROM","model":{"out":-1,"outtyp":-1,"ipar":7}},
+ {"obj":"Block","gui":"FROM","model":{"out":-1,"outtyp":-1,"ipar":9}},
+ {"obj":"Block","gui":"SUMMATION","model":{"in":[1,1],"intyp":[3,3],"out":1,"outtyp":3,"evtin":1,"ipar":[0,1,1]}},
+ {"obj":"Block","gui":"GOTO","model":{"in":-1,"intyp":-1,"ipar":[7,3]}},
+ {"obj":"Block","gui":"DOLLAR_m","model":{"in":1,"intyp":3,"out":1,"outtyp":3,"evtin":1,"dstate":0}},
+ {"obj":"Block","gui":"GOTO","model":{"in":-1,"intyp":-1,"ipar":[7,1]}},
+ {"obj":"Link","from":[1,1],"to":[4,1],"ct":[5,-1]},
+ {"obj":"Link","from":[1,1],"to":[6,1],"ct":[5,-1]},
+ {"obj":"Link","from":[2,1],"to":[4,1],"ct":[1,1]},
+ {"obj":"Link","from":[3,1],"to":[4,2],"ct":[1,1]},
+ {"obj":"Block","gui":"SPLIT_f","model":{"in":-1,"intyp":-1,"out":[-1,-1],"outtyp":[-1,-1]}},
+ {"obj":"Link","from":[4,1],"to":[12,1],"ct":[1,1]},
+ {"obj":"Link","from":[12,1],"to":[5,1],"ct":[1,1]},
+ {"obj":"Link","from":[12,2],"to":[6,1],"ct":[1,1]},
+ {"obj":"Link","from":[6,1],"to":[7,1],"ct":[1,1]}]}}},
+{"obj":"Block","gui":"GOTO","model":{"in":-1,"intyp":-1,"ipar":[9,3]}},
+{"obj":"Block","gui":"FROM","model":{"out":-1,"outtyp":-1,"ipar":7}},
+{"obj":"Block","gui":"GAINBLK","model":{"in":1,"intyp":3,"out":1,"outtyp":3,"ipar":[0,2]}},
+{"obj":"Block","gui":"CLKFROM","model":{"evtout":1,"ipar":4}},
+{"obj":"Block","gui":"HALT_f","model":{"evtin":1}},
+{"obj":"Link","from":[1,1],"to":[2,1],"ct":[5,-1]},
+{"obj":"Link","from":[3,1],"to":[5,1],"ct":[1,1]},
+{"obj":"Link","from":[6,1],"to":[7,1],"ct":[1,1]},
+{"obj":"Link","from":[8,1],"to":[9,1],"ct":[5,-1]},
+{"obj":"Link","from":[8,1],"to":[1,1],"ct":[5,-1]}]}"#;
+    let net = net_of(&rt, rt.alloc(), text);
+    let clock = [Feed { block: 1, port: 1 }];
+    assert_eq!(rt; net.len(), 6);
+    check_path(&rt, &net, 4, &[4, 6]);
+    check_path(&rt, &net, 5, &[7]);
+    check_wire(&rt, &net, 3, 1, 4, 1);
+    check_wire(&rt, &net, 3, 2, 2, 1);
+    check_wire(&rt, &net, 4, 1, 3, 1);
+    check_wire(&rt, &net, 5, 1, 3, 1);
+    check_feeds(&rt, &net, 1, 1, &clock);
+    check_feeds(&rt, &net, 3, 1, &clock);
+    check_feeds(&rt, &net, 4, 1, &clock);
+    check_feeds(&rt, &net, 6, 1, &clock);
+    Ok(())
+}

@@ -1,1 +1,6 @@
 mod Untagged
+mod Walking
+mod Keys
+mod Holding
+mod Gathering
+mod Takers

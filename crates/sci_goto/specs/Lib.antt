@@ -1,5 +1,7 @@
 pub mod Forms
 pub mod Phase
-pub mod Served
+pub mod Serving
+pub mod Placed
+pub mod Givers
 pub mod Laws
 pub mod Worked

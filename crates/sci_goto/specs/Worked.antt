@@ -1,13 +1,10 @@
 -- Tags, worked out by hand for small diagrams.
-use Rattle.std.specs.Prelude.{◌≡◌, ℕ, ℤ, pos, negsuc, List, [], ◌∷◌, codes, None, Ok, Err}
+use Rattle.std.specs.Prelude.{◌≡◌, ℕ, ℤ, pos, negsuc, List, [], ◌∷◌, map, codes, Option, Some, None, Ok, Err}
 use Rattle.sci_base.specs.declared.refusal.Rule.{Rule}
 use Rattle.sci_base.specs.declared.refusal.Rule.TheVariants.{TagShape, TagTwice, TagMissing}
 use Rattle.sci_base.specs.Plain.{Fields}
 use Rattle.sci_diagram.specs.Objects.{Object, block, superblock, link, objects_of}
-use Rattle.sci_blocks.specs.declared.class.PortClass.TheVariants.{Input, Output, ActivationInput, ActivationOutput}
-use Rattle.sci_flat.specs.Ports.{port}
-use Rattle.sci_goto.specs.Phase.{Tags, tags_of}
-use Rattle.sci_goto.specs.Served.{tag_steps, FeedsByTags}
+use Rattle.sci_goto.specs.Phase.{Giving, Taking, Tags, server, tags_of}
 
 -- ---- objects, with scalars of int32
 
@@ -104,7 +101,18 @@ pub record WorkedRefusals : Type 0 where
   -- one tag given locally in two diagrams, locally and everywhere, by both kinds; one that nothing takes; one taken twice
   pub apart : Kept (goto local_7 ∷ clock_goto local_7 ∷ around (goto local_7 ∷ goto global_7 ∷ []) ∷ taken tag_7 ∷ taken tag_7 ∷ [])
 
--- ---- what feeds what
+-- ---- what serves what
+
+abbrev pub place_of : Option Giving → List ℕ
+place_of None = []
+place_of (Some g) = g.place
+
+-- each taker by its place, with the place of what serves it
+abbrev pub servers : Tags → List (List ℕ × List ℕ)
+servers tags = map (λ (t : Taking). (t.place, place_of (server tags.givers t))) tags.takers
+
+abbrev pub Served : List Object → List (List ℕ × List ℕ) → Type 0
+Served os pairs = (tags : Tags) × (tags_of (objects_of os) ≡ Ok tags) × (servers tags ≡ pairs)
 
 -- the counter: 1 a timer; 2 the constant 1; 3 the sum of 2 and 4; 4 a delay; 5 gives tag 7 locally, fed by the sum; 6 takes a tag, and
 -- feeds the delay
@@ -121,24 +129,16 @@ from_inside ipar = around (constant ∷ goto ipar ∷ wire 1 2 (pos 1) ∷ []) �
 abbrev pub both_scopes : List Object
 both_scopes = goto global_7 ∷ around (taken tag_7 ∷ goto local_7 ∷ []) ∷ taken tag_7 ∷ []
 
--- 1 gives tag 7 to 2, which feeds it
-abbrev pub circle : List Object
-circle = goto local_7 ∷ taken tag_7 ∷ wire 2 1 (pos 1) ∷ []
-
-pub record WorkedFeeds : Type 0 where
-  pub delay_fed : FeedsByTags (objects_of (counter tag_7)) (port (3 ∷ []) Output (pos 1)) (port (4 ∷ []) Input (pos 1))
-  pub delay_unfed : Refused (counter (pos 8 ∷ [])) TagMissing (6 ∷ []) (pos 8)
-  pub gain_fed : FeedsByTags (objects_of (from_inside global_7)) (port (1 ∷ 1 ∷ []) Output (pos 1)) (port (3 ∷ []) Input (pos 1))
-  pub gain_unfed : Refused (from_inside local_7) TagMissing (2 ∷ []) (pos 7)
+pub record WorkedServers : Type 0 where
+  pub delay_served : Served (counter tag_7) ((6 ∷ [], 5 ∷ []) ∷ [])
+  pub delay_unserved : Refused (counter (pos 8 ∷ [])) TagMissing (6 ∷ []) (pos 8)
+  pub gain_served : Served (from_inside global_7) ((2 ∷ [], 1 ∷ 2 ∷ []) ∷ [])
+  pub gain_unserved : Refused (from_inside local_7) TagMissing (2 ∷ []) (pos 7)
   -- the local one is preferred
-  pub preferred : tag_steps (tags_of (objects_of both_scopes))
-      ≡ (port (2 ∷ 2 ∷ []) Input (pos 1), port (2 ∷ 1 ∷ []) Output (pos 1)) ∷ (port (1 ∷ []) Input (pos 1), port (3 ∷ []) Output (pos 1)) ∷ []
-  -- activation tags lead from an activation input to an activation output
-  pub activation : tag_steps (tags_of (objects_of (goto local_7 ∷ clock_goto local_7 ∷ clock_taken tag_7 ∷ [])))
-      ≡ (port (2 ∷ []) ActivationInput (pos 1), port (3 ∷ []) ActivationOutput (pos 1)) ∷ []
-  pub round : FeedsByTags (objects_of circle) (port (1 ∷ []) Input (pos 1)) (port (2 ∷ []) Output (pos 1))
-  pub back : FeedsByTags (objects_of circle) (port (2 ∷ []) Output (pos 1)) (port (1 ∷ []) Input (pos 1))
+  pub preferred : Served both_scopes ((2 ∷ 1 ∷ [], 2 ∷ 2 ∷ []) ∷ (3 ∷ [], 1 ∷ []) ∷ [])
+  -- activation tags are apart from those of values
+  pub activation : Served (goto local_7 ∷ clock_goto local_7 ∷ clock_taken tag_7 ∷ []) ((3 ∷ [], 2 ∷ []) ∷ [])
 
 pub record WorkedTags : Type 0 where
   pub refusals : WorkedRefusals
-  pub feeds : WorkedFeeds
+  pub served : WorkedServers

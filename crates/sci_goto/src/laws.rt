@@ -6,8 +6,7 @@ pub fn names_law()
     ensures { NamesLaw }
 {}
 
-/// A diagram without tag objects keeps the rules on tags, has no steps but those of its drawing, and its blocks are those of the
-/// whole diagram.
+/// A diagram without tag objects keeps the rules on tags.
 pub fn untagged_law()
     ensures { UntaggedLaw }
 {}

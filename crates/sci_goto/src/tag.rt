@@ -4,7 +4,7 @@ use sci_base::BlockFields;
 use sci_blocks::LinkType;
 
 /// A tag: those of values and those of activations are apart.
-#[derive(Clone, Copy, Drop)]
+#[derive(Clone, Copy, Debug, Drop, PartialEq, Eq, PartialOrd, Ord)]
 pub struct Tag {
     pub link: LinkType,
     /// From 1 to 2^31-1.
@@ -12,7 +12,7 @@ pub struct Tag {
 }
 
 /// Where a tag is given.
-#[derive(Clone, Copy, Drop)]
+#[derive(Clone, Copy, Debug, Drop, PartialEq, Eq)]
 pub enum Scope {
     /// To the objects of the same diagram.
     Local,
@@ -21,7 +21,7 @@ pub enum Scope {
 }
 
 /// A tag object, by its name.
-#[derive(Clone, Copy, Drop)]
+#[derive(Clone, Copy, Debug, Drop, PartialEq, Eq)]
 pub enum TagObject {
     /// `GOTO`, `CLKGOTO`: gives a tag what comes to its input.
     Giver(LinkType),
@@ -30,7 +30,7 @@ pub enum TagObject {
 }
 
 /// What a tag object says by its ports and its parameters.
-#[derive(Clone, Copy, Drop)]
+#[derive(Clone, Copy, Debug, Drop, PartialEq, Eq)]
 pub enum TagForm {
     /// Its counts of ports aren't those of its name.
     Ports,

@@ -18,8 +18,7 @@ use Rattle.sci_net.specs.Net.{IsNet}
 use Rattle.sci_reaction.specs.Active.{Inherited, seeded, passed, Reaches}
 use Rattle.sci_inherit.proofs.Ordered.{precedes_yes}
 use Rattle.sci_inherit.specs.Links.{AreHeirs}
-use Rattle.sci_inherit.specs.declared.gather.Senders.{Senders}
-use Rattle.sci_inherit.specs.Gather.{Goes, Pushes, IsSender, Gathered, OfBlocks, OfPorts}
+use Rattle.sci_inherit.specs.Gather.{Goes, Pushes, Gathered, OfBlocks, OfPorts}
 
 -- ---- one output is put into the lists
 
@@ -126,7 +125,7 @@ blocks_within n m bs count is j d h = let l = is (get_or bs j d) (Contains-get_o
 
 -- ---- what is gathered
 
-pub ports_precede : (n : Parts) (w : Senders) (b m : ℕ) (x : Feed) → OfPorts n w b m x → precedes x (record { block = b; port = m + 1 }) ≡ true
+pub ports_precede : (n : Parts) (w : ℕ → Type 0) (b m : ℕ) (x : Feed) → OfPorts w b m x → precedes x (record { block = b; port = m + 1 }) ≡ true
 ports_precede n w b m x h = precedes_yes x (record { block = b; port = m + 1 }) h.below
 
 pub gathered_same : (n : Parts) (done other : Feed → Type 0) (ls : List (List Feed)) → ((x : Feed) (b : ℕ) → Reaches n x b → done x ↔ other x) → Gathered n done ls → Gathered n other ls
@@ -156,17 +155,17 @@ gathered_more n done q old new before pushes g = record {
   );
 }
 
-pub gathered_none : (n : Parts) (w : Senders) (count : ℕ) → IsNet n → count ≡ length n.specs → length (replicate {A = List Feed} count []) ≡ count → Gathered n (OfBlocks n w 0) (replicate count [])
+pub gathered_none : (n : Parts) (w : ℕ → Type 0) (count : ℕ) → IsNet n → count ≡ length n.specs → length (replicate {A = List Feed} count []) ≡ count → Gathered n (OfBlocks w 0) (replicate count [])
 gathered_none n w count net is long = record {
   long = long ∙ is;
   rising = λ p i j d l m. absurd (none-there count p _ (Contains-get_or (list_at (replicate count []) p) j d m));
   exactly = λ p x. ((λ h. absurd (none-there count p x h)), λ h. let o = (reaches_output n x net h.1).block.least in let l = h.0.below in absurd (omega (arith, o, l)));
 }
 
-pub gathered_begins : (n : Parts) (w : Senders) (b : ℕ) (ls : List (List Feed)) → IsNet n → 1 ≤ b → Gathered n (OfBlocks n w (b - 1)) ls → Gathered n (OfPorts n w b 0) ls
-gathered_begins n w b ls net least = gathered_same n (OfBlocks n w (b - 1)) (OfPorts n w b 0) ls is
+pub gathered_begins : (n : Parts) (w : ℕ → Type 0) (b : ℕ) (ls : List (List Feed)) → IsNet n → 1 ≤ b → Gathered n (OfBlocks w (b - 1)) ls → Gathered n (OfPorts w b 0) ls
+gathered_begins n w b ls net least = gathered_same n (OfBlocks w (b - 1)) (OfPorts w b 0) ls is
   where
-    is : (x : Feed) (c : ℕ) → Reaches n x c → OfBlocks n w (b - 1) x ↔ OfPorts n w b 0 x
+    is : (x : Feed) (c : ℕ) → Reaches n x c → OfBlocks w (b - 1) x ↔ OfPorts w b 0 x
     is x c r = (
       (λ h. record { sender = h.sender; below = let l = h.below in inl (omega (arith, l, least)) }),
       λ h. record {
@@ -175,10 +174,10 @@ gathered_begins n w b ls net least = gathered_same n (OfBlocks n w (b - 1)) (OfP
       },
     )
 
-pub gathered_ends : (n : Parts) (w : Senders) (b m : ℕ) (ls : List (List Feed)) → IsNet n → m ≡ (spec_of n b).evtout → Gathered n (OfPorts n w b m) ls → Gathered n (OfBlocks n w b) ls
-gathered_ends n w b m ls net count = gathered_same n (OfPorts n w b m) (OfBlocks n w b) ls is
+pub gathered_ends : (n : Parts) (w : ℕ → Type 0) (b m : ℕ) (ls : List (List Feed)) → IsNet n → m ≡ (spec_of n b).evtout → Gathered n (OfPorts w b m) ls → Gathered n (OfBlocks w b) ls
+gathered_ends n w b m ls net count = gathered_same n (OfPorts w b m) (OfBlocks w b) ls is
   where
-    is : (x : Feed) (c : ℕ) → Reaches n x c → OfPorts n w b m x ↔ OfBlocks n w b x
+    is : (x : Feed) (c : ℕ) → Reaches n x c → OfPorts w b m x ↔ OfBlocks w b x
     is x c r = (
       (λ h. record { sender = h.sender; below = ⊎_elim (λ l. omega (arith, l)) (λ e. let s = e.0 in omega (arith, s)) h.below }),
       λ h. record {
@@ -191,23 +190,23 @@ gathered_ends n w b m ls net count = gathered_same n (OfPorts n w b m) (OfBlocks
     )
 
 -- a block that is no sender adds nothing
-pub gathered_other : (n : Parts) (w : Senders) (b : ℕ) (ls : List (List Feed)) → 1 ≤ b → (IsSender n w b → ⊥) → Gathered n (OfBlocks n w (b - 1)) ls → Gathered n (OfBlocks n w b) ls
-gathered_other n w b ls least other = gathered_same n (OfBlocks n w (b - 1)) (OfBlocks n w b) ls is
+pub gathered_other : (n : Parts) (w : ℕ → Type 0) (b : ℕ) (ls : List (List Feed)) → 1 ≤ b → (w b → ⊥) → Gathered n (OfBlocks w (b - 1)) ls → Gathered n (OfBlocks w b) ls
+gathered_other n w b ls least other = gathered_same n (OfBlocks w (b - 1)) (OfBlocks w b) ls is
   where
-    is : (x : Feed) (c : ℕ) → Reaches n x c → OfBlocks n w (b - 1) x ↔ OfBlocks n w b x
+    is : (x : Feed) (c : ℕ) → Reaches n x c → OfBlocks w (b - 1) x ↔ OfBlocks w b x
     is x c r = (
       (λ h. record { sender = h.sender; below = let l = h.below in omega (arith, l, least) }),
       λ h. record {
         sender = h.sender;
-        below = ⊎_elim (λ s. absurd (other (subst (IsSender n w) s h.sender))) (λ d. let l = h.below in omega (arith, l, d, least)) (cases_eq x.block b);
+        below = ⊎_elim (λ s. absurd (other (subst w s h.sender))) (λ d. let l = h.below in omega (arith, l, d, least)) (cases_eq x.block b);
       },
     )
 
 -- one output more of a sender
-pub gathered_port : (n : Parts) (w : Senders) (b m : ℕ) (old new : List (List Feed)) → IsSender n w b → Pushes (Reaches n (record { block = b; port = m + 1 })) (record { block = b; port = m + 1 }) old new
-    → Gathered n (OfPorts n w b m) old → Gathered n (OfPorts n w b (m + 1)) new
+pub gathered_port : (n : Parts) (w : ℕ → Type 0) (b m : ℕ) (old new : List (List Feed)) → w b → Pushes (Reaches n (record { block = b; port = m + 1 })) (record { block = b; port = m + 1 }) old new
+    → Gathered n (OfPorts w b m) old → Gathered n (OfPorts w b (m + 1)) new
 gathered_port n w b m old new sender pushes g =
-    gathered_same n (λ x. OfPorts n w b m x ⊎ (q ≡ x)) (OfPorts n w b (m + 1)) new is (gathered_more n (OfPorts n w b m) q old new (ports_precede n w b m) pushes g)
+    gathered_same n (λ x. OfPorts w b m x ⊎ (q ≡ x)) (OfPorts w b (m + 1)) new is (gathered_more n (OfPorts w b m) q old new (ports_precede n w b m) pushes g)
   where
     q : Feed
     q = record { block = b; port = m + 1 }
@@ -215,12 +214,12 @@ gathered_port n w b m old new sender pushes g =
     mk : ℕ → ℕ → Feed
     mk c p = record { block = c; port = p }
 
-    is : (x : Feed) (c : ℕ) → Reaches n x c → (OfPorts n w b m x ⊎ (q ≡ x)) ↔ OfPorts n w b (m + 1) x
+    is : (x : Feed) (c : ℕ) → Reaches n x c → (OfPorts w b m x ⊎ (q ≡ x)) ↔ OfPorts w b (m + 1) x
     is x c r = (
       (λ h. elim h [
         | inl o ↦ record { sender = o.sender; below = ⊎_elim (λ l. inl l) (λ e. let l = e.1 in inr (e.0, omega (arith, l))) o.below }
         | inr e ↦ record {
-          sender = subst (λ (y : Feed). IsSender n w y.block) e sender;
+          sender = subst (λ (y : Feed). w y.block) e sender;
           below = inr (sym (ap (λ (y : Feed). y.block) e), let s = ap (λ (y : Feed). y.port) e in omega (arith, s));
         }
       ]),

@@ -1,5 +1,5 @@
 -- The order of activation inputs, and rows that are in order.
-use Rattle.std.proofs.Common.{◌≡◌, ◌<◌, ◌+◌, ◌∙◌, ℕ, true, List, ◌∷◌, [], ◌++◌, ◌⊎◌, inl, inr, ⊎_elim, refl, sym, ap, subst, arith, length, get_or, take}
+use Rattle.std.proofs.Common.{◌≡◌, ◌<◌, ◌+◌, ◌∙◌, ℕ, Bool, true, List, ◌∷◌, [], ◌++◌, ◌⊎◌, inl, inr, ⊎_elim, refl, sym, ap, subst, arith, length, get_or, take}
 use Rattle.std.specs.Prelude.{Contains, nat_lt}
 use Rattle.std.proofs.lemmas.Bool.Decides.{eqb_tells}
 use Rattle.std.proofs.lemmas.List.{take_more, get_or-take, get_or_default, length-take-le}
@@ -51,6 +51,10 @@ appends_one q f old new here other = record {
       (feed_cases q x);
 }
 
+-- nothing is put
+pub appends_nothing : (gets : Feed → Type 0) (f : Fed) (rows : List (List (List Fed))) → Appends gets f rows rows
+appends_nothing gets f rows = record { rest = λ q h. refl; in_order = λ q ok below. ok }
+
 pub appends_none : (fs : List Feed) (f : Fed) (rows : List (List (List Fed))) → Appends (Contains (take 0 fs)) f rows rows
 appends_none fs f rows = record { rest = λ q h. refl; in_order = λ q ok below. ok }
 
@@ -90,9 +94,9 @@ appends_next fs f i d old mid new within rise a b = record { rest = rest; in_ord
 
 -- ---- the inputs in turn
 
-pub before_next : (fs : List Feed) (b i : ℕ) (old new : List (List (List Fed))) → ComeBefore (record { block = b; input = i }) old → Fills (FeedGets fs (record { block = b; input = i })) old new
+pub before_next : (w : List Bool) (fs : List Feed) (b i : ℕ) (old new : List (List (List Fed))) → ComeBefore (record { block = b; input = i }) old → Fills (FeedGets w fs (record { block = b; input = i })) old new
     → Appends (Contains fs) (record { block = b; input = i }) old new → ComeBefore (record { block = b; input = i + 1 }) new
-before_next fs b i old new c fills a = record {
+before_next w fs b i old new c fills a = record {
   in_order = λ q. a.in_order q (c.in_order q) (c.before q);
   before = λ q x h. elim ((fills.exactly q x).0 h) [
     | inl o ↦ next_input x b i (c.before q x o)

@@ -6,3 +6,4 @@ pub mod Gathering
 pub mod Sourced
 pub mod Viewed
 pub mod InOrder
+pub mod Living

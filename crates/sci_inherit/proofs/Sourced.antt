@@ -1,12 +1,12 @@
 -- What sources and blocks activate: from what they feed, and by a walk along heirs.
-use Rattle.std.proofs.Common.{◌≡◌, ◌<◌, ◌≤◌, ◌+◌, ◌-◌, ◌↔◌, ◌∙◌, ℕ, List, ◌∷◌, [], ◌++◌, inl, inr, ⊎_elim, refl, sym, ap, subst, arith, append_assoc, length, get_or, map, take, Vec}
+use Rattle.std.proofs.Common.{◌≡◌, ◌<◌, ◌≤◌, ◌-◌, ◌↔◌, ◌∙◌, ℕ, List, ◌∷◌, [], ◌++◌, inl, inr, ⊎_elim, sym, ap, subst, arith, length, get_or, map, Vec}
 use Rattle.std.specs.Prelude.{Contains, nat_eq}
 use Rattle.std.specs.List.{IsDistinct}
 use Rattle.std.specs.declared.alloc.Global.{Global}
 use Rattle.std.proofs.lemmas.Bool.{cases_eq, cases_lt}
-use Rattle.std.proofs.lemmas.List.{take_more, map-append, get_or-map, length-map, length-append, get_or_past, get_or_append_left}
+use Rattle.std.proofs.lemmas.List.{map-append, get_or-map, length-map, length-append, get_or_append_left}
 use Rattle.std.proofs.Math.Seq.{get_or-append_seam}
-use Rattle.std.proofs.lemmas.List.Elements.{Contains-append_left, Contains-append_right, Contains-append_cases, Contains-push, Contains-push_cases, Contains-get_or}
+use Rattle.std.proofs.lemmas.List.Elements.{Contains-append_left, Contains-push, Contains-push_cases, Contains-get_or}
 use Rattle.sci_loop.specs.Lists.{plain, list_at}
 use Rattle.sci_loop.specs.Reached.{IsReached}
 use Rattle.sci_net.specs.declared.Feed.{Feed}
@@ -18,9 +18,8 @@ use Rattle.sci_reaction.specs.Links.{Feeds, IsConstant, SetOff}
 use Rattle.sci_reaction.specs.Active.{Inherited, seeded, passed, Reaches, IsAlways, IsSync}
 use Rattle.sci_reaction.specs.Depends.{Conditions}
 use Rattle.sci_inherit.specs.declared.Fed.{Fed}
-use Rattle.sci_inherit.specs.Links.{plain_rows, HaveRows, AreHeirs, AreFedBy, AreRows}
-use Rattle.sci_inherit.specs.Gather.{AreEach, AreSetOff, AreAlways, AreFeeding, AreConstants, IsFed, IsFedUpto, AreOnward}
-use Rattle.sci_inherit.proofs.Filling.{rows_at}
+use Rattle.sci_inherit.specs.Links.{AreHeirs, AreFedBy, FeedsSome}
+use Rattle.sci_inherit.specs.Gather.{AreEach, AreSetOff, AreAlways, AreFeeding, AreConstants, IsFed, AreOnward}
 use Rattle.sci_inherit.proofs.Linked.{input_inside}
 use Rattle.sci_inherit.proofs.Gathering.{walked_is, reaches_output}
 
@@ -82,73 +81,7 @@ fed_blocks n q fs bs net are is b = (
   λ f. (blocks_fed fs bs is b).1 ((fed_feeds n q fs net are b).1 f),
 )
 
-pub blocks_next : (fs : List Fed) (i : ℕ) (d : Fed) (old now new : List ℕ) (b : ℕ) → i < length fs → b ≡ (get_or fs i d).block → new ≡ now ++ b ∷ []
-    → now ≡ old ++ map (λ f. f.block) (take i fs) → new ≡ old ++ map (λ f. f.block) (take (i + 1) fs)
-blocks_next fs i d old now new b within is e before =
-    let block : Fed → ℕ = λ f. f.block in
-    e ∙ (ap (λ (l : List ℕ). l ++ b ∷ []) before ∙ (append_assoc old (map block (take i fs)) (b ∷ [])
-    ∙ ap (λ (l : List ℕ). old ++ l) (ap (λ (c : ℕ). map block (take i fs) ++ c ∷ []) is ∙ (sym (map-append block (take i fs) (get_or fs i d ∷ [])) ∙ ap (map block) (sym (take_more fs i d within))))))
-
--- ---- the blocks of some rows
-
-pub in_rows_none : (rows : List (List Fed)) (bs : List ℕ) → bs ≡ [] → (b : ℕ) → Contains bs b ↔ IsFedUpto rows 0 b
-in_rows_none rows bs e b = ((λ has. absurd (nothing b (subst (λ (l : List ℕ). Contains l b) e has))), λ u. let l = u.below in absurd (omega (arith, l)))
-
-pub in_rows_next : (rows : List (List Fed)) (k : ℕ) (old new : List ℕ) → new ≡ old ++ map (λ f. f.block) (list_at rows k) → ((b : ℕ) → Contains old b ↔ IsFedUpto rows k b)
-    → (b : ℕ) → Contains new b ↔ IsFedUpto rows (k + 1) b
-in_rows_next rows k old new e before b = (
-  (λ has. ⊎_elim
-      (λ h. let u = (before b).0 h in record { port = u.port; below = let l = u.below in omega (arith, l); fed = u.fed })
-      (λ h. record { port = k; below = omega arith; fed = (blocks_fed (list_at rows k) (map (λ f. f.block) (list_at rows k)) refl b).0 h })
-      (Contains-append_cases old (map (λ f. f.block) (list_at rows k)) b (subst (λ (l : List ℕ). Contains l b) e has))),
-  λ u. subst (λ (l : List ℕ). Contains l b) (sym e) (⊎_elim
-      (λ s. Contains-append_right old (map (λ f. f.block) (list_at rows k)) b ((blocks_fed (list_at rows k) (map (λ f. f.block) (list_at rows k)) refl b).1 (subst (λ (j : ℕ). IsFed (list_at rows j) b) s u.fed)))
-      (λ d. Contains-append_left old (map (λ f. f.block) (list_at rows k)) b ((before b).1 (record { port = u.port; below = let l = u.below in omega (arith, l, d); fed = u.fed })))
-      (cases_eq u.port k)),
-)
-
 -- ---- onward
-
--- an activation output of c feeds b
-pub record FeedsSome (n : Parts) (c b : ℕ) : Type 0 where
-  pub port : ℕ
-  pub feeds : Feeds n (record { block = c; port = port }) b
-
-pub rows_feed : (n : Parts) (c k : ℕ) (rows : List (List (List Fed))) (row : List (List Fed)) → IsNet n → AreRows n rows → row ≡ list_at rows c → k ≡ length row
-    → (b : ℕ) → IsFedUpto row k b ↔ FeedsSome n c b
-rows_feed n c k rows row net are is count b = (
-  (λ u. record { port = u.port; feeds = (fed_feeds n (q u.port) (list_at row u.port) net (by u.port) b).0 u.fed }),
-  λ f. record {
-    port = f.port;
-    below = ⊎_elim
-        (λ l. l)
-        (λ l. let has = ((fed_feeds n (q f.port) (list_at row f.port) net (by f.port) b).1 f.feeds).has in
-        absurd (nothing _ (subst (λ (l : List Fed). Contains l (fed b ((fed_feeds n (q f.port) (list_at row f.port) net (by f.port) b).1 f.feeds).input)) (get_or_past row f.port [] (omega (arith, l, count))) has)))
-        (cases_lt f.port k);
-    fed = (fed_feeds n (q f.port) (list_at row f.port) net (by f.port) b).1 f.feeds;
-  },
-)
-  where
-    q : ℕ → Feed
-    q p = record { block = c; port = p }
-
-    by : (p : ℕ) → AreFedBy n (q p) (list_at row p)
-    by p = subst (λ (r : List (List Fed)). AreFedBy n (q p) (list_at r p)) (sym is) (are (q p))
-
--- the blocks that are put for all rows of a block are those that its activation outputs feed
-pub block_feeds : (n : Parts) (b : ℕ) (vs : List (Vec (Vec Fed Global) Global)) (v : Vec (Vec Fed Global) Global) (row : List (Vec Fed Global)) (bs starts : List ℕ) → IsNet n → HaveRows n (plain_rows vs)
-    → AreRows n (plain_rows vs) → IsBlock n b → v ≡ get_or vs b v → row ≡ v.items → ((x : ℕ) → Contains bs x ↔ IsFedUpto (plain row) (length row) x) → starts ≡ bs
-    → (x : ℕ) → Contains starts x ↔ FeedsSome n b x
-block_feeds n b vs v row bs starts net have are is at whole put same x = (
-  (λ has. told.0 ((put x).0 (subst (λ (l : List ℕ). Contains l x) same has))),
-  λ f. subst (λ (l : List ℕ). Contains l x) (sym same) ((put x).1 (told.1 f)),
-)
-  where
-    inside : b < length vs
-    inside = let long = length-map vs (λ (u : Vec (Vec Fed Global) Global). plain u.items) in let most = is.most in omega (arith, long, most, have.long)
-
-    told : IsFedUpto (plain row) (length row) x ↔ FeedsSome n b x
-    told = rows_feed n b (length row) (plain_rows vs) (plain row) net are (ap plain whole ∙ sym (rows_at vs b v inside at)) (sym (length-map row (λ (u : Vec Fed Global). u.items))) x
 
 some_to : (n : Parts) (c : ℕ) {b : ℕ} → Inherited n (FeedsSome n c) b → (p : ℕ) × Reaches n (record { block = c; port = p }) b
 some_to n c (seeded b f) = (f.port, seeded b f.feeds)

@@ -1,10 +1,10 @@
 -- All origins together, by source and by block.
-use Rattle.std.proofs.Common.{◌≡◌, ◌≢◌, ◌∙◌, ◌<◌, ◌+◌, ◌↔◌, ℕ, zero, suc, Bool, true, false, true≢false, List, [], ◌∷◌, ◌++◌, ⊎_elim, sym, ap, subst, arith, length, get_or}
+use Rattle.std.proofs.Common.{replicate, ◌≡◌, ◌≢◌, ◌∙◌, ◌<◌, ◌+◌, ◌↔◌, ℕ, zero, suc, Bool, true, false, true≢false, List, [], ◌∷◌, ◌++◌, ⊎_elim, sym, ap, subst, arith, length, get_or}
 use Rattle.std.specs.Prelude.{Contains, nat_eq}
 use Rattle.std.specs.List.{IsDistinct}
 use Rattle.std.proofs.Math.Seq.{get_or-append_seam}
 use Rattle.std.proofs.lemmas.Bool.{cases_eq, cases_lt}
-use Rattle.std.proofs.lemmas.List.{get_or_past, get_or_append_left, length-append}
+use Rattle.std.proofs.lemmas.List.{get_or-replicate, get_or_past, get_or_append_left, length-append}
 use Rattle.sci_loop.specs.Lists.{list_at}
 use Rattle.sci_net.specs.declared.Feed.{Feed}
 use Rattle.sci_net.specs.declared.Source.TheVariants.{Start}
@@ -12,12 +12,13 @@ use Rattle.sci_net.specs.Parts.{Parts, IsBlock, numbered, AreRising}
 use Rattle.sci_net.specs.Net.{IsNet}
 use Rattle.sci_net.specs.Sources.{sources_of, source_of}
 use Rattle.sci_reaction.specs.Links.{SetOff}
-use Rattle.sci_reaction.specs.Active.{Reaches, IsAlways}
+use Rattle.sci_reaction.specs.Active.{Reaches, IsAlways, IsSync}
 use Rattle.sci_reaction.specs.Depends.{Conditions}
 use Rattle.sci_inherit.specs.declared.Fed.{Fed}
-use Rattle.sci_inherit.specs.declared.gather.Senders.{Senders}
 use Rattle.sci_inherit.specs.declared.gather.Senders.TheVariants.{Each, Synchronous}
+use Rattle.sci_loop.specs.Walk.{IsMarked}
 use Rattle.sci_inherit.specs.Links.{AreInOrder}
+use Rattle.sci_inherit.specs.Live.{IsLive, AreWanted}
 use Rattle.sci_inherit.specs.Gather.{AreEach, AreFeeding, AreAlways, AreOnward, IsSender, Gathered, OfBlocks}
 use Rattle.sci_inherit.specs.Origins.{AreOrigins}
 use Rattle.sci_inherit.specs.ByBlock.{AreByBlock, AreMarksOf, AreAtStart}
@@ -26,28 +27,27 @@ use Rattle.sci_inherit.proofs.Sourced.{set_off_block, none_twice}
 
 -- ---- the lists by block
 
-module _ (n : Parts) (w : Senders) (bs : List (List Feed)) (net : IsNet n) (g : Gathered n (OfBlocks n w (length n.specs)) bs) where
-  done : (q : Feed) {b : ℕ} → IsSender n w q.block → Reaches n q b → OfBlocks n w (length n.specs) q
+module _ (n : Parts) (w : ℕ → Type 0) (bs : List (List Feed)) (net : IsNet n) (g : Gathered n (OfBlocks w (length n.specs)) bs) where
+  done : (q : Feed) {b : ℕ} → w q.block → Reaches n q b → OfBlocks w (length n.specs) q
   done q sender r = record { sender = sender; below = let m = (reaches_output n q net r).block.most in omega (arith, m) }
 
   rise : (b : ℕ) → AreRising (numbered [] bs b)
   rise zero = λ i j d l m. absurd (omega (arith, m))
   rise (suc p) = g.rising p
 
-  are : (b : ℕ) (q : Feed) → Contains (numbered [] bs b) q ↔ (IsSender n w q.block × Reaches n q b)
+  are : (b : ℕ) (q : Feed) → Contains (numbered [] bs b) q ↔ (w q.block × Reaches n q b)
   are zero q = ((λ (k, h, e). absurd (omega arith)), λ r. let l = (reaches_block n q r.1).least in absurd (omega (arith, l)))
   are (suc p) q = ((λ h. let t = (g.exactly p q).0 h in (t.0.sender, t.1)), λ r. (g.exactly p q).1 (done q r.0 r.1, r.1))
 
 -- ---- what a reach keeps
 
-module _ (n : Parts) (always : List (List ℕ)) (feeding : List (List Fed)) (bs : List (List Feed)) (os : List (List ℕ)) (net : IsNet n)
-    (are_always : AreEach (λ k l. AreAlways n (source_of n k) l) always) (are_feeding : AreEach (λ k l. AreFeeding n (source_of n k) l) feeding) (in_order : AreEach (λ k l. AreInOrder l) feeding)
-    (g : Gathered n (OfBlocks n Synchronous (length n.specs)) bs) (are_onward : AreEach (AreOnward n) os) where
+-- by number, what is reached from each block
+module _ (n : Parts) (os : List (List ℕ)) (net : IsNet n) (are_onward : AreEach (AreOnward n) os) (long : length os ≡ length n.specs + 1) where
   past : (c b : ℕ) → length n.specs < c → Conditions n c b → ⊥
   past c b far h = let m = (reaches_output n (record { block = c; port = h.branch }) net h.reaches).block.most in omega (arith, m, far)
 
-  leads : length os ≡ length n.specs + 1 → (c b : ℕ) → Contains (list_at os c) b ↔ Conditions n c b
-  leads long c b = ⊎_elim
+  pub leads : (c b : ℕ) → Contains (list_at os c) b ↔ Conditions n c b
+  leads c b = ⊎_elim
       (λ l. (are_onward c l).exactly b)
       (λ l. (
         (λ has. let h = subst (λ (bs' : List ℕ). Contains bs' b) (get_or_past os c [] l) has in absurd (omega (arith, h.1))),
@@ -55,6 +55,17 @@ module _ (n : Parts) (always : List (List ℕ)) (feeding : List (List Fed)) (bs 
       ))
       (cases_lt c (length os))
 
+-- the branches that are gathered are of blocks that some source may activate
+pub branches_live : (n : Parts) (w : List Bool) (q : Feed) {b : ℕ} → IsNet n → AreWanted n w
+    → (IsSender n w Synchronous q.block × Reaches n q b) ↔ (IsLive n q.block × IsSync n q.block × Reaches n q b)
+branches_live n w q net wanted = (
+  (λ h. ((wanted.live q.block (reaches_output n q net h.1).block h.0.1).0 h.0.0, h.0.1, h.1)),
+  λ h. (((wanted.live q.block (reaches_output n q net h.2).block h.1).1 h.0, h.1), h.2),
+)
+
+module _ (n : Parts) (w : List Bool) (always : List (List ℕ)) (feeding : List (List Fed)) (bs : List (List Feed)) (os : List (List ℕ)) (net : IsNet n) (wanted : AreWanted n w)
+    (are_always : AreEach (λ k l. AreAlways n (source_of n k) l) always) (are_feeding : AreEach (λ k l. AreFeeding n (source_of n k) l) feeding) (in_order : AreEach (λ k l. AreInOrder l) feeding)
+    (g : Gathered n (OfBlocks (IsSender n w Synchronous) (length n.specs)) bs) (are_onward : AreEach (AreOnward n) os) where
   pub origins_are : length always ≡ length (sources_of n) → length feeding ≡ length (sources_of n) → length os ≡ length n.specs + 1
       → AreOrigins n (record { always = always; feeding = feeding; branches = bs; onward = os })
   origins_are always_long feeding_long onward_long = record {
@@ -63,13 +74,16 @@ module _ (n : Parts) (always : List (List ℕ)) (feeding : List (List Fed)) (bs 
     always_are = λ k b h. (are_always k (omega (arith, h, always_long))).exactly b;
     feeding_are = λ k f h. are_feeding k (omega (arith, h, feeding_long)) f;
     feeding_in_order = λ k h. in_order k (omega (arith, h, feeding_long));
-    branches_rise = rise n Synchronous bs net g;
-    branches_are = are n Synchronous bs net g;
+    branches_rise = rise n (IsSender n w Synchronous) bs net g;
+    branches_are = λ b q.
+        let is = are n (IsSender n w Synchronous) bs net g b q in
+        let told = branches_live n w q {b = b} net wanted in
+        ((λ h. told.0 (is.0 h)), λ h. is.1 (told.1 h));
     onward_once = λ c. ⊎_elim
         (λ l. (are_onward c l).once)
         (λ l. subst (IsDistinct nat_eq) (sym (get_or_past os c [] l)) none_twice)
         (cases_lt c (length os));
-    onward_are = leads onward_long;
+    onward_are = leads n os net are_onward onward_long;
   }
 
 -- ---- what is kept by block
@@ -87,13 +101,18 @@ at_start_are n found marks always m = record {
   );
 }
 
-pub by_block_are : (n : Parts) (bs : List (List Feed)) (marks : List Bool) → IsNet n → Gathered n (OfBlocks n Each (length n.specs)) bs → AreAtStart n marks
-    → AreByBlock n (record { reaching = bs; at_start = marks })
-by_block_are n bs marks net g start = record {
+-- marks that are all set
+pub all_marked : (n : Parts) (count : ℕ) (w : List Bool) → w ≡ replicate count true → count ≡ length n.specs + 1 → (c : ℕ) → IsBlock n c → IsMarked w c
+all_marked n count w e long c is =
+    ap (λ (l : List Bool). get_or l c false) e ∙ get_or-replicate count c true false (let m = is.most in omega (arith, m, long))
+
+pub by_block_are : (n : Parts) (w : List Bool) (bs : List (List Feed)) (marks : List Bool) → IsNet n → ((c : ℕ) → IsBlock n c → IsMarked w c) → Gathered n (OfBlocks (IsSender n w Each) (length n.specs)) bs
+    → AreAtStart n marks → AreByBlock n (record { reaching = bs; at_start = marks })
+by_block_are n w bs marks net all g start = record {
   reaching_long = g.long;
   at_start_long = start.long;
-  reaching_rise = rise n Each bs net g;
-  reaching_are = λ b q. let is = are n Each bs net g b q in ((λ h. (is.0 h).1), λ r. is.1 (tt, r));
+  reaching_rise = rise n (IsSender n w Each) bs net g;
+  reaching_are = λ b q. let is = are n (IsSender n w Each) bs net g b q in ((λ h. (is.0 h).1), λ r. is.1 (all q.block (reaches_output n q net r).block, r));
   at_start_is = at;
 }
   where

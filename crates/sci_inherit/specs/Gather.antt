@@ -1,7 +1,8 @@
 -- The lists by source and by block, as they are made.
-use Rattle.std.specs.Prelude.{◌≡◌, ℕ, suc, ◌+◌, ◌<◌, ◌⊎◌, ◌↔◌, true, List, length, Contains, nat_eq}
+use Rattle.std.specs.Prelude.{◌≡◌, ℕ, suc, ◌+◌, ◌<◌, ◌⊎◌, ◌↔◌, Bool, true, List, length, Contains, nat_eq}
 use Rattle.std.specs.List.{IsDistinct}
 use Rattle.sci_loop.specs.Lists.{list_at, Adds}
+use Rattle.sci_loop.specs.Walk.{IsMarked}
 use Rattle.sci_net.specs.declared.Feed.{Feed}
 use Rattle.sci_net.specs.declared.Source.{Source}
 use Rattle.sci_net.specs.Parts.{Parts, AreRising, precedes}
@@ -55,30 +56,24 @@ pub record Gathered (n : Parts) (done : Feed → Type 0) (ls : List (List Feed))
   pub exactly : (p : ℕ) (q : Feed) → Contains (list_at ls p) q ↔ (done q × Reaches n q (suc p))
 
 -- the activation outputs of b are gathered
-abbrev pub IsSender : Parts → Senders → ℕ → Type 0
-IsSender n Each b = Unit {0}
-IsSender n Synchronous b = IsSync n b
+abbrev pub IsSender : Parts → List Bool → Senders → ℕ → Type 0
+IsSender n w Each b = IsMarked w b
+IsSender n w Synchronous b = IsMarked w b × IsSync n b
 
 -- those of the senders among the first k blocks
-pub record OfBlocks (n : Parts) (s : Senders) (k : ℕ) (q : Feed) : Type 0 where
-  pub sender : IsSender n s q.block
+pub record OfBlocks (sends : ℕ → Type 0) (k : ℕ) (q : Feed) : Type 0 where
+  pub sender : sends q.block
   pub below : q.block < k + 1
 
 -- those of the senders before b, and the first m of b
-pub record OfPorts (n : Parts) (s : Senders) (b m : ℕ) (q : Feed) : Type 0 where
-  pub sender : IsSender n s q.block
+pub record OfPorts (sends : ℕ → Type 0) (b m : ℕ) (q : Feed) : Type 0 where
+  pub sender : sends q.block
   pub below : (q.block < b) ⊎ ((q.block ≡ b) × (q.port < m + 1))
 
 -- the blocks that these activation inputs are of
 pub record IsFed (fs : List Fed) (b : ℕ) : Type 0 where
   pub input : ℕ
   pub has : Contains fs (record { block = b; input = input })
-
--- the same of the first k rows
-pub record IsFedUpto (rows : List (List Fed)) (k b : ℕ) : Type 0 where
-  pub port : ℕ
-  pub below : port < k
-  pub fed : IsFed (list_at rows port) b
 
 -- the blocks that a branch of c reaches, each once
 pub record AreOnward (n : Parts) (c : ℕ) (bs : List ℕ) : Type 0 where

@@ -1,4 +1,5 @@
 pub mod Origins
 pub mod Links
+pub mod Live
 pub mod Gather
 pub mod ByBlock

@@ -2,11 +2,13 @@
 use Rattle.std.specs.Prelude.{◌≡◌, ℕ, ◌+◌, ◌<◌, ◌≤◌, ◌⊎◌, ◌↔◌, Bool, true, ◌&&◌, ◌||◌, nat_lt, nat_eq, List, length, map, AllPairs, Contains, Vec}
 use Rattle.std.specs.declared.alloc.Global.{Global}
 use Rattle.sci_loop.specs.Lists.{plain, list_at}
+use Rattle.sci_loop.specs.Walk.{IsMarked}
 use Rattle.sci_net.specs.declared.Feed.{Feed}
 use Rattle.sci_net.specs.Parts.{Parts, IsBlock, spec_of, wire_of, feeds_of}
-use Rattle.sci_reaction.specs.Links.{Supplies, Inherits}
+use Rattle.sci_reaction.specs.Links.{Supplies, Feeds, Inherits}
 use Rattle.sci_inherit.specs.declared.Fed.{Fed}
 use Rattle.sci_inherit.specs.declared.links.Links.{Links}
+use Rattle.sci_inherit.specs.declared.rows.FedRows.{FedRows}
 
 -- of the first k steps, one gives it
 pub record Upto {P X : Type 0} (gives : ℕ → P → X → Type 0) (k : ℕ) (p : P) (x : X) : Type 0 where
@@ -34,6 +36,43 @@ pub record HeirGiven (n : Parts) (k a x : ℕ) : Type 0 where
 -- the heirs of each block, by number
 abbrev pub AreHeirs : Parts → List (List ℕ) → Type 0
 AreHeirs n ls = (a b : ℕ) → Contains (list_at ls a) b ↔ IsHeir n a b
+
+-- ---- what is fed, by block
+
+-- an activation output of c feeds b
+pub record FeedsSome (n : Parts) (c b : ℕ) : Type 0 where
+  pub port : ℕ
+  pub feeds : Feeds n (record { block = c; port = port }) b
+
+-- the sender gets the block
+pub record IsTarget (sender block a x : ℕ) : Type 0 where
+  pub from : a ≡ sender
+  pub is : block ≡ x
+
+-- each block with one of these activation outputs gets the block
+pub record SenderGets (fs : List Feed) (block a x : ℕ) : Type 0 where
+  pub port : ℕ
+  pub has : Contains fs (record { block = a; port = port })
+  pub is : block ≡ x
+
+-- those that feed activation input k + 1 of b get b
+abbrev pub InputTargets : Parts → ℕ → ℕ → ℕ → ℕ → Type 0
+InputTargets n b k = SenderGets (feeds_of n b (k + 1)) b
+
+-- those that feed block k + 1 get it
+abbrev pub TargetGiven : Parts → ℕ → ℕ → ℕ → Type 0
+TargetGiven n k = Upto (InputTargets n (k + 1)) (spec_of n (k + 1)).evtin
+
+-- the blocks that each block's activation outputs feed, by number
+abbrev pub AreTargets : Parts → List (List ℕ) → Type 0
+AreTargets n ls = (a b : ℕ) → Contains (list_at ls a) b ↔ FeedsSome n a b
+
+-- all links by block
+pub record AreLinks (n : Parts) (l : Links) : Type 0 where
+  pub heirs_long : length l.heirs.items ≡ length n.specs + 1
+  pub heirs : AreHeirs n (plain l.heirs.items)
+  pub targets_long : length l.targets.items ≡ length n.specs + 1
+  pub targets : AreTargets n (plain l.targets.items)
 
 -- ---- what is fed: rows by number of the block and of the port, both counted from 0, which is none
 
@@ -83,36 +122,40 @@ pub record Fills {X : Type 0} (more : Feed → X → Type 0) (old new : List (Li
   pub wide : (b : ℕ) → length (list_at new b) ≡ length (list_at old b)
   pub exactly : (q : Feed) (x : X) → Contains (row_at new q) x ↔ (Contains (row_at old q) x ⊎ more q x)
 
--- each of these activation outputs gets f
-pub record FeedGets (fs : List Feed) (f : Fed) (q : Feed) (x : Fed) : Type 0 where
-  pub has : Contains fs q
+-- this activation output gets f
+pub record RowGets (feed : Feed) (f : Fed) (q : Feed) (x : Fed) : Type 0 where
+  pub at : feed ≡ q
   pub is : f ≡ x
 
+-- each of these activation outputs gets f, if its block is wanted
+pub record FeedGets (w : List Bool) (fs : List Feed) (f : Fed) (q : Feed) (x : Fed) : Type 0 where
+  pub has : Contains fs q
+  pub is : f ≡ x
+  pub wanted : IsMarked w q.block
+
 -- those that feed activation input k + 1 of b get it
-abbrev pub InputFed : Parts → ℕ → ℕ → Feed → Fed → Type 0
-InputFed n b k = FeedGets (feeds_of n b (k + 1)) (record { block = b; input = k + 1 })
+abbrev pub InputFed : Parts → List Bool → ℕ → ℕ → Feed → Fed → Type 0
+InputFed n w b k = FeedGets w (feeds_of n b (k + 1)) (record { block = b; input = k + 1 })
 
 -- those that feed block k + 1 get its activation inputs
-abbrev pub BlockFed : Parts → ℕ → Feed → Fed → Type 0
-BlockFed n k = Upto (InputFed n (k + 1)) (spec_of n (k + 1)).evtin
+abbrev pub BlockFed : Parts → List Bool → ℕ → Feed → Fed → Type 0
+BlockFed n w k = Upto (InputFed n w (k + 1)) (spec_of n (k + 1)).evtin
 
 -- the first k blocks' activation inputs have been given to the outputs that feed them
-pub record AreFilled (n : Parts) (k : ℕ) (rows : List (List (List Fed))) : Type 0 where
+pub record AreFilled (n : Parts) (w : List Bool) (k : ℕ) (rows : List (List (List Fed))) : Type 0 where
   pub have_rows : HaveRows n rows
-  pub exactly : (q : Feed) (f : Fed) → Contains (row_at rows q) f ↔ Upto (BlockFed n) k q f
+  pub exactly : (q : Feed) (f : Fed) → Contains (row_at rows q) f ↔ Upto (BlockFed n w) k q f
 
 -- the activation inputs that an output feeds
 abbrev pub AreFedBy : Parts → Feed → List Fed → Type 0
 AreFedBy n q fs = (f : Fed) → Contains fs f ↔ Contains (feeds_of n f.block f.input) q
 
--- the same of each output
-abbrev pub AreRows : Parts → List (List (List Fed)) → Type 0
-AreRows n rows = (q : Feed) → AreFedBy n q (row_at rows q)
+-- the same of each output of the blocks that are wanted, and nothing of the others
+abbrev pub AreRows : Parts → List Bool → List (List (List Fed)) → Type 0
+AreRows n w rows = (q : Feed) (f : Fed) → Contains (row_at rows q) f ↔ (IsMarked w q.block × Contains (feeds_of n f.block f.input) q)
 
--- all links
-pub record AreLinks (n : Parts) (l : Links) : Type 0 where
-  pub heirs_long : length l.heirs.items ≡ length n.specs + 1
-  pub heirs : AreHeirs n (plain l.heirs.items)
-  pub have_rows : HaveRows n (plain_rows l.fed.items)
-  pub rows : AreRows n (plain_rows l.fed.items)
-  pub in_order : (q : Feed) → AreInOrder (row_at (plain_rows l.fed.items) q)
+pub record AreFedRows (n : Parts) (r : FedRows) : Type 0 where
+  pub wanted_long : length r.wanted.items ≡ length n.specs + 1
+  pub have_rows : HaveRows n (plain_rows r.fed.items)
+  pub rows : AreRows n r.wanted.items (plain_rows r.fed.items)
+  pub in_order : (q : Feed) → AreInOrder (row_at (plain_rows r.fed.items) q)

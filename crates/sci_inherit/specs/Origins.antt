@@ -10,9 +10,10 @@ use Rattle.sci_reaction.specs.Active.{Reaches, IsAlways, IsSync}
 use Rattle.sci_reaction.specs.Depends.{Conditions}
 use Rattle.sci_inherit.specs.declared.Fed.{Fed}
 use Rattle.sci_inherit.specs.Links.{AreInOrder}
+use Rattle.sci_inherit.specs.Live.{IsLive}
 
 -- By source, in the net's order: the blocks that it activates whatever the values are, and the activation inputs that it feeds. By block,
--- counted from 1: the activation outputs of synchronous blocks that reach it. By number, counted from 0, which is no block: the blocks that
+-- counted from 1: the activation outputs that reach it of synchronous blocks that some source may activate. By number, counted from 0, which is no block: the blocks that
 -- a branch of the block reaches.
 pub record Origins : Type 0 where
   pub always : List (List ℕ)
@@ -34,6 +35,6 @@ pub record AreOrigins (n : Parts) (o : Origins) : Type 0 where
   pub feeding_are : (k : ℕ) (f : Fed) → k < length (sources_of n) → Contains (list_at o.feeding k) f ↔ SourceFeeds n (source_of n k) f.block f.input
   pub feeding_in_order : (k : ℕ) → k < length (sources_of n) → AreInOrder (list_at o.feeding k)
   pub branches_rise : (b : ℕ) → AreRising (numbered [] o.branches b)
-  pub branches_are : (b : ℕ) (q : Feed) → Contains (numbered [] o.branches b) q ↔ (IsSync n q.block × Reaches n q b)
+  pub branches_are : (b : ℕ) (q : Feed) → Contains (numbered [] o.branches b) q ↔ (IsLive n q.block × IsSync n q.block × Reaches n q b)
   pub onward_once : (c : ℕ) → IsDistinct nat_eq (slice_index_or o.onward c [])
   pub onward_are : (c b : ℕ) → Contains (slice_index_or o.onward c []) b ↔ Conditions n c b

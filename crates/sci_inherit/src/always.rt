@@ -1,14 +1,16 @@
 // The lists by source: the activation inputs that it feeds, and the blocks that it activates whatever the values are.
-ghost use Rattle.std.specs.Prelude.{◌≡◌, ℕ, ◌≤◌, ◌+◌, ◌-◌, ◌↔◌, ◌++◌, length, map, Contains, IfOk, OnOk, IsTrue, vec_len};
+ghost use Rattle.std.specs.Prelude.{◌≡◌, ℕ, ◌≤◌, ◌+◌, ◌-◌, ◌↔◌, length, map, Contains, IfOk, OnOk, IsTrue, vec_len};
 ghost use Rattle.sci_loop.specs.Lists.{plain};
 ghost use Rattle.sci_net.specs.Sources.{sources_of, source_of};
 ghost use Rattle.sci_reaction.specs.Links.{IsConstant, IsSource};
 ghost use Rattle.sci_reaction.specs.Active.{IsAlways};
-ghost use Rattle.sci_inherit.specs.Links.{AreLinks, AreInOrder};
+ghost use Rattle.sci_inherit.specs.Links.{AreLinks, AreFedRows, AreInOrder};
+ghost use Rattle.sci_inherit.specs.Live.{HaveSources};
 ghost use Rattle.sci_inherit.specs.Gather.{AreEach, AreFeeding, AreSetOff, AreAlways, AreConstants};
 
 use crate::Fed;
 use crate::links::Links;
+use crate::rows::FedRows;
 use sci_base::NoMemory;
 use sci_loop::walk::Walk;
 use sci_net::{Net, Source};
@@ -39,8 +41,8 @@ fn push_constant(constants: &mut Vec<u32>, net: &Net, block: u32) -> Result<(), 
     }
 }
 
-// The blocks that have neither inputs nor activation inputs.
-fn constants(alloc: Global, net: &Net) -> Result<Vec<u32>, NoMemory>
+/// The blocks that have neither inputs nor activation inputs.
+pub fn constants(alloc: Global, net: &Net) -> Result<Vec<u32>, NoMemory>
     ensures { IfOk result (λ v. AreConstants net.now (length net.now.specs) v.items) }
 {
     let mut constants = Vec::new(alloc);
@@ -48,16 +50,6 @@ fn constants(alloc: Global, net: &Net) -> Result<Vec<u32>, NoMemory>
         push_constant(&mut constants, net, at + 1)?;
     }
     Ok(constants)
-}
-
-/// Puts the blocks of some activation inputs.
-pub fn push_blocks(blocks: &mut Vec<u32>, fed: &[Fed]) -> Result<(), NoMemory>
-    ensures { OnOk result (blocks.new.items ≡ blocks.old.items ++ map (λ f. f.block) fed.now) }
-{
-    for each in fed {
-        blocks.push(each.block)?;
-    }
-    Ok(())
 }
 
 /// The blocks of some activation inputs.
@@ -72,28 +64,30 @@ pub fn blocks_of(alloc: Global, fed: &[Fed]) -> Result<Vec<u32>, NoMemory>
 }
 
 // The activation inputs that a source feeds.
-fn fed_by<'a>(_net: &Net, links: &'a Links, source: Source) -> &'a [Fed]
-    requires links { AreLinks _net.now links.now }
+fn fed_by<'a>(_net: &Net, rows: &'a FedRows, source: Source) -> &'a [Fed]
+    requires rows { AreFedRows _net.now rows.now }
+    requires wanted { HaveSources _net.now rows.now.wanted.items }
     requires source { IsSource _net.now source }
     ensures feeding { AreFeeding _net.now source result.now }
     ensures in_order { AreInOrder result.now }
 {
     match source {
         Source::Start => &[],
-        Source::Port(feed) => links.fed[feed.block as usize][feed.port as usize].as_slice(),
+        Source::Port(feed) => rows.fed[feed.block as usize][feed.port as usize].as_slice(),
     }
 }
 
 /// By source, the activation inputs that it feeds, by block and input, each once.
-pub fn feeding(alloc: Global, net: &Net, links: &Links) -> Result<Vec<Vec<Fed>>, NoMemory>
-    requires { AreLinks net.now links.now }
+pub fn feeding(alloc: Global, net: &Net, rows: &FedRows) -> Result<Vec<Vec<Fed>>, NoMemory>
+    requires rows { AreFedRows net.now rows.now }
+    requires wanted { HaveSources net.now rows.now.wanted.items }
     ensures feeding { IfOk result (λ v. AreEach (λ k fs. AreFeeding net.now (source_of net.now k) fs) (plain v.items)) }
     ensures in_order { IfOk result (λ v. AreEach (λ k fs. AreInOrder fs) (plain v.items)) }
     ensures len { IfOk result (λ v. vec_len v ≡ length (sources_of net.now)) }
 {
     let mut feeding = Vec::new(alloc);
     for at in 0..net.source_count() {
-        let fed = fed_by(net, links, net.source(at));
+        let fed = fed_by(net, rows, net.source(at));
         feeding.push(Vec::from_slice(alloc, fed)?)?;
     }
     Ok(feeding)

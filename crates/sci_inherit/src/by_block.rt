@@ -7,6 +7,7 @@ ghost use Rattle.sci_inherit.specs.ByBlock.{AreByBlock, AreMarksOf, AreAtStart};
 use crate::always::find_always;
 use crate::gather::{Senders, reaching};
 use crate::links::Links;
+use crate::rows::FedRows;
 use sci_base::NoMemory;
 use sci_loop::walk::Walk;
 use sci_net::{Feed, Net, Source};
@@ -80,8 +81,10 @@ pub fn made(alloc: Global, net: &Net) -> Result<ReachByBlock, NoMemory>
 {
     net.well_formed();
     let links = Links::of(alloc, net)?;
+    let all = vec![in alloc; true; net.len() as usize + 1]?;
+    let rows = FedRows::of(alloc, net, all)?;
     let mut walk = Walk::new(alloc, net.len() as usize + 1)?;
-    let reaching = reaching(alloc, net, &links, &mut walk, Senders::Each)?;
+    let reaching = reaching(alloc, net, &links, &rows, &mut walk, Senders::Each)?;
     let at_start = at_start(alloc, net, &links, &mut walk)?;
     Ok(ReachByBlock { reaching, at_start })
 }

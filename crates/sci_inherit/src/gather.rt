@@ -3,23 +3,24 @@ ghost use Rattle.std.specs.Prelude.{◌≡◌, ℕ, ◌≤◌, ◌+◌, ◌-◌,
 ghost use Rattle.std.specs.List.{IsDistinct};
 ghost use Rattle.sci_loop.specs.Lists.{plain};
 ghost use Rattle.sci_reaction.specs.Active.{Reaches, IsSync};
-ghost use Rattle.sci_inherit.specs.Links.{AreFedBy, AreLinks};
-ghost use Rattle.sci_inherit.specs.Gather.{AreEach, Pushes, IsSender, Gathered, OfBlocks, OfPorts, IsFedUpto, AreOnward};
+ghost use Rattle.sci_inherit.specs.Links.{AreFedBy, AreLinks, AreFedRows};
+ghost use Rattle.sci_inherit.specs.Gather.{AreEach, Pushes, IsSender, Gathered, OfBlocks, AreOnward};
 
 use crate::Fed;
-use crate::always::{blocks_of, push_blocks};
+use crate::always::blocks_of;
 use crate::links::Links;
+use crate::rows::FedRows;
 use sci_base::NoMemory;
 use sci_loop::walk::{Walk, empty_lists, push_at};
 use sci_net::{Feed, Net};
 use std::alloc::Global;
 
-/// The blocks whose activation outputs are gathered.
+/// The blocks whose activation outputs are gathered, of those whose rows are filled.
 #[derive(Clone, Copy, Drop)]
 pub enum Senders {
-    /// All blocks.
+    /// All of them.
     Each,
-    /// The synchronous blocks.
+    /// The synchronous ones.
     Synchronous,
 }
 
@@ -66,21 +67,23 @@ fn gather_ports(
     reaching: &mut Vec<Vec<Feed>>,
     net: &Net,
     links: &Links,
+    rows: &FedRows,
     walk: &mut Walk,
     _senders: Senders,
     block: u32,
 ) -> Result<(), NoMemory>
     requires least { 1 ≤ block }
     requires most { block ≤ length net.now.specs }
-    requires sender { IsSender net.now _senders block }
+    requires sender { IsSender net.now rows.now.wanted.items _senders block }
     requires links { AreLinks net.now links.now }
+    requires rows { AreFedRows net.now rows.now }
     requires walk { walk.old.count ≡ length net.now.specs + 1 }
-    requires gathered { Gathered net.now (OfBlocks net.now _senders (block - 1)) (plain reaching.old.items) }
-    ensures gathered { OnOk result (Gathered net.now (OfBlocks net.now _senders block) (plain reaching.new.items)) }
+    requires gathered { Gathered net.now (OfBlocks (IsSender net.now rows.now.wanted.items _senders) (block - 1)) (plain reaching.old.items) }
+    ensures gathered { OnOk result (Gathered net.now (OfBlocks (IsSender net.now rows.now.wanted.items _senders) block) (plain reaching.new.items)) }
     ensures count { walk.new.count ≡ walk.old.count }
 {
     net.well_formed();
-    let rows = &links.fed[block as usize];
+    let fed = &rows.fed[block as usize];
     for at in 0..net.spec(block).evtout {
         let feed = Feed {
             block,
@@ -93,21 +96,22 @@ fn gather_ports(
             links,
             walk,
             feed,
-            &rows[at as usize + 1],
+            &fed[at as usize + 1],
         )?;
     }
     Ok(())
 }
 
 // Whether the activation outputs of a block are gathered.
-fn is_sender(net: &Net, senders: Senders, block: u32) -> bool
+fn is_sender(net: &Net, rows: &FedRows, senders: Senders, block: u32) -> bool
     requires least { 1 ≤ block }
     requires most { block ≤ length net.now.specs }
-    ensures { IsTrue result ↔ IsSender net.now senders block }
+    requires rows { AreFedRows net.now rows.now }
+    ensures { IsTrue result ↔ IsSender net.now rows.now.wanted.items senders block }
 {
     match senders {
-        Senders::Each => true,
-        Senders::Synchronous => net.spec(block).kind.is_sync(),
+        Senders::Each => rows.wanted[block as usize],
+        Senders::Synchronous => rows.wanted[block as usize] && net.spec(block).kind.is_sync(),
     }
 }
 
@@ -117,6 +121,7 @@ fn gather_block(
     reaching: &mut Vec<Vec<Feed>>,
     net: &Net,
     links: &Links,
+    rows: &FedRows,
     walk: &mut Walk,
     senders: Senders,
     block: u32,
@@ -124,13 +129,14 @@ fn gather_block(
     requires least { 1 ≤ block }
     requires most { block ≤ length net.now.specs }
     requires links { AreLinks net.now links.now }
+    requires rows { AreFedRows net.now rows.now }
     requires walk { walk.old.count ≡ length net.now.specs + 1 }
-    requires gathered { Gathered net.now (OfBlocks net.now senders (block - 1)) (plain reaching.old.items) }
-    ensures gathered { OnOk result (Gathered net.now (OfBlocks net.now senders block) (plain reaching.new.items)) }
+    requires gathered { Gathered net.now (OfBlocks (IsSender net.now rows.now.wanted.items senders) (block - 1)) (plain reaching.old.items) }
+    ensures gathered { OnOk result (Gathered net.now (OfBlocks (IsSender net.now rows.now.wanted.items senders) block) (plain reaching.new.items)) }
     ensures count { walk.new.count ≡ walk.old.count }
 {
-    if is_sender(net, senders, block) {
-        gather_ports(alloc, reaching, net, links, walk, senders, block)
+    if is_sender(net, rows, senders, block) {
+        gather_ports(alloc, reaching, net, links, rows, walk, senders, block)
     } else {
         Ok(())
     }
@@ -141,31 +147,31 @@ pub fn reaching(
     alloc: Global,
     net: &Net,
     links: &Links,
+    rows: &FedRows,
     walk: &mut Walk,
     senders: Senders,
 ) -> Result<Vec<Vec<Feed>>, NoMemory>
     requires links { AreLinks net.now links.now }
+    requires rows { AreFedRows net.now rows.now }
     requires walk { walk.old.count ≡ length net.now.specs + 1 }
-    ensures gathered { IfOk result (λ v. Gathered net.now (OfBlocks net.now senders (length net.now.specs)) (plain v.items)) }
+    ensures gathered { IfOk result (λ v. Gathered net.now (OfBlocks (IsSender net.now rows.now.wanted.items senders) (length net.now.specs)) (plain v.items)) }
     ensures count { walk.new.count ≡ walk.old.count }
 {
     net.well_formed();
     let mut reaching = empty_lists(alloc, net.len() as usize)?;
     for at in 0..net.len() {
-        gather_block(alloc, &mut reaching, net, links, walk, senders, at + 1)?;
+        gather_block(
+            alloc,
+            &mut reaching,
+            net,
+            links,
+            rows,
+            walk,
+            senders,
+            at + 1,
+        )?;
     }
     Ok(reaching)
-}
-
-// The blocks that the activation inputs in some rows are of.
-fn blocks_in(alloc: Global, rows: &[Vec<Fed>]) -> Result<Vec<u32>, NoMemory>
-    ensures { IfOk result (λ v. (b : ℕ) → Contains v.items b ↔ IsFedUpto (plain rows.now) (length rows.now) b) }
-{
-    let mut blocks = Vec::new(alloc);
-    for row in rows {
-        push_blocks(&mut blocks, row)?;
-    }
-    Ok(blocks)
 }
 
 // The blocks that the activation outputs of a synchronous block reach.
@@ -185,8 +191,7 @@ fn onward_of_sync(
     ensures count { walk.new.count ≡ walk.old.count }
 {
     net.well_formed();
-    let starts = blocks_in(alloc, &links.fed[block as usize])?;
-    walk.walk(&links.heirs, &starts)?;
+    walk.walk(&links.heirs, &links.targets[block as usize])?;
     Ok(Vec::from_slice(alloc, walk.found())?)
 }
 
@@ -223,6 +228,7 @@ pub fn onward(
     requires walk { walk.old.count ≡ length net.now.specs + 1 }
     ensures onward { IfOk result (λ v. AreEach (AreOnward net.now) (plain v.items)) }
     ensures len { IfOk result (λ v. vec_len v ≡ length net.now.specs + 1) }
+    ensures count { walk.new.count ≡ walk.old.count }
 {
     net.well_formed();
     let mut onward = Vec::new(alloc);

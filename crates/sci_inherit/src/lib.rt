@@ -9,13 +9,17 @@ mod always;
 mod by_block;
 mod gather;
 mod links;
+mod live;
 mod reach;
+mod rows;
 
 use always::{always, feeding};
 pub use by_block::ReachByBlock;
 use gather::{Senders, onward, reaching};
 use links::Links;
+use live::{find_live, wanted};
 pub use reach::{Reach, contains};
+use rows::FedRows;
 use sci_base::NoMemory;
 use sci_loop::walk::Walk;
 use sci_net::Net;
@@ -35,10 +39,13 @@ fn made(alloc: Global, net: &Net) -> Result<Reach, NoMemory>
     net.well_formed();
     let links = Links::of(alloc, net)?;
     let mut walk = Walk::new(alloc, net.len() as usize + 1)?;
-    let feeding = feeding(alloc, net, &links)?;
-    let always = always(alloc, net, &links, &mut walk, &feeding)?;
-    let branches = reaching(alloc, net, &links, &mut walk, Senders::Synchronous)?;
     let onward = onward(alloc, net, &links, &mut walk)?;
+    find_live(alloc, net, &links, &onward, &mut walk)?;
+    let wanted = wanted(alloc, net, &walk)?;
+    let rows = FedRows::of(alloc, net, wanted)?;
+    let feeding = feeding(alloc, net, &rows)?;
+    let always = always(alloc, net, &links, &mut walk, &feeding)?;
+    let branches = reaching(alloc, net, &links, &rows, &mut walk, Senders::Synchronous)?;
     Ok(Reach {
         always,
         feeding,
@@ -47,7 +54,8 @@ fn made(alloc: Global, net: &Net) -> Result<Reach, NoMemory>
     })
 }
 
-/// What activates each block of a net. Want of memory is the only error.
+/// What activates each block of a net. It takes time and memory for what each source and each activation output of a block that some source
+/// may activate reaches; of the other synchronous blocks it finds what each reaches, once for all its outputs. Want of memory is the only error.
 pub fn origins(alloc: Global, net: &Net) -> Result<Reach, NoMemory>
     ensures { IfOk result (λ o. AreOrigins net.now o) }
 {

@@ -1,23 +1,21 @@
-// The links of a net, from where they begin: the blocks that inherit from each block, and what each activation output feeds.
-ghost use Rattle.std.specs.Prelude.{◌≡◌, ◌≤◌, ◌+◌, ◌-◌, [], ◌∷◌, length, All, Contains, IfOk, OnOk, vec_len};
+// The links of a net by block, from where they begin: the blocks that inherit from each block, and those that its activation outputs feed.
+ghost use Rattle.std.specs.Prelude.{◌≡◌, ◌≤◌, ◌<◌, ◌+◌, ◌-◌, length, All, Contains, IfOk, OnOk, IsTrue, vec_len};
 ghost use Rattle.sci_loop.specs.Lists.{plain, Adds};
-ghost use Rattle.sci_net.specs.Parts.{spec_of, AreRising};
-ghost use Rattle.sci_net.specs.declared.Feed.{Feed};
-ghost use Rattle.sci_inherit.specs.Links.{row_at, AreInOrder, ComeBefore, Appends, InputGives, HeirGiven, AreHeirs, plain_rows, HasRow, HaveRows, AreEmptyRows, Fills, FeedGets, BlockFed, AreRows, Upto};
+ghost use Rattle.sci_net.specs.Parts.{spec_of};
+ghost use Rattle.sci_inherit.specs.Links.{InputGives, HeirGiven, AreHeirs, IsTarget, SenderGets, TargetGiven, AreTargets, Upto};
 
-use crate::Fed;
 use sci_base::NoMemory;
 use sci_loop::walk::{empty_lists, push_at};
 use sci_net::{Feed, Net};
 use std::alloc::Global;
 
-/// The links of a net by number, from 0 on, which is no block and no port.
+/// The links of a net by number, from 0 on, which is no block.
 #[derive(Drop)]
 pub struct Links {
     /// By block, the blocks that inherit and have it as a source block of an input.
     pub heirs: Vec<Vec<u32>>,
-    /// By block and port of an activation output, the activation inputs that it feeds.
-    pub fed: Vec<Vec<Vec<Fed>>>,
+    /// By block, the blocks that its activation outputs feed.
+    pub targets: Vec<Vec<u32>>,
 }
 
 // Gives a block to the source blocks of its inputs.
@@ -63,69 +61,64 @@ fn heirs(alloc: Global, net: &Net) -> Result<Vec<Vec<u32>>, NoMemory>
     Ok(heirs)
 }
 
-// So many rows for each block as it has activation outputs, and one more, all empty.
-fn empty_rows(alloc: Global, net: &Net) -> Result<Vec<Vec<Vec<Fed>>>, NoMemory>
-    ensures { IfOk result (λ v. AreEmptyRows net.now (length net.now.specs) (plain_rows v.items)) }
+// Whether a block stands at the end of a list.
+fn ends_with(list: &[u32], block: u32) -> bool
+    ensures { IsTrue result → Contains list.now block }
 {
-    let mut rows = Vec::new(alloc);
-    rows.push(Vec::new(alloc))?;
-    for at in 0..net.len() {
-        rows.push(empty_lists(alloc, net.spec(at + 1).evtout as usize + 1)?)?;
+    list.last() == Some(&block)
+}
+
+// Gives a block to one that feeds it, unless it was given last.
+fn push_target(targets: &mut Vec<Vec<u32>>, sender: u32, block: u32) -> Result<(), NoMemory>
+    requires { sender < vec_len targets.old }
+    ensures targets { OnOk result (Adds (IsTarget sender block) (plain targets.old.items) (plain targets.new.items)) }
+    ensures len { OnOk result (vec_len targets.new ≡ vec_len targets.old) }
+{
+    if ends_with(&targets[sender as usize], block) {
+        Ok(())
+    } else {
+        push_at(targets, sender as usize, block)
     }
-    Ok(rows)
 }
 
-// Gives an activation input to an output that feeds it.
-fn push_to_feed(rows: &mut Vec<Vec<Vec<Fed>>>, feed: Feed, fed: Fed) -> Result<(), NoMemory>
-    requires { HasRow (plain_rows rows.old.items) feed }
-    ensures fills { OnOk result (Fills (FeedGets (feed ∷ []) fed) (plain_rows rows.old.items) (plain_rows rows.new.items)) }
-    ensures appends { OnOk result (Appends (λ q. feed ≡ q) fed (plain_rows rows.old.items) (plain_rows rows.new.items)) }
-{
-    push_at(&mut rows[feed.block as usize], feed.port as usize, fed)
-}
-
-// Gives an activation input to all outputs that feed it.
-fn push_to_feeds(rows: &mut Vec<Vec<Vec<Fed>>>, feeds: &[Feed], fed: Fed) -> Result<(), NoMemory>
-    requires rows { All (HasRow (plain_rows rows.old.items)) feeds.now }
-    requires rising { AreRising feeds.now }
-    ensures fills { OnOk result (Fills (FeedGets feeds.now fed) (plain_rows rows.old.items) (plain_rows rows.new.items)) }
-    ensures appends { OnOk result (Appends (Contains feeds.now) fed (plain_rows rows.old.items) (plain_rows rows.new.items)) }
+// Gives a block to those whose activation outputs these are.
+fn push_to_senders(targets: &mut Vec<Vec<u32>>, feeds: &[Feed], block: u32) -> Result<(), NoMemory>
+    requires { All (λ q. q.block < vec_len targets.old) feeds.now }
+    ensures targets { OnOk result (Adds (SenderGets feeds.now block) (plain targets.old.items) (plain targets.new.items)) }
+    ensures len { OnOk result (vec_len targets.new ≡ vec_len targets.old) }
 {
     for feed in feeds {
-        push_to_feed(rows, *feed, fed)?;
+        push_target(targets, feed.block, block)?;
     }
     Ok(())
 }
 
-// Gives the activation inputs of a block to all outputs that feed them.
-fn push_block(rows: &mut Vec<Vec<Vec<Fed>>>, net: &Net, block: u32) -> Result<(), NoMemory>
+// Gives a block to those that feed one of its activation inputs.
+fn push_inputs(targets: &mut Vec<Vec<u32>>, net: &Net, block: u32) -> Result<(), NoMemory>
     requires least { 1 ≤ block }
     requires most { block ≤ length net.now.specs }
-    requires shape { HaveRows net.now (plain_rows rows.old.items) }
-    requires before { ComeBefore (record { block = block; input = 1 }) (plain_rows rows.old.items) }
-    ensures fills { OnOk result (Fills (BlockFed net.now (block - 1)) (plain_rows rows.old.items) (plain_rows rows.new.items)) }
-    ensures before { OnOk result (ComeBefore (record { block = block + 1; input = 1 }) (plain_rows rows.new.items)) }
+    requires long { vec_len targets.old ≡ length net.now.specs + 1 }
+    ensures targets { OnOk result (Adds (TargetGiven net.now (block - 1)) (plain targets.old.items) (plain targets.new.items)) }
+    ensures len { OnOk result (vec_len targets.new ≡ vec_len targets.old) }
 {
     net.well_formed();
     for at in 0..net.spec(block).evtin {
-        let input = at + 1;
-        push_to_feeds(rows, net.feeds(block, input), Fed { block, input })?;
+        push_to_senders(targets, net.feeds(block, at + 1), block)?;
     }
     Ok(())
 }
 
-// By number of the block and of the port, the activation inputs that the output feeds.
-fn rows(alloc: Global, net: &Net) -> Result<Vec<Vec<Vec<Fed>>>, NoMemory>
-    ensures shape { IfOk result (λ v. HaveRows net.now (plain_rows v.items)) }
-    ensures rows { IfOk result (λ v. AreRows net.now (plain_rows v.items)) }
-    ensures in_order { IfOk result (λ v. (q : Feed) → AreInOrder (row_at (plain_rows v.items) q)) }
+// By number, the blocks that the activation outputs of the block feed.
+fn targets(alloc: Global, net: &Net) -> Result<Vec<Vec<u32>>, NoMemory>
+    ensures targets { IfOk result (λ v. AreTargets net.now (plain v.items)) }
+    ensures len { IfOk result (λ v. vec_len v ≡ length net.now.specs + 1) }
 {
     net.well_formed();
-    let mut rows = empty_rows(alloc, net)?;
+    let mut targets = empty_lists(alloc, net.len() as usize + 1)?;
     for at in 0..net.len() {
-        push_block(&mut rows, net, at + 1)?;
+        push_inputs(&mut targets, net, at + 1)?;
     }
-    Ok(rows)
+    Ok(targets)
 }
 
 impl Links {
@@ -136,7 +129,7 @@ impl Links {
         ensures { IfOk result (λ l. AreLinks net.now l) }
     {
         let heirs = heirs(alloc, net)?;
-        let fed = rows(alloc, net)?;
-        Ok(Links { heirs, fed })
+        let targets = targets(alloc, net)?;
+        Ok(Links { heirs, targets })
     }
 }

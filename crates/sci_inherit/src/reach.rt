@@ -43,8 +43,8 @@ impl Reach {
         self.feeding[source as usize].as_slice()
     }
 
-    /// The activation outputs of synchronous blocks that reach a block, by block and port: those that feed it, or a block from which it
-    /// inherits.
+    /// The activation outputs that reach a block, of synchronous blocks that some source may activate, by block and port: those that feed
+    /// it, or a block from which it inherits.
     pub fn branches(&self, block: u32) -> &[Feed]
         requires least { 1 ≤ block }
         requires most { block ≤ length self.now.branches }

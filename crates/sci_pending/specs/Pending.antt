@@ -38,3 +38,11 @@ programmed p date source = record {
   events = record { date = date; order = p.programmed; source = source } ∷ p.events;
   programmed = p.programmed + 1;
 }
+
+-- the events of the other sources
+abbrev pub without_source : ℕ → List Event → List Event
+without_source source es = filter (λ e. not (e.source == source)) es
+
+-- the source's pending event, where there is one, is taken out, and an event more stands last among those programmed
+abbrev pub replaced : Pending → ℕ → ℕ → Pending
+replaced p date source = programmed (record p { events = without_source source p.events }) date source

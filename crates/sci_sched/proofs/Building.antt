@@ -2,19 +2,21 @@
 use Rattle.std.proofs.Common.{◌≡◌, ℕ, ◌+◌, ◌<◌, ◌↔◌, ⊎_elim, List, [], ◌∷◌, ◌++◌, length, get_or, map, Contains, All, AllPairs, Vec, refl, sym, ap, ap₂, subst, ◌∙◌, arith, length-append}
 use Rattle.std.proofs.lemmas.Bool.{cases_lt}
 use Rattle.std.proofs.lemmas.List.{get_or_default, get_or_append_left, get_or_push, map-append}
-use Rattle.std.proofs.lemmas.List.Elements.{All-contains, All-push}
+use Rattle.std.proofs.lemmas.List.Elements.{All-contains, All-push, Contains-get_or}
 use Rattle.std.specs.declared.alloc.Global.{Global}
 use Rattle.sci_loop.specs.Lists.{plain, list_at}
 use Rattle.sci_net.specs.declared.Feed.{Feed}
 use Rattle.sci_net.specs.declared.Source.{Source}
+use Rattle.sci_net.specs.declared.Source.TheVariants.{Start}
 use Rattle.sci_net.specs.Parts.{Parts, numbered}
 use Rattle.sci_net.specs.Sources.{sources_of, source_of}
-use Rattle.sci_reaction.specs.Links.{SourceFeeds}
+use Rattle.sci_reaction.specs.Links.{SourceFeeds, IsSource}
 use Rattle.sci_reaction.specs.Active.{IsSync, Possible, Reaches}
 use Rattle.sci_reaction.specs.Depends.{Precedes}
 use Rattle.sci_reaction.specs.Equations.{HasBits}
 use Rattle.sci_reaction.specs.Schedule.{Entry as PlainEntry, blocks_of, IsEntry, IsRow, IsSchedule}
 use Rattle.sci_reaction.proofs.Lists.{Has}
+use Rattle.sci_reaction.proofs.Sources.{sources_are}
 use Rattle.sci_reaction.proofs.Rows.{Contains-has, has-Contains}
 use Rattle.sci_inherit.specs.Origins.{Origins, AreOrigins}
 use Rattle.sci_sched.specs.declared.schedule.Entry.{Entry}
@@ -26,10 +28,14 @@ use Rattle.sci_sched.specs.Rows.{IsMarkedEntry, AreEntries, AreRows}
 use Rattle.sci_sched.proofs.Members.{map_from, pairs_of_map}
 use Rattle.sci_sched.proofs.Guarded.{guards_rise, guards_exact}
 
+-- each place in the net's order has a source
+pub is_source : (n : Parts) (k : ℕ) → k < length (sources_of n) → IsSource n (source_of n k)
+is_source n k h = (sources_are n (source_of n k)).0 (Contains-get_or (sources_of n) k Start h)
+
 -- ---- an entry
 
-pub entry_is : (n : Parts) (r : Origins) (s : Source) (m : Marks) (e : Entry) → AreOrigins n r → MarkSource n s m → IsMarkedEntry n r m e → IsEntry n s (entry_of e)
-entry_is n r s m e origins mark is =
+pub entry_is : (n : Parts) (r : Origins) (s : Source) (m : Marks) (e : Entry) → AreOrigins n r → IsSource n s → MarkSource n s m → IsMarkedEntry n r m e → IsEntry n s (entry_of e)
+entry_is n r s m e origins source mark is =
     let b = e.block in
     let qs = numbered [] r.branches b in
     let conditions = list_at (plain m.conditions.items) b in
@@ -40,8 +46,8 @@ entry_is n r s m e origins mark is =
     record {
       always_is = (λ on. (mark.always b).0 (is.always.0 on), λ h. is.always.1 ((mark.always b).1 h));
       mask_is = subst (λ v. HasBits v (SourceFeeds n s b)) (sym is.mask) (mark.masks b);
-      rising = guards_rise n s b conditions qs (origins.branches_rise b) (origins.branches_are b) known e.guards.items is.guards;
-      guards_are = guards_exact n s b conditions qs (origins.branches_rise b) (origins.branches_are b) known e.guards.items is.guards;
+      rising = guards_rise n s source b conditions qs (origins.branches_rise b) (origins.branches_are b) known e.guards.items is.guards;
+      guards_are = guards_exact n s source b conditions qs (origins.branches_rise b) (origins.branches_are b) known e.guards.items is.guards;
     }
 
 -- ---- a row
@@ -63,13 +69,13 @@ all_map P f xs all k d h =
     let r = map_from f xs y (k, h, get_or_default (map f xs) k y d h) in
     subst P r.2 (All-contains (λ x. P (f x)) xs r.0 all r.1)
 
-pub row_is : (n : Parts) (r : Origins) (s : Source) (m : Marks) (bs : List ℕ) (es : List Entry) → AreOrigins n r → MarkSource n s m → AreOrdered n s bs → AreEntries n r m bs es → IsRow n s (row_of es)
-row_is n r s m bs es origins mark is are =
+pub row_is : (n : Parts) (r : Origins) (s : Source) (m : Marks) (bs : List ℕ) (es : List Entry) → AreOrigins n r → IsSource n s → MarkSource n s m → AreOrdered n s bs → AreEntries n r m bs es → IsRow n s (row_of es)
+row_is n r s m bs es origins source mark is are =
     let blocks : blocks_of (row_of es) ≡ bs = blocks_same es ∙ are.blocks_are in
     record {
       exactly = λ b. (λ h. (is.exactly b).0 (subst (λ xs. Contains xs b) blocks h), λ h. subst (λ xs. Contains xs b) (sym blocks) ((is.exactly b).1 h));
       ordered = pairs_of_map (Precedes n s) (λ (e : PlainEntry). e.block) (row_of es) (subst (AllPairs (Precedes n s)) (sym blocks) is.ordered);
-      entries = all_map (IsEntry n s) entry_of es (λ k d h. entry_is n r s m (get_or es k d) origins mark (are.entries_are k d h));
+      entries = all_map (IsEntry n s) entry_of es (λ k d h. entry_is n r s m (get_or es k d) origins source mark (are.entries_are k d h));
     }
 
 -- ---- the rows

@@ -10,6 +10,7 @@ use Rattle.std.proofs.Math.Path.{fun_ext}
 use Rattle.sci_net.specs.declared.Feed.{Feed}
 use Rattle.sci_net.specs.declared.Source.{Source}
 use Rattle.sci_net.specs.Parts.{Parts, IsBlock, IsWired, feeds_of, precedes, AreRising}
+use Rattle.sci_reaction.specs.Links.{IsSource}
 use Rattle.sci_reaction.specs.Active.{IsSync, Possible, Reaches}
 use Rattle.sci_reaction.specs.Equations.{HasBits}
 use Rattle.sci_reaction.specs.Schedule.{Guard as PlainGuard, Entry as PlainEntry, branch_of, IsGuard, IsEntry}
@@ -17,6 +18,7 @@ use Rattle.sci_reaction.proofs.Lists.{Has, and_both, and_true, or_left, or_right
 use Rattle.sci_reaction.proofs.Exists.{same_mask}
 use Rattle.sci_reaction.proofs.OneRow.{same_lists}
 use Rattle.sci_reaction.proofs.Rows.{Contains-has, has-Contains, guard_mask, guard_mask-bits}
+use Rattle.sci_inherit.specs.Live.{IsLive}
 use Rattle.sci_sched.specs.declared.schedule.Guard.{Guard}
 use Rattle.sci_sched.specs.Plain.{guard_of, guards_of}
 use Rattle.sci_sched.specs.Guards.{is_possible, branch_in, AreGuards}
@@ -100,8 +102,13 @@ guard_parts : (g h : PlainGuard) → g.block ≡ h.block → g.port ≡ h.port �
 guard_parts g h p q r =
     ap (λ (v : ℕ). record g { block = v }) p ∙ (ap (λ (v : ℕ). record g { block = h.block; port = v }) q ∙ ap (λ (v : ℕ). record h { mask = v }) r)
 
-module _ (n : Parts) (s : Source) (b : ℕ) (possible : List ℕ) (branches : List Feed) (rise : AreRising branches) (are : (q : Feed) → Contains branches q ↔ (IsSync n q.block × Reaches n q b))
+module _ (n : Parts) (s : Source) (source : IsSource n s) (b : ℕ) (possible : List ℕ) (branches : List Feed) (rise : AreRising branches)
+    (are : (q : Feed) → Contains branches q ↔ (IsLive n q.block × IsSync n q.block × Reaches n q b))
     (mark : (q : Feed) → IsSync n q.block → Reaches n q b → Has possible q.block ↔ Possible n s q.block) where
+  -- what the source may activate is live
+  live : {c : ℕ} → Possible n s c → IsLive n c
+  live p = record { source = s; is_source = source; possible = p }
+
   abbrev Precede : Feed → Feed → Type 0
   Precede p q = precedes p q ≡ true
 
@@ -115,15 +122,15 @@ module _ (n : Parts) (s : Source) (b : ℕ) (possible : List ℕ) (branches : Li
       let f = filter_from (is_possible possible) branches (branch_in x) (subst (λ qs. Contains qs (branch_in x)) is.branches_are (map_to branch_in gs x has)) in
       let a = (are (branch_in x)).0 f.0 in
       record {
-        possible = (mark (branch_in x) a.0 a.1).0 f.1;
-        sync = a.0;
-        reaches = a.1;
+        possible = (mark (branch_in x) a.1 a.2).0 f.1;
+        sync = a.1;
+        reaches = a.2;
         feeds = All-contains (λ (g : Guard). HasBits g.mask (λ p. Contains (feeds_of n b p) (branch_in g))) gs x is.masks_are has;
       }
 
   complete : (gs : List Guard) → AreGuards n possible branches b gs → (g : PlainGuard) → IsGuard n s b g → Contains (guards_of gs) g
   complete gs is g ok =
-      let inside = filter_to (is_possible possible) branches (branch_of g) ((are (branch_of g)).1 (ok.sync, ok.reaches)) ((mark (branch_of g) ok.sync ok.reaches).1 ok.possible) in
+      let inside = filter_to (is_possible possible) branches (branch_of g) ((are (branch_of g)).1 (live ok.possible, ok.sync, ok.reaches)) ((mark (branch_of g) ok.sync ok.reaches).1 ok.possible) in
       let r = map_from branch_in gs (branch_of g) (subst (λ qs. Contains qs (branch_of g)) (sym is.branches_are) inside) in
       let bits = All-contains (λ (h : Guard). HasBits h.mask (λ p. Contains (feeds_of n b p) (branch_in h))) gs r.0 is.masks_are r.1 in
       let same = same_mask (λ p. Contains (feeds_of n b p) (branch_of g)) r.0.mask g.mask (subst (λ q. HasBits r.0.mask (λ p. Contains (feeds_of n b p) q)) r.2 bits) ok.feeds in
@@ -149,12 +156,12 @@ module _ (n : Parts) (s : Source) (b : ℕ) (possible : List ℕ) (branches : Li
           let r = map_from branch_of e.guards q has in
           let g = subst (λ c. IsGuard n s c r.0) at ((ok.guards_are r.0).0 r.1) in
           subst (Contains (filter (is_possible possible) branches)) r.2
-          (filter_to (is_possible possible) branches (branch_of r.0) ((are (branch_of r.0)).1 (g.sync, g.reaches)) ((mark (branch_of r.0) g.sync g.reaches).1 g.possible))
+          (filter_to (is_possible possible) branches (branch_of r.0) ((are (branch_of r.0)).1 (live g.possible, g.sync, g.reaches)) ((mark (branch_of r.0) g.sync g.reaches).1 g.possible))
 
       from : (q : Feed) → Contains (filter (is_possible possible) branches) q → Contains (map branch_of e.guards) q
       from q has =
           let f = filter_from (is_possible possible) branches q has in
           let a = (are q).0 f.0 in
           let g : PlainGuard = record { block = q.block; port = q.port; mask = guard_mask n b q } in
-          let is : IsGuard n s b g = record { possible = (mark q a.0 a.1).0 f.1; sync = a.0; reaches = a.1; feeds = guard_mask-bits n wired b q inside } in
+          let is : IsGuard n s b g = record { possible = (mark q a.1 a.2).0 f.1; sync = a.1; reaches = a.2; feeds = guard_mask-bits n wired b q inside } in
           map_to branch_of e.guards g ((ok.guards_are g).1 (subst (λ c. IsGuard n s c g) (sym at) is))

@@ -13,6 +13,7 @@ use Rattle.sci_net.specs.declared.Source.{Source}
 use Rattle.sci_net.specs.Parts.{Parts, numbered, spec_of, IsBlock, IsActivationOutput, AreRising}
 use Rattle.sci_net.specs.Net.{IsNet}
 use Rattle.sci_net.specs.Sources.{sources_of, source_of}
+use Rattle.sci_reaction.specs.Links.{IsSource}
 use Rattle.sci_reaction.specs.Active.{Reaches, seeded, passed}
 use Rattle.sci_reaction.specs.Depends.{Precedes}
 use Rattle.sci_reaction.specs.Schedule.{Entry as PlainEntry, blocks_of, IsEntry, IsRow, IsSchedule}
@@ -95,7 +96,7 @@ reach_output n net q (passed a b h i u) = reach_output n net q h
 
 module _ (n : Parts) (net : IsNet n) (r : Origins) (origins : AreOrigins n r) where
   branch_output : (b : ℕ) (q : Feed) → Contains (numbered [] r.branches b) q → IsActivationOutput n q.block q.port
-  branch_output b q has = reach_output n net q ((origins.branches_are b q).0 has).1
+  branch_output b q has = reach_output n net q ((origins.branches_are b q).0 has).2
 
   -- the branches of a block are few, and are of blocks
   pub branches_few : (b : ℕ) → length (numbered [] r.branches b) ≤ 133185
@@ -186,7 +187,7 @@ module _ (n : Parts) (net : IsNet n) (s : Source) (bs : List ℕ) (is : AreOrder
   pub row_long : (row : List PlainEntry) → IsRow n s row → length row ≡ length bs
   row_long row ok = sym (length-map row (λ (e : PlainEntry). e.block)) ∙ ap length (row_blocks row ok)
 
-  module _ (r : Origins) (origins : AreOrigins n r) where
+  module _ (source : IsSource n s) (r : Origins) (origins : AreOrigins n r) where
     guards_few : (b : ℕ) → guards_at r bs b ≤ 133185
     guards_few b =
         let short = branches_few n net r origins b in
@@ -203,7 +204,7 @@ module _ (n : Parts) (net : IsNet n) (s : Source) (bs : List ℕ) (is : AreOrder
     closed : (b : ℕ) (q : Feed) → Contains (numbered [] r.branches b) q → Contains bs q.block → Contains bs b
     closed b q has on =
         let o = (origins.branches_are b q).0 has in
-        (is.exactly b).1 (from_guard n s (λ c p. ⊤) q.block q.port ((is.exactly q.block).0 on) o.0 tt o.1)
+        (is.exactly b).1 (from_guard n s (λ c p. ⊤) q.block q.port ((is.exactly q.block).0 on) o.1 tt o.2)
 
     -- what the possible blocks give, and what they have
     given : (counts : List ℕ) → AreCounts r counts → sum_by (λ c. get_or counts c 0) bs ≡ sum_by (guards_at r bs) bs
@@ -224,7 +225,7 @@ module _ (n : Parts) (net : IsNet n) (s : Source) (bs : List ℕ) (is : AreOrder
     row_guards row ok =
         sum_by-members (λ (e : PlainEntry). length e.guards) (guards_at r bs) (λ (e : PlainEntry). e.block) row
         (λ e has.
-        guards_counted n s e.block bs (numbered [] r.branches e.block) (origins.branches_rise e.block) (origins.branches_are e.block) (λ q sync reaches. marked n s bs is.exactly q.block) net.wired
+        guards_counted n s source e.block bs (numbered [] r.branches e.block) (origins.branches_rise e.block) (origins.branches_are e.block) (λ q sync reaches. marked n s bs is.exactly q.block) net.wired
         (block_of e.block (subst (λ xs. Contains xs e.block) (row_blocks row ok) (block_in row e has))) e refl (All-contains (IsEntry n s) row e ok.entries has))
         ∙ ap (λ xs. sum_by (guards_at r bs) xs) (row_blocks row ok)
 

@@ -1,7 +1,6 @@
 -- A tree has at most one flat net.
 use Rattle.std.proofs.Common.{◌≡◌, ℕ, zero, suc, ◌<◌, List, [], ◌∷◌, length, map, refl, sym, ◌∙◌, ap, subst, arith, inl, inr, ◌⊎◌, true, pos}
 use Rattle.std.specs.Prelude.{Ok, Err, Contains, slice_index_or, nat_lt, nat_eq, ◌&&◌}
-use Rattle.sci_base.specs.Outcome.{Outcome, ◌>>=◌}
 use Rattle.sci_diagram.specs.Objects.{Objects}
 use Rattle.sci_forms.specs.declared.spec.Spec.{Spec}
 use Rattle.sci_forms.proofs.TestLemmas.{both_true, either_true, nat_lt_told, nat_same}
@@ -9,10 +8,10 @@ use Rattle.sci_net.specs.declared.Wire.{Wire}
 use Rattle.sci_net.specs.declared.Feed.{Feed}
 use Rattle.sci_net.specs.Parts.{Parts, numbered, no_wire, no_spec, spec_of, wire_of, feeds_of, IsBlock, IsInput, IsActivationInput, precedes, AreRising}
 use Rattle.sci_blocks.specs.declared.class.PortClass.TheVariants.{Input}
-use Rattle.sci_blocks.specs.Blocks.{Placed, parts_of}
-use Rattle.sci_blocks.specs.Wiring.{links_of}
+use Rattle.sci_blocks.specs.Blocks.{Placed}
 use Rattle.sci_flat.specs.Ports.{port}
 use Rattle.sci_flat.proofs.Source.{one_source}
+use Rattle.sci_flat.proofs.Making.{blocks_found}
 use Rattle.sci_flat.specs.Flat.{blocks, block_at, IsWire, IsFeed, IsFlatNet}
 
 -- ---- lists
@@ -84,11 +83,6 @@ rising_same (x ∷ xs) (y ∷ ys) r s f g =
 
 -- ---- nets
 
-both_walks : (o : Outcome (List Placed)) (l : Outcome (Unit {0})) (ps : List Placed) → (o >>= λ qs. l >>= λ _. Ok qs) ≡ Ok ps → (u : Unit {0}) × (o ≡ Ok ps) × (l ≡ Ok u)
-both_walks (Ok qs) (Ok u) ps e = (u, e, refl)
-both_walks (Ok qs) (Err v) ps e = absurd (cc e)
-both_walks (Err v) l ps e = absurd (cc e)
-
 abbrev made_wire : ℕ → ℕ → Wire
 made_wire b p = record { block = b; port = p }
 
@@ -105,8 +99,8 @@ parts_same m n a b c d =
 
 one_wire : (t : Objects) (ps : List Placed) (b k : ℕ) (w x : Wire) → blocks t ≡ Ok ps → IsWire t ps b k w → IsWire t ps b k x → w ≡ x
 one_wire t ps b k w x e h g =
-    let walks = both_walks (parts_of t) (links_of t) ps e in
-    let same = one_source t ps walks.0 walks.1 walks.2 w.block w.port x.block x.port h.least h.most g.least g.most (port (block_at ps b).place Input (pos k)) refl h.fed g.fed in
+    let walks = blocks_found t ps e in
+    let same = one_source t ps tt walks.0 walks.1 w.block w.port x.block x.port h.least h.most g.least g.most (port (block_at ps b).place Input (pos k)) refl h.fed g.fed in
     wire_same w x same.0 same.1
 
 module _ (t : Objects) (m n : Parts) (h : IsFlatNet t m) (k : IsFlatNet t n) where

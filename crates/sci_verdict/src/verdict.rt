@@ -13,8 +13,8 @@ use sci_sched::{measure as schedule_size, plan};
 use sci_timers::timer_net as timers_of;
 use std::alloc::Global;
 
-/// The typed net of a diagram's file, or the first rule that it breaks: of the file's form (1 to 6), of blocks and links (14, 7,
-/// 9, 10, 11, 8; 12, 13), of what feeds each input (15, 16), of types and sizes (17 to 23).
+/// The typed net of a diagram's file, or the first rule that it breaks: of the file's form (1 to 6), of tags (34, 31, 32,
+/// 33), of blocks and links (14, 7, 9, 10, 11, 8; 12, 13), of what feeds each input (15, 16), of types and sizes (17 to 23).
 pub fn typed_net(alloc: Global, bytes: &[u8]) -> Result<Net, Stop>
     requires { length bytes.now ≤ 16777216 }
     ensures { IsTyped bytes.now result }

@@ -99,7 +99,7 @@ fn add_numbered(
     }
 }
 
-/// Adds the steps through a pass-through object; `outer` is the seat of the superblock around it.
+/// Adds the steps through a pass-through object, of which a tag object has none; `outer` is the seat of the superblock around it.
 pub(crate) fn add_through(
     outer: Seat,
     seat: Seat,
@@ -131,5 +131,6 @@ pub(crate) fn add_through(
             seat.port(PortClass::ActivationOutput, 1),
         ),
         PassThrough::PortBlock(class) => add_numbered(outer, seat, class, ipar, steps),
+        PassThrough::Giver(_) | PassThrough::Taker(_) => Ok(()),
     }
 }

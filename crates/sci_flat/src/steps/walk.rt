@@ -1,8 +1,8 @@
 // The walk over a diagram that numbers its ports.
-ghost use Rattle.std.specs.Prelude.{◌≡◌, ◌<◌, ◌^◌, ◌++◌, All, OnOk, IfOk, length};
+ghost use Rattle.std.specs.Prelude.{◌≡◌, ◌<◌, ◌^◌, ◌++◌, All, Some, OnOk, IfOk, length};
 ghost use Rattle.sci_diagram.specs.Objects.{diagram_view, object_view, listed};
 ghost use Rattle.sci_flat.specs.Seat.{past};
-ghost use Rattle.sci_flat.specs.Numbers.{object_seat, seats, own_past, insides_past, inside_past, steps_by, object_steps_by, blocks_by, object_blocks_by, through_numbers, unless_passed};
+ghost use Rattle.sci_flat.specs.Numbers.{object_seat, seats, own_past, insides_past, inside_past, steps_by, object_steps_by, blocks_by, object_blocks_by, tags_by, object_tags_by, through_numbers, unless_passed, tag_numbers};
 ghost use Rattle.sci_blocks.specs.Rows.{pass_through};
 
 use crate::steps::link::add_link;
@@ -21,6 +21,8 @@ pub struct Walk {
     pub steps: Vec<(u32, u32)>,
     /// The blocks that are neither superblocks nor pass-through objects.
     pub blocks: Vec<Seat>,
+    /// The numbers of the tag objects' first ports.
+    pub tags: Vec<u32>,
 }
 
 /// The seat of an object whose first port has this number.
@@ -34,6 +36,22 @@ fn seat_of(obj: &Obj, next: u32) -> Seat
     }
 }
 
+/// Adds the number of the first port of a tag object.
+fn add_tag(seat: Seat, p: PassThrough, tags: &mut Vec<u32>) -> Result<(), NoMemory>
+    ensures { OnOk result (tags.new.items ≡ tags.old.items ++ tag_numbers seat (Some p)) }
+{
+    match p {
+        PassThrough::Giver(_) | PassThrough::Taker(_) => {
+            tags.push(seat.first)?;
+            Ok(())
+        }
+        PassThrough::Split
+        | PassThrough::ActivationSplit
+        | PassThrough::Union
+        | PassThrough::PortBlock(_) => Ok(()),
+    }
+}
+
 impl Walk {
     // The seats of a diagram's own objects.
     fn seats(&mut self, alloc: Global, d: &Diagram) -> Result<Vec<Seat>, NoMemory>
@@ -44,6 +62,7 @@ impl Walk {
         ensures next { OnOk result (self.new.next ≡ own_past self.old.next (diagram_view d.now)) }
         ensures steps { self.new.steps ≡ self.old.steps }
         ensures blocks { self.new.blocks ≡ self.old.blocks }
+        ensures tags { self.new.tags ≡ self.old.tags }
     {
         let mut seats = Vec::with_capacity(alloc, d.objs.len())?;
         for obj in &d.objs {
@@ -54,7 +73,7 @@ impl Walk {
         Ok(seats)
     }
 
-    /// The steps and the blocks of a diagram; `outer` is the seat of the superblock around it.
+    /// The steps, the blocks and the tag objects of a diagram; `outer` is the seat of the superblock around it.
     #[cycle(walk)]
     pub(crate) fn diagram(
         &mut self,
@@ -71,6 +90,8 @@ impl Walk {
             (own_past self.old.next (diagram_view d.now)) (diagram_view d.now)) }
         ensures blocks { OnOk result (self.new.blocks.items ≡ self.old.blocks.items
             ++ blocks_by (seats self.old.next (diagram_view d.now)) (own_past self.old.next (diagram_view d.now)) (diagram_view d.now)) }
+        ensures tags { OnOk result (self.new.tags.items ≡ self.old.tags.items
+            ++ tags_by (seats self.old.next (diagram_view d.now)) (own_past self.old.next (diagram_view d.now)) (diagram_view d.now)) }
     {
         let seats = self.seats(alloc, d)?;
         self.objects(alloc, d, &seats, outer)
@@ -94,6 +115,8 @@ impl Walk {
             ++ steps_by seats.now outer seats.now self.old.next (diagram_view d.now)) }
         ensures blocks { OnOk result (self.new.blocks.items ≡ self.old.blocks.items
             ++ blocks_by seats.now self.old.next (diagram_view d.now)) }
+        ensures tags { OnOk result (self.new.tags.items ≡ self.old.tags.items
+            ++ tags_by seats.now self.old.next (diagram_view d.now)) }
     {
         for (i, obj) in d.objs.iter().enumerate() {
             self.object(alloc, obj, seats, seats[i], outer)?;
@@ -102,7 +125,7 @@ impl Walk {
     }
 
     #[cycle(walk)]
-    #[tactic(auto, unfolding(crate::specs::Numbers::object_steps_by, crate::specs::Numbers::object_blocks_by, crate::specs::Numbers::inside_past))]
+    #[tactic(auto, unfolding(crate::specs::Numbers::object_steps_by, crate::specs::Numbers::object_blocks_by, crate::specs::Numbers::object_tags_by, crate::specs::Numbers::inside_past))]
     fn object(
         &mut self,
         alloc: Global,
@@ -120,6 +143,8 @@ impl Walk {
             ++ object_steps_by seats.now outer seat self.old.next (object_view obj.now)) }
         ensures blocks { OnOk result (self.new.blocks.items ≡ self.old.blocks.items
             ++ object_blocks_by seat self.old.next (object_view obj.now)) }
+        ensures tags { OnOk result (self.new.tags.items ≡ self.old.tags.items
+            ++ object_tags_by seat self.old.next (object_view obj.now)) }
     {
         match obj {
             Obj::Link(link) => {
@@ -148,9 +173,13 @@ impl Walk {
         ensures steps { OnOk result (self.new.steps.items ≡ self.old.steps.items
             ++ through_numbers outer seat ipar.now (pass_through gui.now)) }
         ensures blocks { OnOk result (self.new.blocks.items ≡ self.old.blocks.items ++ unless_passed seat (pass_through gui.now)) }
+        ensures tags { OnOk result (self.new.tags.items ≡ self.old.tags.items ++ tag_numbers seat (pass_through gui.now)) }
     {
         match PassThrough::of(gui) {
-            Some(p) => add_through(outer, seat, ipar, p, &mut self.steps)?,
+            Some(p) => {
+                add_tag(seat, p, &mut self.tags)?;
+                add_through(outer, seat, ipar, p, &mut self.steps)?;
+            }
             None => self.blocks.push(seat)?,
         }
         Ok(())

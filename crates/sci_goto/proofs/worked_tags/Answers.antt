@@ -1,8 +1,6 @@
-use Rattle.std.proofs.Common.{inl, inr, refl}
-use Rattle.sci_flat.specs.Chain.{stay, onward}
-use Rattle.sci_flat.specs.Ports.{steps_of, object_steps}
+use Rattle.std.proofs.Common.{refl}
 use Rattle.sci_goto.specs.Phase.{standing_in, object_standing, gathered, all_served, tags_of}
-use Rattle.sci_goto.specs.Worked.{WorkedRefusals, WorkedFeeds}
+use Rattle.sci_goto.specs.Worked.{WorkedRefusals, WorkedServers}
 use Rattle.sci_goto.proofs.worked_tags.Goals as goal
 
 refusals : WorkedRefusals
@@ -28,19 +26,16 @@ refusals = record {
   apart = (_, refl);
 }
 
--- the links and then the tags
-feeds : WorkedFeeds
-unfolding steps_of object_steps standing_in object_standing gathered all_served tags_of
-feeds = record {
-  delay_fed = onward (onward (onward stay (inr (inr (inr (inl (refl, refl)))))) (inr (inr (inr (inr (inr (inl (refl, refl)))))))) (inr (inr (inr (inr (inl (refl, refl))))));
-  delay_unfed = refl;
-  gain_fed = onward (onward (onward stay (inl (refl, refl))) (inr (inr (inl (refl, refl))))) (inr (inl (refl, refl)));
-  gain_unfed = refl;
-  preferred = refl;
-  activation = refl;
-  round = onward stay (inr (inl (refl, refl)));
-  back = onward stay (inl (refl, refl));
+servers : WorkedServers
+unfolding standing_in object_standing gathered all_served tags_of
+servers = record {
+  delay_served = (_, refl, refl);
+  delay_unserved = refl;
+  gain_served = (_, refl, refl);
+  gain_unserved = refl;
+  preferred = (_, refl, refl);
+  activation = (_, refl, refl);
 }
 
 pub returns : goal.returns
-returns c = record { refusals = refusals; feeds = feeds }
+returns c = record { refusals = refusals; served = servers }

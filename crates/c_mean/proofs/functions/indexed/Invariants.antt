@@ -1,9 +1,8 @@
 use Rattle.std.proofs.Common.{◌≡◌, take}
-use Rattle.std.specs.HashMap as hash
 use Rattle.c_ast.specs.declared.Name.{Name}
-use Rattle.c_mean.specs.Meaning.{same_name}
+use Rattle.c_ast.specs.Naming.{by_name}
 use Rattle.c_mean.specs.Calls.{latest}
 use Rattle.c_mean.proofs.functions.indexed.Given as goal
 
 abbrev pub invariant-loop-k : goal.invariant-loop-k
-invariant-loop-k l = (f : Name) → hash.get same_name l.index f ≡ latest f 0 (take l.k l.routines.items)
+invariant-loop-k l = (f : Name) → by_name l.names l.index.items f ≡ latest f 0 (take l.k l.routines.items)

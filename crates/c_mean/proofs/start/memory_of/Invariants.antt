@@ -1,13 +1,12 @@
 use Rattle.std.proofs.Common.{◌≡◌, take, map, replicate, pos}
-use Rattle.std.specs.HashMap as hash
 use Rattle.c_ast.specs.declared.Name.{Name}
+use Rattle.c_ast.specs.Naming.{by_name}
 use Rattle.c_ast.specs.View.{declared_of}
-use Rattle.c_mean.specs.Meaning.{same_name}
 use Rattle.c_mean.specs.Spans.{span_of}
 use Rattle.c_mean.proofs.Elements.{total}
 use Rattle.c_mean.proofs.start.memory_of.Given as goal
 
 abbrev pub invariant-loop-decl : goal.invariant-loop-decl
 invariant-loop-decl l =
-    ((q : Name) → hash.get same_name l.spans q ≡ span_of (map declared_of (take l.decl-index l.decls)) q)
+    ((q : Name) → by_name l.names l.spans.items q ≡ span_of (map declared_of (take l.decl-index l.decls)) q)
     × (l.cells.items ≡ replicate (total (map declared_of (take l.decl-index l.decls))) (pos 0))

@@ -1,4 +1,5 @@
 use Rattle.std.proofs.Common.{ap, sym, ◌∙◌, subst, List, map, [], pos, Result, Fits, w64, arith, rules}
+use Rattle.std.specs.Prelude.{All, IsTrue}
 use Rattle.c_ast.specs.declared.Decl.{Decl}
 use Rattle.c_ast.specs.declared.Func.{Func}
 use Rattle.c_ast.specs.View.{declared_of, function_of, whole_of}
@@ -9,8 +10,20 @@ use Rattle.c_mean.specs.declared.start.RunStop.{RunStop}
 use Rattle.c_mean.specs.Meaning.{Ran, first_slot, numbered, behind_functions, meaning}
 use Rattle.c_mean.specs.Running.{left_of, numbered_of, world, RunsFrom}
 use Rattle.c_mean.specs.Answering.{Answers}
+use Rattle.c_ast.specs.Naming.{is_numbered}
+use Rattle.c_ast.proofs.Numbering.{variables_numbered, functions_numbered}
+use Rattle.c_mean.proofs.Calls.{routines_all}
 use Rattle.c_mean.proofs.Wholes.{answers, run_is}
 use Rattle.c_mean.proofs.start.run.Goals as goal
+
+pub memory_of-requires : goal.memory_of-requires
+memory_of-requires g c =
+    subst (λ (l : List Decl). All (λ (d : Decl). IsTrue (is_numbered c.in_ok-names.names d.name)) l) (sym c.deref.ensures.value) (variables_numbered c.args.program.now c.in_ok-names.names c.in_ok-names.ensures.declared)
+
+pub indexed-requires : goal.indexed-requires
+indexed-requires g c =
+    let functions = c.in_ok-routines_of.ensures ∙ ap (λ (l : List Func). numbered 1 (map function_of l) []) c.deref-2.ensures.value in
+    routines_all (is_numbered c.in_ok-names.names) c.args.program.now.funcs.items c.in_ok-routines_of.field-0.items functions (functions_numbered c.args.program.now c.in_ok-names.names c.in_ok-names.ensures.declared)
 
 pub returns : goal.returns
 returns g c =

@@ -1,9 +1,8 @@
 use Rattle.std.proofs.Common.{◌≡◌, ◌∙◌, ℕ, ◌<◌, List, length, map, get_or, ap, sym, subst, arith}
-use Rattle.std.specs.Prelude.{All, Contains}
+use Rattle.std.specs.Prelude.{All}
 use Rattle.std.proofs.lemmas.List.{length-map}
 use Rattle.sci_blocks.specs.declared.class.PortClass.TheVariants.{ActivationInput, ActivationOutput}
 use Rattle.sci_flat.specs.Lists.{lists_of}
-use Rattle.sci_flat.specs.Reached.{IsWanted}
 use Rattle.sci_flat.specs.Origins.{AreOrigins}
 use Rattle.sci_flat.proofs.Reaching.{numbers_within, marks_at}
 use Rattle.sci_flat.proofs.Origins.{origins_below}

@@ -5,7 +5,7 @@ use Rattle.std.proofs.lemmas.List.{length-map}
 use Rattle.sci_diagram.specs.Objects.{diagram_view}
 use Rattle.sci_check.proofs.CheckedLemmas.{checked_law}
 use Rattle.sci_net.specs.Parts.{Parts, parts_of}
-use Rattle.sci_blocks.specs.declared.class.PortClass.TheVariants.{Input, Output, ActivationInput, ActivationOutput}
+use Rattle.sci_blocks.specs.declared.class.PortClass.TheVariants.{Input, Output, ActivationInput}
 use Rattle.sci_flat.specs.Lists.{lists_of}
 use Rattle.sci_flat.specs.Origins.{shared}
 use Rattle.sci_flat.specs.Flat.{IsFlatNet}

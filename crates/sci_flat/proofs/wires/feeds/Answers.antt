@@ -1,9 +1,8 @@
-use Rattle.std.proofs.Common.{ℕ, ◌≡◌, ◌<◌, List, Vec, length, map, sym, ap, ◌∙◌, subst, arith}
-use Rattle.std.specs.Prelude.{All}
+use Rattle.std.proofs.Common.{ℕ, ◌≡◌, List, Vec, length, map, sym, ap, ◌∙◌, subst, arith}
 use Rattle.std.specs.declared.alloc.Global.{Global}
 use Rattle.std.proofs.lemmas.List.{length-map}
 use Rattle.sci_net.specs.declared.Feed.{Feed}
-use Rattle.sci_net.specs.Parts.{rows_of, feed_lists}
+use Rattle.sci_net.specs.Parts.{rows_of}
 use Rattle.sci_flat.specs.Lists.{plain}
 use Rattle.sci_flat.specs.Origins.{shared}
 use Rattle.sci_flat.specs.Sharing.{AllNumbers}

@@ -32,3 +32,12 @@ returns-clause-onward c = c.loop-at.invariant.each
 
 pub returns-clause-len : goal.returns-clause-len
 returns-clause-len c = omega (arith, c.loop-at.invariant.len, c.loop-at-test.false, c.loop-at.auto.at-end, c.len-at-end.ensures)
+
+pub returns-clause-count : goal.returns-clause-count
+returns-clause-count c = c.loop-at.invariant.count
+
+pub returns-in_err-onward_of-clause-count : goal.returns-in_err-onward_of-clause-count
+returns-in_err-onward_of-clause-count c = c.onward_of.ensures.count ∙ c.loop-at.invariant.count
+
+pub returns-in_err-push-2-clause-count : goal.returns-in_err-push-2-clause-count
+returns-in_err-push-2-clause-count c = c.onward_of.ensures.count ∙ c.loop-at.invariant.count

@@ -1,10 +1,10 @@
 use Rattle.std.proofs.Common.{◌≡◌}
 use Rattle.sci_loop.specs.Lists.{plain}
-use Rattle.sci_inherit.specs.Gather.{Gathered, OfBlocks}
+use Rattle.sci_inherit.specs.Gather.{IsSender, Gathered, OfBlocks}
 use Rattle.sci_inherit.proofs.gather.reaching.Given as goal
 
 abbrev pub invariant-loop-at : goal.invariant-loop-at
 invariant-loop-at l = record {
   count : l.walk.count ≡ l.initial.walk.count;
-  gathered : Gathered l.net (OfBlocks l.net l.senders l.at) (plain l.reaching.items);
+  gathered : Gathered l.net (OfBlocks (IsSender l.net l.rows.wanted.items l.senders) l.at) (plain l.reaching.items);
 }

@@ -1,12 +1,15 @@
 use Rattle.std.proofs.Common.{refl}
 use Rattle.sci_bank.specs.Bank.{after_reset}
-use Rattle.sci_bank.proofs.LibraryLemmas.{bank_changed, stays_full}
+use Rattle.sci_bank.proofs.LibraryLemmas.{bank_changed, stays_in_order, stays_full}
 use Rattle.sci_bank.proofs.library.Library.reset.Goals as goal
 
 pub returns-clause-changed : goal.returns-clause-changed
 returns-clause-changed g c =
     bank_changed _ after_reset _ _ _ _ _ c.place.ensures c.requires.known c.index_mut.ensures.value c.reset.ensures
 
+pub returns-clause-in_order : goal.returns-clause-in_order
+returns-clause-in_order g c =
+    stays_in_order _ after_reset _ _ _ _ _ c.place.ensures c.requires.known c.index_mut.ensures.value c.reset.ensures (λ b. refl)
+
 pub returns-clause-full : goal.returns-clause-full
-returns-clause-full g c =
-    stays_full _ after_reset _ _ _ _ _ c.place.ensures c.requires.known c.index_mut.ensures.value c.reset.ensures (λ b. refl)
+returns-clause-full g c = stays_full _ _ _ _

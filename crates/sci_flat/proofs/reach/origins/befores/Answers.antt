@@ -1,4 +1,4 @@
-use Rattle.std.proofs.Common.{◌<◌, length, refl, ap, arith, rules}
+use Rattle.std.proofs.Common.{refl, ap, arith, rules}
 use Rattle.std.proofs.Math.ListN.{set}
 use Rattle.sci_flat.specs.declared.reach.origins.Before.{Before}
 use Rattle.sci_flat.specs.Successors.{to_at}

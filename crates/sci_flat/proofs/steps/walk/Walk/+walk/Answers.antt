@@ -4,7 +4,7 @@ use Rattle.sci_diagram.specs.declared.diagram.Diagram.{out-Diagram}
 use Rattle.sci_diagram.specs.Count.{objects_in}
 use Rattle.sci_flat.specs.Seat.{no_seat}
 use Rattle.sci_flat.specs.Numbers.{own_past}
-use Rattle.sci_flat.proofs.Walking.{diagram_opens, objects_long, object_small, next_more, next_end, steps_more, steps_end, blocks_more, blocks_end}
+use Rattle.sci_flat.proofs.Walking.{diagram_opens, objects_long, object_small, next_more, next_end, steps_more, steps_end, blocks_more, blocks_end, tags_more, tags_end}
 use Rattle.sci_flat.proofs.Room.{inside_room, insides_least}
 use Rattle.sci_flat.proofs.steps.walk.Walk.+walk.Goals as goal
 
@@ -43,6 +43,7 @@ objects-loop-i-preserved t c =
       next = next_more os c.loop-i.i c.obj-item.result inside is c.loop-i.self.next c.object.new.self.next _ r.next c.loop-i.invariant.next;
       steps = steps_more c.args.seats.now c.args.outer c.args.seats.now (no_seat 0) os c.loop-i.i c.obj-item.result there inside is c.loop-i.self.next c.object.new.self.next c.loop-i.self.steps.items c.object.new.self.steps.items _ r.next r.steps c.loop-i.invariant.steps;
       blocks = blocks_more c.args.seats.now (no_seat 0) os c.loop-i.i c.obj-item.result there inside is c.loop-i.self.next c.object.new.self.next c.loop-i.self.blocks.items c.object.new.self.blocks.items _ r.next r.blocks c.loop-i.invariant.blocks;
+      tags = tags_more c.args.seats.now (no_seat 0) os c.loop-i.i c.obj-item.result there inside is c.loop-i.self.next c.object.new.self.next c.loop-i.self.tags.items c.object.new.self.tags.items _ r.next r.tags c.loop-i.invariant.tags;
     }
 
 pub objects-returns-clause-next : goal.objects-returns-clause-next
@@ -59,6 +60,11 @@ pub objects-returns-clause-blocks : goal.objects-returns-clause-blocks
 objects-returns-clause-blocks t c =
     let l = ap length c.deref-obj-items.ensures.value in
     blocks_end _ (out-Diagram c.args.d.now).objs.items c.loop-i.i c.loop-i.self.next c.loop-i.self.blocks.items _ (omega (arith, l)) c.loop-i.invariant.blocks
+
+pub objects-returns-clause-tags : goal.objects-returns-clause-tags
+objects-returns-clause-tags t c =
+    let l = ap length c.deref-obj-items.ensures.value in
+    tags_end _ (out-Diagram c.args.d.now).objs.items c.loop-i.i c.loop-i.self.next c.loop-i.self.tags.items _ (omega (arith, l)) c.loop-i.invariant.tags
 
 pub diagram-seats-requires : goal.diagram-seats-requires
 diagram-seats-requires t c =

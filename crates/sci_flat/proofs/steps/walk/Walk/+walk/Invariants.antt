@@ -2,7 +2,7 @@ use Rattle.std.proofs.Common.{◌≡◌, ◌++◌, ◌+◌, ◌*◌, map, drop}
 use Rattle.sci_diagram.specs.Objects.{objects_of, object_view, diagram_view}
 use Rattle.sci_diagram.specs.declared.diagram.Diagram.{out-Diagram}
 use Rattle.sci_diagram.specs.Count.{objects_in, objects_within}
-use Rattle.sci_flat.specs.Numbers.{insides_past, steps_by, blocks_by}
+use Rattle.sci_flat.specs.Numbers.{insides_past, steps_by, blocks_by, tags_by}
 use Rattle.sci_flat.proofs.steps.walk.Walk.+walk.Given as goal
 
 abbrev pub decreases-diagram : goal.decreases-diagram
@@ -21,4 +21,6 @@ invariant-objects-loop-i l = record {
       ≡ l.fn.self.steps.items ++ steps_by l.seats l.outer l.seats l.fn.self.next (diagram_view l.d);
   blocks : l.self.blocks.items ++ blocks_by (drop l.i l.seats) l.self.next (objects_of (map object_view (drop l.i (out-Diagram l.d).objs.items)))
       ≡ l.fn.self.blocks.items ++ blocks_by l.seats l.fn.self.next (diagram_view l.d);
+  tags : l.self.tags.items ++ tags_by (drop l.i l.seats) l.self.next (objects_of (map object_view (drop l.i (out-Diagram l.d).objs.items)))
+      ≡ l.fn.self.tags.items ++ tags_by l.seats l.fn.self.next (diagram_view l.d);
 }

@@ -21,6 +21,7 @@ loop-obj-init c =
       long = let a = ap length none in let b = ap (λ (os : Objects). length (listed os)) same in omega (arith, a, b, objects_long c.deref-obj-items.result.now);
       steps = refl;
       blocks = refl;
+      tags = refl;
     }
 
 pub seat_of-seat-requires : goal.seat_of-seat-requires

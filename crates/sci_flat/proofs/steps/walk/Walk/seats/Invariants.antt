@@ -13,4 +13,5 @@ invariant-loop-obj l = record {
   long : length l.seats.items + length (drop l.obj-index l.obj-items) ≡ length (listed (diagram_view l.d));
   steps : l.self.steps ≡ l.fn.self.steps;
   blocks : l.self.blocks ≡ l.fn.self.blocks;
+  tags : l.self.tags ≡ l.fn.self.tags;
 }

@@ -1,0 +1,73 @@
+// The function of a kind that has a branch alone: no outputs, no state and no delay.
+ghost use Rattle.std.specs.Prelude.{◌≡◌, ℕ, ℤ, pos, List, false};
+ghost use Rattle.sci_forms.specs.declared.Kind.{Kind};
+ghost use Rattle.sci_forms.specs.declared.spec.Spec.{Spec};
+ghost use Rattle.sci_forms.specs.Ports.{Fills};
+ghost use Rattle.sci_forms.specs.Words.{state_len_of};
+ghost use Rattle.sci_forms.specs.Forms.{has_delay};
+ghost use Rattle.sci_kinds.specs.declared.Cell.TheVariants.{Value};
+ghost use Rattle.sci_kinds.specs.Asks.{entering_of};
+ghost use Rattle.sci_kinds.specs.Table.{cell_of, branch_of};
+ghost use Rattle.sci_bank.specs.Bank.{IsOfKind};
+
+use sci_bank::rule::Rule;
+use sci_base::Ints;
+use sci_kinds::{Cell, Kind, Spec};
+
+/// The function of a kind that has a branch, but no outputs, no state and no delay.
+pub trait BranchRule: Drop {
+    ghost kind: { Kind };
+
+    /// The rule, a value without fields.
+    fn rule() -> Self;
+
+    /// The kind.
+    fn kind(&self) -> Kind
+        ensures { result ≡ kind };
+
+    /// The branch that is taken, from 1.
+    fn branch(&self, spec: &Spec, ins: &[i64]) -> u32
+        requires typed { IsOfKind kind spec.now }
+        requires ins { Fills (entering_of kind spec.now) ins.now }
+        ensures { result ≡ branch_of kind spec.now ins.now };
+
+    ghost no_values: { (s : Spec) (x : List ℤ) (m : ℕ) (u : List ℤ) (e : ℕ) → cell_of kind s x m u e ≡ Value (pos 0) };
+
+    ghost no_state: { (s : Spec) → state_len_of kind s ≡ 0 };
+
+    ghost no_delay: { has_delay kind ≡ false };
+}
+
+/// Such a kind, with the functions that it never needs.
+#[derive(Drop)]
+pub struct Branching<B: BranchRule> {
+    pub rule: B,
+}
+
+impl<B: BranchRule> Rule for Branching<B> {
+    ghost kind = { B.kind };
+
+    fn rule() -> Self {
+        Branching { rule: B::rule() }
+    }
+
+    fn kind(&self) -> Kind {
+        self.rule.kind()
+    }
+
+    fn cell(&self, _spec: &Spec, _state: &Ints, _mask: u64, _ins: &[i64], _at: usize) -> Cell {
+        Cell::Value(0)
+    }
+
+    fn next(&self, _spec: &Spec, _state: &Ints, _mask: u64, _ins: &[i64], _at: usize) -> i64 {
+        0
+    }
+
+    fn branch(&self, spec: &Spec, ins: &[i64]) -> u32 {
+        self.rule.branch(spec, ins)
+    }
+
+    fn delay(&self, _spec: &Spec, _port: u32, _ins: &[i64]) -> i64 {
+        -1
+    }
+}

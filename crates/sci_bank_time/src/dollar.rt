@@ -1,0 +1,40 @@
+// DOLLAR_m: y is the state; the next state is the input.
+ghost use Rattle.std.specs.Prelude.{refl};
+ghost use Rattle.sci_forms.specs.declared.Kind.TheVariants.{Dollar as DollarKind};
+
+use crate::stateful::{StateRule, Stateful};
+use sci_bank::kind_bank::KindBank;
+use sci_bank::words::element;
+use sci_base::Ints;
+use sci_kinds::{Cell, Kind, Spec};
+
+/// One element of the output, and of the next state.
+#[derive(Drop)]
+pub struct DollarRule;
+
+/// The bank of `Dollar` blocks.
+pub type Dollar = KindBank<Stateful<DollarRule>>;
+
+impl StateRule for DollarRule {
+    ghost kind = { DollarKind };
+
+    fn rule() -> Self {
+        DollarRule
+    }
+
+    fn kind(&self) -> Kind {
+        Kind::Dollar
+    }
+
+    fn cell(&self, _spec: &Spec, state: &Ints, _mask: u64, _ins: &[i64], at: usize) -> Cell {
+        Cell::Value(state.at(at))
+    }
+
+    fn next(&self, _spec: &Spec, _state: &Ints, _mask: u64, ins: &[i64], at: usize) -> i64 {
+        element(ins, at)
+    }
+
+    ghost no_branch = { refl };
+
+    ghost no_delay = { refl };
+}

@@ -1,0 +1,36 @@
+// HALT_f: nothing is computed; its activation ends the run.
+ghost use Rattle.std.specs.Prelude.{refl};
+ghost use Rattle.sci_forms.specs.declared.Kind.TheVariants.{Halt as HaltKind};
+
+use sci_bank::kind_bank::KindBank;
+use sci_bank::plain::{CellRule, Plain};
+use sci_kinds::{Cell, Kind, Spec};
+
+/// A kind without outputs.
+#[derive(Drop)]
+pub struct HaltRule;
+
+/// The bank of `Halt` blocks.
+pub type Halt = KindBank<Plain<HaltRule>>;
+
+impl CellRule for HaltRule {
+    ghost kind = { HaltKind };
+
+    fn rule() -> Self {
+        HaltRule
+    }
+
+    fn kind(&self) -> Kind {
+        Kind::Halt
+    }
+
+    fn cell(&self, _spec: &Spec, _mask: u64, _ins: &[i64], _at: usize) -> Cell {
+        Cell::Value(0)
+    }
+
+    ghost no_state = { λ s. refl };
+
+    ghost no_branch = { refl };
+
+    ghost no_delay = { refl };
+}

@@ -1,0 +1,37 @@
+// SENSOR: y is the value that enters.
+ghost use Rattle.std.specs.Prelude.{refl};
+ghost use Rattle.sci_forms.specs.declared.Kind.TheVariants.{Sensor as SensorKind};
+
+use sci_bank::kind_bank::KindBank;
+use sci_bank::plain::{CellRule, Plain};
+use sci_bank::words::element;
+use sci_kinds::{Cell, Kind, Spec};
+
+/// The output.
+#[derive(Drop)]
+pub struct SensorRule;
+
+/// The bank of `Sensor` blocks.
+pub type Sensor = KindBank<Plain<SensorRule>>;
+
+impl CellRule for SensorRule {
+    ghost kind = { SensorKind };
+
+    fn rule() -> Self {
+        SensorRule
+    }
+
+    fn kind(&self) -> Kind {
+        Kind::Sensor
+    }
+
+    fn cell(&self, _spec: &Spec, _mask: u64, ins: &[i64], _at: usize) -> Cell {
+        Cell::Value(element(ins, 0))
+    }
+
+    ghost no_state = { λ s. refl };
+
+    ghost no_branch = { refl };
+
+    ghost no_delay = { refl };
+}

@@ -1,0 +1,81 @@
+// The functions of a kind that has a state, but no branch and no delay.
+ghost use Rattle.std.specs.Prelude.{◌≡◌, ◌<◌, false};
+ghost use Rattle.sci_forms.specs.declared.Kind.{Kind};
+ghost use Rattle.sci_forms.specs.Ports.{total, Fills};
+ghost use Rattle.sci_forms.specs.Words.{state_len_of};
+ghost use Rattle.sci_forms.specs.Forms.{is_sync, has_delay};
+ghost use Rattle.sci_kinds.specs.Asks.{IsState, IsMask, entering_of};
+ghost use Rattle.sci_kinds.specs.Table.{cell_of, next_of};
+ghost use Rattle.sci_bank.specs.Bank.{IsOfKind};
+
+use sci_bank::rule::Rule;
+use sci_base::Ints;
+use sci_kinds::{Cell, Kind, Spec};
+
+/// The functions of a kind that has a state, but no branch and no delay.
+pub trait StateRule: Drop {
+    ghost kind: { Kind };
+
+    /// The rule, a value without fields.
+    fn rule() -> Self;
+
+    /// The kind.
+    fn kind(&self) -> Kind
+        ensures { result ≡ kind };
+
+    /// Element `at` of the outputs.
+    fn cell(&self, spec: &Spec, state: &Ints, mask: u64, ins: &[i64], at: usize) -> Cell
+        requires typed { IsOfKind kind spec.now }
+        requires state { IsState spec.now state.now }
+        requires mask { IsMask spec.now mask }
+        requires ins { Fills (entering_of kind spec.now) ins.now }
+        requires at { at < total spec.now.outs }
+        ensures { result ≡ cell_of kind spec.now state.now mask ins.now at };
+
+    /// Value `at` of the next state.
+    fn next(&self, spec: &Spec, state: &Ints, mask: u64, ins: &[i64], at: usize) -> i64
+        requires typed { IsOfKind kind spec.now }
+        requires state { IsState spec.now state.now }
+        requires mask { IsMask spec.now mask }
+        requires ins { Fills (entering_of kind spec.now) ins.now }
+        requires at { at < state_len_of kind spec.now }
+        ensures { result ≡ next_of kind spec.now state.now mask ins.now at };
+
+    ghost no_branch: { is_sync kind ≡ false };
+
+    ghost no_delay: { has_delay kind ≡ false };
+}
+
+/// Such a kind, with the functions that it never needs.
+#[derive(Drop)]
+pub struct Stateful<S: StateRule> {
+    pub rule: S,
+}
+
+impl<S: StateRule> Rule for Stateful<S> {
+    ghost kind = { S.kind };
+
+    fn rule() -> Self {
+        Stateful { rule: S::rule() }
+    }
+
+    fn kind(&self) -> Kind {
+        self.rule.kind()
+    }
+
+    fn cell(&self, spec: &Spec, state: &Ints, mask: u64, ins: &[i64], at: usize) -> Cell {
+        self.rule.cell(spec, state, mask, ins, at)
+    }
+
+    fn next(&self, spec: &Spec, state: &Ints, mask: u64, ins: &[i64], at: usize) -> i64 {
+        self.rule.next(spec, state, mask, ins, at)
+    }
+
+    fn branch(&self, _spec: &Spec, _ins: &[i64]) -> u32 {
+        1
+    }
+
+    fn delay(&self, _spec: &Spec, _port: u32, _ins: &[i64]) -> i64 {
+        -1
+    }
+}

@@ -1,5 +1,0 @@
-use Rattle.sci_inherit.specs.Links.{plain_rows, AreEmptyRows}
-use Rattle.sci_inherit.proofs.links.empty_rows.Given as goal
-
-abbrev pub invariant-loop-at : goal.invariant-loop-at
-invariant-loop-at l = AreEmptyRows l.net l.at (plain_rows l.rows.items)

@@ -1,9 +1,0 @@
-use Rattle.std.proofs.Common.{◌+◌}
-use Rattle.sci_inherit.specs.Links.{plain_rows, AreFilled, ComeBefore}
-use Rattle.sci_inherit.proofs.links.rows.Given as goal
-
-abbrev pub invariant-loop-at : goal.invariant-loop-at
-invariant-loop-at l = record {
-  filled : AreFilled l.net l.at (plain_rows l.rows.items);
-  before : ComeBefore (record { block = l.at + 1; input = 1 }) (plain_rows l.rows.items);
-}

@@ -1,0 +1,13 @@
+pub mod Tests
+pub mod Slow
+pub mod Traces
+pub mod Unique
+pub mod Finish
+pub mod Ranges
+pub mod Ordered
+pub mod Sorting
+pub mod SameRest
+pub mod Anew
+pub mod Reactions
+pub mod OneFinish
+pub mod Conflicts

@@ -1,0 +1,11 @@
+pub mod Activity
+pub mod Programs
+pub mod Observed
+pub mod Run
+pub mod Order
+pub mod Anew
+pub mod Counts
+pub mod Finish
+pub mod Alike
+pub mod Worked
+pub mod Laws
