@@ -151,7 +151,6 @@ REFUSALS = [
     ('rows that do not add up', [constant(0, rows=5), block('DEMUX', [5], [2, 2]), wire((1, 1), (2, 1))], '22 ShapeRule at 2 1 1 1'),
     ('an output of 257 elements', [constant(0, rows=257)], '23 SignalTooLarge at 1 1 257'),
     ('outputs of 65,537 elements', [constant(0, rows=256)] * 256 + [constant(0)], '23 SignalTooLarge at - 0 65537'),
-    ('another kind', [CLOCK, TEXT, superblock([TEXT, constant(1)])], '30 Unbuilt at 3/2'),
 ]
 
 

@@ -4,7 +4,8 @@ use Rattle.std.proofs.lemmas.Bool.Decides.{nat_tests}
 use Rattle.sci_links.proofs.TestLemmas.{by_cases}
 use Rattle.sci_pending.specs.Pending.{Event, Pending, is_earlier, earlier, next, without, is_pending, programmed}
 use Rattle.sci_agenda.specs.Firing.{put_behind, is_pending as waits}
-use Rattle.sci_agenda.specs.FiringOrder.{put_sorted, sorted, due, in_order, Falls, FiringOrderLaw}
+use Rattle.sci_pending.specs.Order.{put_sorted, sorted, due, in_order, Falls}
+use Rattle.sci_agenda.specs.FiringOrder.{FiringOrderLaw}
 
 abbrev pub AllBelow : ℕ → List Event → Type 0
 AllBelow n [] = Unit {0}

@@ -4,7 +4,8 @@ use Rattle.std.proofs.lemmas.Bool.Decides.{nat_tests}
 use Rattle.sci_links.proofs.TestLemmas.{by_cases, known, eq_true}
 use Rattle.sci_pending.specs.Pending.{Event, is_earlier, is_pending, without_source}
 use Rattle.sci_agenda.specs.Firing.{put_behind, is_pending as waits, without as without_due}
-use Rattle.sci_agenda.specs.FiringOrder.{put_sorted, sorted, due, in_order, Falls, AreOnce, ReplacingLaw}
+use Rattle.sci_pending.specs.Order.{put_sorted, sorted, due, in_order, Falls, AreOnce}
+use Rattle.sci_agenda.specs.FiringOrder.{ReplacingLaw}
 use Rattle.sci_agenda.proofs.InOrder.{falls_more, programmed_behind, falls_programmed, pending_placed as placed, pending_sorted as in_sorted}
 
 neither : (a b : Bool) → (a || b) ≡ false → (a ≡ false) × (b ≡ false)

@@ -1,32 +1,9 @@
--- The pending events, which have their numbers and stand in no order, as the list of (date, source) in the order in which
--- they fire.
-use Rattle.std.specs.Prelude.{◌≡◌, ℕ, ◌<◌, false, List, [], ◌∷◌, Some, None, if◌then◌else◌, map}
-use Rattle.sci_pending.specs.Pending.{Event, Pending, is_earlier, next, without, is_pending, programmed, without_source, replaced}
+-- The laws of the pending events, which have their numbers and stand in no order, and of their list of (date, source) in the
+-- order in which they fire.
+use Rattle.std.specs.Prelude.{◌≡◌, ℕ, false, List, ◌∷◌, [], Some, None}
+use Rattle.sci_pending.specs.Pending.{Event, Pending, next, without, is_pending, programmed, without_source, replaced}
+use Rattle.sci_pending.specs.Order.{due, in_order, Falls, IsNumbered, AreOnce}
 use Rattle.sci_agenda.specs.Firing.{put_behind, is_pending as waits, without as without_due}
-
--- before all that are later
-abbrev pub put_sorted : Event → List Event → List Event
-put_sorted e [] = e ∷ []
-put_sorted e (x ∷ xs) = if is_earlier e x then e ∷ x ∷ xs else x ∷ put_sorted e xs
-
-abbrev pub sorted : List Event → List Event
-sorted [] = []
-sorted (e ∷ es) = put_sorted e (sorted es)
-
-abbrev pub due : Event → ℕ × ℕ
-due e = (e.date, e.source)
-
-abbrev pub in_order : List Event → List (ℕ × ℕ)
-in_order es = map due (sorted es)
-
--- the newest first: each number is less than the one before, and than n
-abbrev pub Falls : ℕ → List Event → Type 0
-Falls n [] = Unit {0}
-Falls n (e ∷ es) = (e.order < n) × Falls e.order es
-
--- the events are numbered as they were programmed
-abbrev pub IsNumbered : Pending → Type 0
-IsNumbered p = Falls p.programmed p.events
 
 -- The pending events and their list in the order of firing stand for one another in each step.
 pub record FiringOrderLaw : Type 0 where
@@ -39,11 +16,6 @@ pub record FiringOrderLaw : Type 0 where
   pub others_numbered : (n order : ℕ) (es : List Event) → Falls n es → Falls n (without order es)
   -- the same sources are pending
   pub pending : (source : ℕ) (es : List Event) → waits source (in_order es) ≡ is_pending source es
-
--- of each source at most one event is pending
-abbrev pub AreOnce : List Event → Type 0
-AreOnce [] = Unit {0}
-AreOnce (e ∷ es) = (is_pending e.source es ≡ false) × AreOnce es
 
 -- A source's event that is replaced is taken out, where it has one, and put behind all of the same or a lesser date.
 pub record ReplacingLaw : Type 0 where

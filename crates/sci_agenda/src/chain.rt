@@ -17,16 +17,17 @@ pub struct ChainAgenda {
     dates: Vec<u64>,
     now: u64,
     ports: u32,
+    puts: u64,
 }
 
 impl Model for ChainAgenda {
     ghost use Rattle.sci_agenda.specs.Firing.{Meaning};
     ghost use Rattle.sci_links.specs.Table.{chain};
-    ghost use Rattle.sci_agenda.specs.Chained.{events_of, IsChain};
+    ghost use Rattle.sci_agenda.specs.Chained.{Chain, events_of, IsChain};
 
-    ghost Value = { Meaning };
+    ghost Value = { Chain };
 
-    ghost view = { λ a. record { events = events_of a.dates.items (chain a.links 0); now = a.now; ports = a.ports } };
+    ghost view = { λ a. record { meaning = record { events = events_of a.dates.items (chain a.links 0); now = a.now; ports = a.ports }; puts = a.puts } };
 
     ghost invariant = { λ a. IsChain a.links a.dates.items a.ports };
 }
@@ -34,7 +35,8 @@ impl Model for ChainAgenda {
 impl ChainAgenda {
     /// No event waits, and the date is 0. Sources are numbered from 1 to `ports`.
     pub fn new(alloc: Global, ports: u32) -> Result<ChainAgenda, NoMemory>
-        ensures { IfOk result (λ a. a ≡ (record { events = []; now = 0; ports = ports })) }
+        ensures meaning { IfOk result (λ a. a.meaning ≡ (record { events = []; now = 0; ports = ports })) }
+        ensures puts { IfOk result (λ a. a.puts ≡ 0) }
     {
         let links = Links::new(alloc, 1, ports)?;
         let dates = zeros(alloc, ports)?;
@@ -43,6 +45,7 @@ impl ChainAgenda {
             dates,
             now: 0,
             ports,
+            puts: 0,
         })
     }
 }
@@ -85,7 +88,9 @@ fn later(links: &Links, dates: &[u64], date: u64) -> Option<u32>
 }
 
 impl Agenda for ChainAgenda {
-    ghost meaning = { λ a. a };
+    ghost meaning = { λ a. a.meaning };
+
+    ghost puts = { λ a. a.puts };
 
     fn put(&mut self, date: u64, source: u32) {
         let node = source - 1;
@@ -94,6 +99,7 @@ impl Agenda for ChainAgenda {
             Some(at) => self.links.insert_before(at, node),
             None => self.links.push_back(0, node),
         }
+        self.puts = self.puts.saturating_add(1);
     }
 
     fn take(&mut self) -> Option<(u64, u32)> {

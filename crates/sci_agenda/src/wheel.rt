@@ -199,6 +199,8 @@ impl Agenda for WheelAgenda {
 
     ghost meaning = { λ a. a.meaning };
 
+    ghost puts = { λ a. a.puts };
+
     fn put(&mut self, date: u64, source: u32)
         requires { MayPut self.old.meaning date source }
         ensures put { self.new.meaning ≡ after_put self.old.meaning date source }

@@ -11,7 +11,7 @@ use Rattle.sci_forms.specs.declared.Kind.{Kind}
 use Rattle.sci_forms.specs.declared.Kind.TheVariants.{Const, Summation, GainBlk, Product, AbsValue, Signum, MaxMin, Saturation, DeadBand, Convert, Mux, Demux, Extractor, LogicalOp, RelationalOp, Shift, BitSet, BitClear, ExtractBits, Switch2, Select, Logic, AndLog, Dollar, SampHold, Register, ModuloCount, GatedDelay, Sensor, EvtDly, EvtVarDly, IfThEl, ESelect, Halt}
 use Rattle.sci_forms.specs.Names.{kind_at}
 use Rattle.sci_bank.specs.Bank.{Meaning, no_bank}
-use Rattle.sci_bank.specs.Library.{built, place_of, bank_of, with_bank, Holds, AreInOrder, IsFull, next_of}
+use Rattle.sci_bank.specs.Library.{kinds, place_of, bank_of, with_bank, Holds, AreInOrder, IsFull, next_of}
 
 -- ---- the banks of a library
 
@@ -135,9 +135,45 @@ kind_of-bank banks k o h = same (sym (o (place_of k) h) ∙ at_place k)
     same : {a b : Kind} → Some a ≡ Some b → a ≡ b
     same e = cc
 
--- a full library holds the bank of each built kind
-pub Holds-full : (banks : List Meaning) (k : Kind) → IsFull banks → place_of k < built → Holds banks k
-Holds-full banks k f h = rw f h
+-- a full library holds the bank of each kind
+place_within : (k : Kind) → place_of k < kinds
+place_within Const = omega arith
+place_within Summation = omega arith
+place_within GainBlk = omega arith
+place_within Product = omega arith
+place_within AbsValue = omega arith
+place_within Signum = omega arith
+place_within MaxMin = omega arith
+place_within Saturation = omega arith
+place_within DeadBand = omega arith
+place_within Convert = omega arith
+place_within Mux = omega arith
+place_within Demux = omega arith
+place_within Extractor = omega arith
+place_within LogicalOp = omega arith
+place_within RelationalOp = omega arith
+place_within Shift = omega arith
+place_within BitSet = omega arith
+place_within BitClear = omega arith
+place_within ExtractBits = omega arith
+place_within Switch2 = omega arith
+place_within Select = omega arith
+place_within Logic = omega arith
+place_within AndLog = omega arith
+place_within Dollar = omega arith
+place_within SampHold = omega arith
+place_within Register = omega arith
+place_within ModuloCount = omega arith
+place_within GatedDelay = omega arith
+place_within Sensor = omega arith
+place_within EvtDly = omega arith
+place_within EvtVarDly = omega arith
+place_within IfThEl = omega arith
+place_within ESelect = omega arith
+place_within Halt = omega arith
+
+pub Holds-full : (banks : List Meaning) (k : Kind) → IsFull banks → Holds banks k
+Holds-full banks k f = rw f (place_within k)
 
 -- ---- what `add` and `put` leave
 
@@ -148,7 +184,7 @@ in_order_after_add f g xs k i x y n (Ok v) e h r ok err keeps order = stays_in_o
 in_order_after_add f g xs k i x y n (Err w) e h r ok err keeps order = stays_in_order f (λ b. b) xs k i x y e h r err (λ b. refl) order
 
 next_is : (n : ℕ) (k : Kind) → next_of n ≡ Some k → kind_at (n + 1) ≡ Some k
-next_is n k h = by_room (nat_lt n built) h
+next_is n k h = by_room (nat_lt n kinds) h
   where
     by_room : (b : Bool) → cond b (kind_at (n + 1)) None ≡ Some k → kind_at (n + 1) ≡ Some k
     by_room true p = p

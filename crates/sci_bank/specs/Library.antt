@@ -4,9 +4,9 @@ use Rattle.sci_forms.specs.declared.Kind.{Kind}
 use Rattle.sci_forms.specs.Names.{number_of, kind_at}
 use Rattle.sci_bank.specs.Bank.{Meaning, no_bank}
 
--- how many kinds are built: those with the first numbers
-abbrev pub built : ℕ
-built = 13
+-- how many kinds there are
+abbrev pub kinds : ℕ
+kinds = 34
 
 abbrev pub place_of : Kind → ℕ
 place_of k = number_of k - 1
@@ -26,13 +26,13 @@ Holds banks k = place_of k < length banks
 abbrev pub AreInOrder : List Meaning → Type 0
 AreInOrder banks = (i : ℕ) → i < length banks → kind_at (i + 1) ≡ Some (slice_index_or banks i no_bank).kind
 
--- as many banks as kinds are built
+-- a bank for each kind
 abbrev pub IsFull : List Meaning → Type 0
-IsFull banks = length banks ≡ built
+IsFull banks = length banks ≡ kinds
 
 -- the kind whose bank comes next, of n that are there
 abbrev pub next_of : ℕ → Option Kind
-next_of n = if nat_lt n built then kind_at (n + 1) else None
+next_of n = if nat_lt n kinds then kind_at (n + 1) else None
 
 -- the sum of all counts, as far as 64 bits go
 abbrev pub total_outs : List Meaning → ℕ

@@ -7,14 +7,14 @@ ghost use Rattle.sci_forms.specs.Typed.{typed};
 ghost use Rattle.sci_kinds.specs.Asks.{entering};
 ghost use Rattle.sci_kinds.specs.Table.{branch, delay, out, state_len};
 ghost use Rattle.sci_bank.specs.Bank.{Meaning, IsCall, Tells, row_at, spec_at, after_reset, after_add, after_out, after_update};
-ghost use Rattle.sci_bank.specs.Library.{built, place_of, bank_of, with_bank, Holds, AreInOrder, IsFull, next_of, total_outs};
+ghost use Rattle.sci_bank.specs.Library.{kinds, place_of, bank_of, with_bank, Holds, AreInOrder, IsFull, next_of, total_outs};
 
 use crate::{Bank, Fate};
 use sci_base::NoMemory;
 use sci_kinds::{Kind, Spec};
 use std::alloc::Global;
 
-/// The banks, in the order of the kinds' numbers. Until all kinds are built, only the banks of the built ones come in.
+/// The banks, in the order of the kinds' numbers.
 #[derive(Drop)]
 pub struct Library {
     banks: Vec<Box<dyn Bank>>,
@@ -29,8 +29,8 @@ impl Banks for Library {
     ghost banks = { λ l. map (λ b. (Bank-box b).meaning b.value) l.banks.items };
 }
 
-/// How many kinds are built: those with the first numbers.
-const BUILT: usize = 13;
+/// How many kinds there are.
+const KINDS: usize = 34;
 
 impl Library {
     /// A library without banks.
@@ -46,18 +46,18 @@ impl Library {
     pub fn next_kind(&self) -> Option<Kind>
         ensures { result ≡ next_of (length (⟦<Library as Banks>⟧.banks self.now)) }
     {
-        if self.banks.len() < BUILT {
+        if self.banks.len() < KINDS {
             Kind::at((self.banks.len() + 1) as u8)
         } else {
             None
         }
     }
 
-    /// Whether the banks of all built kinds are there.
+    /// Whether the banks of all kinds are there.
     pub fn is_full(&self) -> bool
         ensures { IsTrue result ↔ IsFull (⟦<Library as Banks>⟧.banks self.now) }
     {
-        self.banks.len() == BUILT
+        self.banks.len() == KINDS
     }
 
     /// Takes the bank of the next kind. A box that finds no memory comes back.

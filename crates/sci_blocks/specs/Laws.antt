@@ -1,8 +1,8 @@
 -- What holds of diagrams that are read, and of those that break no rule.
-use Rattle.std.specs.Prelude.{◌≡◌, ℕ, ◌≤◌, ◌<◌, ◌≢◌, List, length, ◌||◌, is_some, if◌then◌else◌, nat_le, Some, Ok}
+use Rattle.std.specs.Prelude.{◌≡◌, ℕ, ◌≤◌, ◌<◌, ◌≢◌, List, length, is_some, if◌then◌else◌, nat_le, Some, Ok}
 use Rattle.sci_diagram.specs.Objects.{Objects}
 use Rattle.sci_diagram.specs.Reading.{Accepts}
-use Rattle.sci_diagram.specs.Tree.{is_pass_through, is_tag}
+use Rattle.sci_diagram.specs.Tree.{is_pass_through}
 use Rattle.sci_blocks.specs.Blocks.{Placed, parts_of}
 use Rattle.sci_blocks.specs.Kept.{AreBlocksKept, AreLinksKept}
 use Rattle.sci_blocks.specs.Ports.{times, first_broken}
@@ -21,9 +21,9 @@ BlocksLaw = (d : Objects) (ps : List Placed) → parts_of d ≡ Ok ps → AreBlo
 abbrev pub LinksLaw : Type 0
 LinksLaw = (d : Objects) → links_of d ≡ Ok tt → AreLinksKept d
 
--- the pass-through objects are those that the reader counts as such, and the tag objects
+-- the pass-through objects are those that the reader takes for such
 abbrev pub NamesLaw : Type 0
-NamesLaw = (gui : List ℕ) → is_some (pass_through gui) ≡ (is_pass_through gui || is_tag gui)
+NamesLaw = (gui : List ℕ) → is_some (pass_through gui) ≡ is_pass_through gui
 
 -- how often number n has to occur where there are so many ports
 abbrev pub wanted : ℕ → ℕ → ℕ

@@ -1,5 +1,5 @@
 -- Pass-through objects: what each asks of its counts of ports, and of a port block's parameter.
-use Rattle.std.specs.Prelude.{ℕ, ℤ, pos, List, [], ◌∷◌, length, ◌||◌, not, int_le, codes, if◌then◌else◌, Option, Some, None, Ok, Err}
+use Rattle.std.specs.Prelude.{ℕ, ℤ, pos, List, [], ◌∷◌, length, Bool, ◌||◌, not, int_le, codes, if◌then◌else◌, Option, Some, None, is_none, Ok, Err}
 use Rattle.std.specs.Str.{bytes_eq}
 use Rattle.sci_base.specs.Plain.{Fields}
 use Rattle.sci_base.specs.Outcome.{Outcome}
@@ -49,6 +49,10 @@ row_broken c f =
     if not (within c.outs_least c.outs_most (length f.outs)) then Some (shape (pos 2) (length f.outs)) else
     if not (within c.evtin_least c.evtin_most f.evtin) then Some (shape (pos 3) f.evtin) else
     if not (within c.evtout_least c.evtout_most f.evtout) then Some (shape (pos 4) f.evtout) else None
+
+-- whether an object has as many ports of each class as its row asks
+abbrev pub has_its_ports : PassThrough → Fields → Bool
+has_its_ports p f = is_none (row_broken (row p) f)
 
 -- a port block's parameters are one number of at least 1
 abbrev pub number_broken : List ℤ → Option Broken

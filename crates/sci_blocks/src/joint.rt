@@ -3,7 +3,7 @@ ghost use Rattle.std.specs.Prelude.{◌≡◌, ◌<◌, ◌^◌, IfOk, IfErr, On
 ghost use Rattle.sci_base.specs.Plain.{fields_of};
 ghost use Rattle.sci_forms.specs.Forms.{or_else};
 ghost use Rattle.sci_check.specs.Check.{shape, bad};
-ghost use Rattle.sci_blocks.specs.Rows.{row, row_broken, number_broken, parameters_broken, joint_checked};
+ghost use Rattle.sci_blocks.specs.Rows.{row, row_broken, has_its_ports, number_broken, parameters_broken, joint_checked};
 ghost use Rattle.sci_diagram.specs.Telling.{Tells};
 
 use crate::pass_through::PassThrough;
@@ -59,6 +59,13 @@ fn number_broken(ipar: &[i64]) -> Option<Broken>
         [n] => if *n >= 1 { None } else { Some(bad(1, 1, *n)) },
         _ => Some(bad(1, 0, ipar.len() as i64)),
     }
+}
+
+/// Whether a pass-through object has as many ports of each class as its row asks.
+pub fn has_its_ports(p: PassThrough, f: &BlockFields) -> bool
+    ensures { result ≡ has_its_ports p (fields_of f.now) }
+{
+    row_broken(p.row(), f).is_none()
 }
 
 fn parameters_broken(p: PassThrough, ipar: &[i64]) -> Option<Broken>

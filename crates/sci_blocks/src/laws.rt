@@ -18,7 +18,7 @@ pub fn links_law()
     ensures { LinksLaw }
 {}
 
-/// The pass-through objects are those that the reader counts as such, and the tag objects.
+/// The pass-through objects are those that the reader takes for such.
 pub fn names_law()
     ensures { NamesLaw }
 {}

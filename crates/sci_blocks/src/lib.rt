@@ -18,6 +18,7 @@ mod tests;
 mod walk;
 
 pub use class::{LinkType, PortClass};
+pub use joint::has_its_ports;
 pub use laws::{blocks_law, links_law, names_law, numbers_law, read_law};
 pub use link_walk::links;
 pub use part::Part;

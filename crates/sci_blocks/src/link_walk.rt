@@ -9,9 +9,8 @@ ghost use Rattle.sci_base.specs.Stops.{Stops};
 
 use crate::fed::FedInputs;
 use crate::link::link_judged;
-use crate::walk::child;
 use sci_base::Stop;
-use sci_diagram::{Diagram, Obj};
+use sci_diagram::{Diagram, Obj, child};
 use std::alloc::Global;
 
 /// The links of the diagram at a place.

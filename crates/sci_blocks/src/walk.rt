@@ -1,5 +1,5 @@
 // The rules on each object, in tree order.
-ghost use Rattle.std.specs.Prelude.{◌≡◌, ◌++◌, ◌∷◌, [], map, IfOk, IfErr, OnOk, Ok};
+ghost use Rattle.std.specs.Prelude.{◌≡◌, map, IfOk, IfErr, OnOk, Ok};
 ghost use Rattle.sci_base.specs.Plain.{fields_of};
 ghost use Rattle.sci_diagram.specs.Objects.{object_view, diagram_view};
 ghost use Rattle.sci_blocks.specs.Blocks.{parts_in, superblock_parts, object_parts, parts_of, part_view};
@@ -10,24 +10,9 @@ ghost use Rattle.sci_base.specs.Stops.{Stops};
 use crate::block::add_block;
 use crate::part::Part;
 use crate::superblock::{outermost_matched, superblock_matched};
-use sci_base::{BlockFields, NoMemory, Stop};
-use sci_diagram::{Diagram, Obj};
-use smallvec::SmallVec;
+use sci_base::{BlockFields, Stop};
+use sci_diagram::{Diagram, Obj, child};
 use std::alloc::Global;
-
-/// The place of the object at a position of the diagram at a place. It is short enough to stand in line at every level.
-#[inline(always)]
-pub(crate) fn child(
-    alloc: Global,
-    at: &[u32],
-    position: u32,
-) -> Result<SmallVec<u32, 16, Global>, NoMemory>
-    ensures { IfOk result (λ p. p.items ≡ at.now ++ position ∷ []) }
-{
-    let mut path = SmallVec::from_slice(alloc, at)?;
-    path.push(position)?;
-    Ok(path)
-}
 
 /// Adds the blocks of the diagram at a place.
 #[cycle(parts)]

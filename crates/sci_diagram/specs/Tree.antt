@@ -103,12 +103,13 @@ is_port s = bytes_eq s (codes "IN_f") || bytes_eq s (codes "OUT_f") || bytes_eq 
 abbrev pub is_joint : List ℕ → Bool
 is_joint s = bytes_eq s (codes "SPLIT_f") || bytes_eq s (codes "CLKSPLIT_f") || bytes_eq s (codes "CLKSOM_f") || bytes_eq s (codes "CLKSOMV_f")
 
-abbrev pub is_pass_through : List ℕ → Bool
-is_pass_through s = is_port s || is_joint s
-
 -- GOTO, FROM, CLKGOTO and CLKFROM carry a link without drawing it
 abbrev pub is_tag : List ℕ → Bool
 is_tag s = bytes_eq s (codes "GOTO") || bytes_eq s (codes "FROM") || bytes_eq s (codes "CLKGOTO") || bytes_eq s (codes "CLKFROM")
+
+-- a port block, a split or union, or a tag object
+abbrev pub is_pass_through : List ℕ → Bool
+is_pass_through s = is_port s || is_joint s || is_tag s
 
 abbrev pub role_of : List ℕ → Role
 role_of gui = if is_port gui then Port else (if is_joint gui then Joint else (if is_tag gui then Tag else Kind))

@@ -10,6 +10,7 @@ mod links;
 mod model;
 mod numbers;
 mod pass_through;
+mod places;
 mod sorts;
 #[cfg(test)]
 mod tests;
@@ -20,4 +21,5 @@ pub use diagram::{BlockObj, Diagram, End, LinkObj, Obj};
 pub use from_bytes::read;
 pub use laws::{one_diagram, one_verdict, one_violation};
 pub use pass_through::{is_pass_through, is_tag};
+pub use places::child;
 pub use sorts::{Role, Sort};

@@ -4,11 +4,11 @@ ghost use Rattle.sci_diagram.specs.Tree.{is_pass_through, is_tag};
 
 use crate::sorts::Role;
 
-/// Whether a name is that of a pass-through object: a split, a union, or a port of the superblock around it.
+/// Whether a name is that of a pass-through object: a split, a union, a port of the superblock around it, or a tag object.
 pub fn is_pass_through(gui: &str) -> bool
     ensures { result ≡ is_pass_through gui.now }
 {
-    matches!(Role::of(gui), Role::Port | Role::Joint)
+    matches!(Role::of(gui), Role::Port | Role::Joint | Role::Tag)
 }
 
 /// Whether a name is that of a tag object, an end of a link that isn't drawn: GOTO, FROM, CLKGOTO or CLKFROM.

@@ -75,6 +75,10 @@ fn reads_a_superblock_among_blocks_and_links(rt: HostRuntime) -> Result<(), Fail
         _ => panic!(&rt; "no link"),
     }
     assert!(rt; is_pass_through("CLKSOM_f") && !is_pass_through("CLKIN_f"));
+    assert!(rt; is_pass_through("GOTO"));
+    assert!(rt; is_pass_through("FROM"));
+    assert!(rt; is_pass_through("CLKGOTO"));
+    assert!(rt; is_pass_through("CLKFROM"));
     assert!(rt; is_tag("CLKGOTO") && !is_tag("GotoTagVisibility"));
     Ok(())
 }

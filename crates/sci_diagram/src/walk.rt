@@ -1,4 +1,4 @@
-ghost use Rattle.std.specs.Prelude.{◌≡◌, ◌^◌, ◌<◌, ◌≤◌, ◌++◌, ◌∷◌, [], Ok, IfOk, IfErr, pos, codes, map, Some, None, if◌then◌else◌};
+ghost use Rattle.std.specs.Prelude.{◌≡◌, ◌^◌, ◌<◌, ◌≤◌, Ok, IfOk, IfErr, pos, codes, map, Some, None, if◌then◌else◌};
 ghost use Rattle.sci_json.specs.View.{view, items_view};
 ghost use Rattle.sci_json.specs.Field.{field};
 ghost use Rattle.sci_diagram.specs.Objects.{objects_of, object_view, block_view, diagram_view};
@@ -11,11 +11,11 @@ use crate::diagram::{BlockObj, Diagram, Obj};
 use crate::fields::{missing, required_text, too_deep, wrong};
 use crate::links::read_link;
 use crate::model::{is_super, read_fields};
+use crate::places::child;
 use crate::sorts::{Role, Sort, read_sort};
 use sci_base::Stop;
 use sci_json::FieldStop;
 use sci_json::document::{Items, Value};
-use smallvec::SmallVec;
 use std::alloc::Global;
 
 /// The diagram at a place, where `left` levels are left.
@@ -115,16 +115,6 @@ fn read_block(alloc: Global, v: &Value<'_, '_>, at: &[u32], left: u32) -> Result
             inner: None,
         })
     }
-}
-
-// The place of the object at a position of the diagram at a place. It is short enough to stand in line at every level.
-fn child(alloc: Global, at: &[u32], position: u32) -> Result<SmallVec<u32, 16, Global>, Stop>
-    ensures ok { IfOk result (λ p. p.items ≡ at.now ++ position ∷ []) }
-    ensures stop { IfErr result (λ e. e ≡ Stop.Memory) }
-{
-    let mut path = SmallVec::from_slice(alloc, at)?;
-    path.push(position)?;
-    Ok(path)
 }
 
 #[tactic(auto, using(crate::proofs::Told::tells_violation), unfolding(crate::specs::Tree::list_of))]

@@ -20,10 +20,9 @@ use Rattle.sci_blocks.specs.Wiring.{fed_by, source_class, target_class}
 use Rattle.sci_blocks.specs.Kept.{AreObjectsKept, IsObjectKept, AreBlocksKept, AreLinksKept, regular_ends}
 use Rattle.sci_blocks.proofs.Keeping.{before}
 use Rattle.sci_goto.specs.declared.tag.Tag.{Tag}
-use Rattle.sci_goto.specs.declared.tag.TagObject.{TagObject}
 use Rattle.sci_goto.specs.declared.tag.TagForm.{TagForm}
-use Rattle.sci_goto.specs.declared.tag.TagForm.TheVariants.{Ports, Parameters, Gives, Takes}
-use Rattle.sci_goto.specs.Forms.{tag_object, form_of}
+use Rattle.sci_goto.specs.declared.tag.TagForm.TheVariants.{WrongPorts, WrongParameters, Gives, Takes}
+use Rattle.sci_goto.specs.Forms.{form_of}
 use Rattle.sci_goto.specs.Phase.{Standing, standing_as, standing_in, object_standing, standing, Giving, Taking, Tags, no_tags, taking, giving, gives, server, few_enough, joined, gathered, all_served, tags_of}
 use Rattle.sci_flat.specs.Chain.{Step}
 use Rattle.sci_flat.specs.Ports.{Port, port, PortStep, through_steps, steps_of, object_steps, tree_steps}
@@ -34,7 +33,6 @@ use Rattle.sci_flat.proofs.Leads.{leads, object_leads}
 use Rattle.sci_flat.proofs.Before.{regular_drawn_before}
 use Rattle.sci_flat.proofs.OneBefore.{one_drawn_before}
 use Rattle.sci_flat.proofs.SingleBlocks.{nowhere, two, inside, either_list, none_given, none_there, whole, first_off, later_off, output_regular, none_drawn_into}
-use Rattle.sci_flat.proofs.Tagging.{as_tag, tag_named}
 
 abbrev Block : Type 0
 Block = List ℕ × Fields
@@ -124,11 +122,13 @@ same_block t x y P Q l m e =
 
 -- ---- tag objects
 
+-- the block is a tag object, and says this
+abbrev Says : Block → TagForm → Type 0
+Says b form = form_of (pass_through b.0) b.1 ≡ Some form
+
 -- a tag object that says what the object at a position among those around it says
 record IsTagOf (s : Standing) (b : Block) : Type 0 where
-  o : TagObject
-  named : tag_object b.0 ≡ Some o
-  form : s.form ≡ form_of o b.1
+  says : Says b s.form
   last : ℕ
   position : s.place ≡ s.around ++ last ∷ []
 
@@ -144,11 +144,11 @@ each_more : (P Q : Standing → Type 0) (xs : List Standing) → ((s : Standing)
 each_more P Q [] f a = tt
 each_more P Q (x ∷ xs) f a = (f x a.0, each_more P Q xs f a.1)
 
-block_stands : (at : List ℕ) (k : ℕ) (gui : List ℕ) (f : Fields) (o : Option TagObject) → tag_object gui ≡ o → Each (λ s. LiesIn at k (block gui f) s.place (IsTagOf s)) (standing_as at (at ++ k ∷ []) f o)
+block_stands : (at : List ℕ) (k : ℕ) (gui : List ℕ) (f : Fields) (o : Option TagForm) → form_of (pass_through gui) f ≡ o → Each (λ s. LiesIn at k (block gui f) s.place (IsTagOf s)) (standing_as at (at ++ k ∷ []) o)
 block_stands at k gui f None e = tt
-block_stands at k gui f (Some o) e =
-    let s : Standing = record { around = at; place = at ++ k ∷ []; form = form_of o f } in
-    (here_lies at k gui f (IsTagOf s) (record { o = o; named = e; form = refl; last = k; position = refl }), tt)
+block_stands at k gui f (Some form) e =
+    let s : Standing = record { around = at; place = at ++ k ∷ []; form = form } in
+    (here_lies at k gui f (IsTagOf s) (record { says = e; last = k; position = refl }), tt)
 
 mutual
   unfolding standing_in object_standing
@@ -161,7 +161,7 @@ mutual
       (each_more (λ s. Lies at (k + 1) os s.place (IsTagOf s)) (λ s. Lies at k (object o os) s.place (IsTagOf s)) (standing_in at (k + 1) os) (λ s l. later_lies at k o os s.place (IsTagOf s) l) (stands at (k + 1) os))
 
   object_stands : (at : List ℕ) (k : ℕ) (o : Object) → Each (λ s. LiesIn at k o s.place (IsTagOf s)) (object_standing at (at ++ k ∷ []) o)
-  object_stands at k (block gui f) = block_stands at k gui f (tag_object gui) refl
+  object_stands at k (block gui f) = block_stands at k gui f (form_of (pass_through gui) f) refl
   object_stands at k (superblock gui f os) =
       each_more (λ s. Lies (at ++ k ∷ []) 1 os s.place (IsTagOf s)) (λ s. LiesIn at k (superblock gui f os) s.place (IsTagOf s)) (standing_in (at ++ k ∷ []) 1 os) (λ s l. within_lies at k gui f os s.place (IsTagOf s) l) (stands (at ++ k ∷ []) 1 os)
   object_stands at k (link from to kind) = tt
@@ -172,9 +172,7 @@ mutual
 
 -- the object that takes a tag, and the diagram that it stands in
 record IsTakingOf (t : Taking) (b : Block) : Type 0 where
-  o : TagObject
-  named : tag_object b.0 ≡ Some o
-  form : form_of o b.1 ≡ Takes t.tag
+  says : Says b (Takes t.tag)
   last : ℕ
   position : t.place ≡ t.around ++ last ∷ []
 
@@ -194,8 +192,8 @@ abbrev WhereTaken : (Taking → Type 0) → Standing → Type 0
 WhereTaken P s = (t : Tag) → s.form ≡ Takes t → P (taking s t)
 
 joined_taken : (P : Taking → Type 0) (tags more : Tags) (s : Standing) (form : TagForm) → s.form ≡ form → joined tags s form ≡ Ok more → EachTaken P tags.takers → WhereTaken P s → EachTaken P more.takers
-joined_taken P tags more s Ports e h a w = cc
-joined_taken P tags more s Parameters e h a w = cc
+joined_taken P tags more s WrongPorts e h a w = cc
+joined_taken P tags more s WrongParameters e h a w = cc
 joined_taken P tags more s (Gives t scope) e h a w = once (list_any (gives t (giving s t scope).within) tags.givers) _ h
   where
     once : (b : Bool) (v : Violation) → cond b (Err v) (Ok (record { givers = tags.givers ++ giving s t scope ∷ []; takers = tags.takers })) ≡ Ok more → EachTaken P more.takers
@@ -232,7 +230,7 @@ all_taken d tags h = gathered_taken (IsTaken d) no_tags tags (standing d) (tags_
       is_place = l.is_place;
       b = l.b;
       is = l.is;
-      own = record { o = l.own.o; named = l.own.named; form = sym l.own.form ∙ e; last = l.own.last; position = l.own.position };
+      own = record { says = l.own.says ∙ ap Some e; last = l.own.last; position = l.own.position };
     }
 
 -- ---- one taker at each place
@@ -251,8 +249,7 @@ front (a ∷ xs) (b ∷ ys) x y e =
 same_taker : (d : Objects) (t u : Taking) → IsTaken d t → IsTaken d u → t.place ≡ u.place → t ≡ u
 same_taker d t u l m e =
     let b : l.b ≡ m.b = same_block d t.place u.place (IsTakingOf t) (IsTakingOf u) l m e in
-    let o : l.own.o ≡ m.own.o = let q : Some l.own.o ≡ Some m.own.o = sym l.own.named ∙ (ap (λ (x : Block). tag_object x.0) b ∙ m.own.named) in cc in
-    let tag : t.tag ≡ u.tag = let q : Takes t.tag ≡ Takes u.tag = sym l.own.form ∙ (ap (λ (x : TagObject). form_of x l.b.1) o ∙ (ap (λ (x : Block). form_of m.own.o x.1) b ∙ m.own.form)) in cc in
+    let tag : t.tag ≡ u.tag = let q : Some (Takes t.tag) ≡ Some (Takes u.tag) = sym l.own.says ∙ (ap (λ (x : Block). form_of (pass_through x.0) x.1) b ∙ m.own.says) in cc in
     let around : t.around ≡ u.around = front t.around u.around l.own.last m.own.last (sym l.own.position ∙ (e ∙ m.own.position)) in
     whole t.place u.place t.around u.around t.tag u.tag e around tag
   where
@@ -299,14 +296,14 @@ leads_from t (Some g) p q (inr s) = absurd s
 
 -- ---- nothing that is drawn leads to a tag object's output
 
-silent : (p : Option PassThrough) (o : TagObject) → as_tag p ≡ Some o → (at here : List ℕ) (f : Fields) → through_steps at here f p ≡ []
-silent None o e at here f = cc
-silent (Some Split) o e at here f = cc
-silent (Some ActivationSplit) o e at here f = cc
-silent (Some Union) o e at here f = cc
-silent (Some (PortBlock c)) o e at here f = cc
-silent (Some (Giver l)) o e at here f = refl
-silent (Some (Taker l)) o e at here f = refl
+silent : (p : Option PassThrough) (f : Fields) (form : TagForm) → form_of p f ≡ Some form → (at here : List ℕ) → through_steps at here f p ≡ []
+silent None f form e at here = cc
+silent (Some Split) f form e at here = cc
+silent (Some ActivationSplit) f form e at here = cc
+silent (Some Union) f form e at here = cc
+silent (Some (PortBlock c)) f form e at here = cc
+silent (Some (Giver l)) f form e at here = refl
+silent (Some (Taker l)) f form e at here = refl
 
 abbrev NoStep : List ℕ → Objects → ℕ → List ℕ → Type 0
 NoStep at os k path = (p q : Port) → q.place ≡ at ++ path → q.class ≡ Output → Step (steps_of at k os) p q → ⊥
@@ -328,31 +325,31 @@ module _ (at : List ℕ) (k j : ℕ) (rest : List ℕ) (b : Block) (o : Object) 
         | inr y ↦ g i y
       ]
 
-block_silent : (at here : List ℕ) (gui : List ℕ) (f : Fields) (b : Block) (o : TagObject) → (gui, f) ≡ b → tag_object b.0 ≡ Some o → (p q : Port) → Step (through_steps at here f (pass_through gui)) p q → ⊥
-block_silent at here gui f b o e named p q s =
-    let is : tag_object gui ≡ Some o = ap (λ (x : Block). tag_object x.0) e ∙ named in
-    subst (λ (x : List PortStep). Step x p q) (silent (pass_through gui) o (tag_named gui ∙ is) at here f) s
+block_silent : (at here : List ℕ) (gui : List ℕ) (f : Fields) (b : Block) (form : TagForm) → (gui, f) ≡ b → Says b form → (p q : Port) → Step (through_steps at here f (pass_through gui)) p q → ⊥
+block_silent at here gui f b form e says p q s =
+    let is : Says (gui, f) form = ap (λ (x : Block). form_of (pass_through x.0) x.1) e ∙ says in
+    subst (λ (x : List PortStep). Step x p q) (silent (pass_through gui) f form is at here) s
 
 mutual
   unfolding block_in block_of steps_of object_steps
 
-  undrawn_in : (at : List ℕ) (k : ℕ) (os : Objects) → AreObjectsKept os → (j : ℕ) (rest : List ℕ) (b : Block) (o : TagObject) → block_in k (j ∷ rest) os ≡ Some b → tag_object b.0 ≡ Some o
+  undrawn_in : (at : List ℕ) (k : ℕ) (os : Objects) → AreObjectsKept os → (j : ℕ) (rest : List ℕ) (b : Block) (form : TagForm) → block_in k (j ∷ rest) os ≡ Some b → Says b form
       → (p q : Port) → q.place ≡ at ++ j ∷ rest → q.class ≡ Output → Step (steps_of at k os) p q → ⊥
-  undrawn_in at k no_objects kept j rest b t e named p q place class s = absurd s
-  undrawn_in at k (object o os) kept j rest b t e named p q place class s =
+  undrawn_in at k no_objects kept j rest b form e says p q place class s = absurd s
+  undrawn_in at k (object o os) kept j rest b form e says p q place class s =
       chosen at k j rest b o os kept (nat_eq j k) refl e p q place class
-      (λ i here x. undrawn_of at k o kept.0 rest b t i named p q here class x)
-      (λ i y. undrawn_in at (k + 1) os kept.1 j rest b t i named p q place class y) s
+      (λ i here x. undrawn_of at k o kept.0 rest b form i says p q here class x)
+      (λ i y. undrawn_in at (k + 1) os kept.1 j rest b form i says p q place class y) s
 
-  undrawn_of : (at : List ℕ) (k : ℕ) (o : Object) → IsObjectKept o → (rest : List ℕ) (b : Block) (t : TagObject) → block_of o rest ≡ Some b → tag_object b.0 ≡ Some t
+  undrawn_of : (at : List ℕ) (k : ℕ) (o : Object) → IsObjectKept o → (rest : List ℕ) (b : Block) (form : TagForm) → block_of o rest ≡ Some b → Says b form
       → (p q : Port) → q.place ≡ (at ++ k ∷ []) ++ rest → q.class ≡ Output → Step (object_steps at (at ++ k ∷ []) o) p q → ⊥
-  undrawn_of at k (block gui f) kept [] b t e named p q place class s = block_silent at (at ++ k ∷ []) gui f b t (let is : (gui, f) ≡ b = cc in is) named p q s
-  undrawn_of at k (block gui f) kept (j ∷ rest) b t e named p q place class s = absurd (nothing b e)
-  undrawn_of at k (superblock gui f os) kept [] b t e named p q place class s = absurd (nothing b e)
-  undrawn_of at k (superblock gui f os) kept (j ∷ rest) b t e named p q place class s = undrawn_in (at ++ k ∷ []) 1 os kept.1 j rest b t e named p q place class s
-  undrawn_of at k (link from to kind) kept rest b t e named p q place class s = absurd (nothing b e)
-  undrawn_of at k text kept rest b t e named p q place class s = absurd s
-  undrawn_of at k deleted kept rest b t e named p q place class s = absurd s
+  undrawn_of at k (block gui f) kept [] b form e says p q place class s = block_silent at (at ++ k ∷ []) gui f b form (let is : (gui, f) ≡ b = cc in is) says p q s
+  undrawn_of at k (block gui f) kept (j ∷ rest) b form e says p q place class s = absurd (nothing b e)
+  undrawn_of at k (superblock gui f os) kept [] b form e says p q place class s = absurd (nothing b e)
+  undrawn_of at k (superblock gui f os) kept (j ∷ rest) b form e says p q place class s = undrawn_in (at ++ k ∷ []) 1 os kept.1 j rest b form e says p q place class s
+  undrawn_of at k (link from to kind) kept rest b form e says p q place class s = absurd (nothing b e)
+  undrawn_of at k text kept rest b form e says p q place class s = absurd s
+  undrawn_of at k deleted kept rest b form e says p q place class s = absurd s
 
 -- a taker's output, where it is regular
 taken_output : (l : LinkType) → IsRegular (source_class l) → source_class l ≡ Output
@@ -364,7 +361,7 @@ undrawn t kept gs p p' q r x s =
     let is = leads_to x.t (server gs x.t) p q x.step in
     let class : source_class x.t.tag.link ≡ q.class = ap (λ (y : Port). y.class) is in
     let place : x.t.place ≡ q.place = ap (λ (y : Port). y.place) is in
-    undrawn_in [] 1 t kept.1 x.taken.j x.taken.rest x.taken.b x.taken.own.o x.taken.is x.taken.own.named p' q (sym place ∙ x.taken.is_place)
+    undrawn_in [] 1 t kept.1 x.taken.j x.taken.rest x.taken.b (Takes x.t.tag) x.taken.is x.taken.own.says p' q (sym place ∙ x.taken.is_place)
     (sym class ∙ taken_output x.t.tag.link (subst IsRegular (sym class) r)) s
 
 -- ---- over all steps
@@ -440,8 +437,8 @@ mutual
   object_lies at k deleted ps h i l = absurd (none_there ps (none_given ps h) i l)
 
 -- a block's name is none of a tag object
-no_tag_object : (gui : List ℕ) (o : TagObject) → pass_through gui ≡ None → tag_object gui ≡ Some o → ⊥
-no_tag_object gui o e f = let q : None ≡ Some o = sym (ap as_tag e) ∙ (tag_named gui ∙ f) in cc
+no_tag_object : (b : Block) (form : TagForm) → IsBlock b → Says b form → ⊥
+no_tag_object b form e says = let q : None ≡ Some form = sym (ap (λ (p : Option PassThrough). form_of p b.1) e) ∙ says in cc
 
 pub none_into : (t : Objects) (ps : List Placed) → parts_of t ≡ Ok ps → (i : ℕ) → i < length ps → (p q : Port) → q.place ≡ (get_or ps i nowhere).place → q.class ≡ Output → Step (all_steps t) p q → ⊥
 none_into t ps h i l p q place class s = elim (step_append (tree_steps t) (tag_steps (tags_of t)) p q s) [
@@ -454,4 +451,4 @@ none_into t ps h i l p q place class s = elim (step_append (tree_steps t) (tag_s
         let here = blocks_lie [] 1 t ps (whole t ps h) i l in
         let at : x.t.place ≡ (get_or ps i nowhere).place = ap (λ (y : Port). y.place) (leads_to x.t _ p q x.step) ∙ place in
         let same = same_block t x.t.place (get_or ps i nowhere).place (IsTakingOf x.t) IsBlock x.taken here at in
-        no_tag_object here.b.0 x.taken.own.o here.own (ap (λ (y : Block). tag_object y.0) (sym same) ∙ x.taken.own.named)
+        no_tag_object here.b (Takes x.t.tag) here.own (ap (λ (y : Block). form_of (pass_through y.0) y.1) (sym same) ∙ x.taken.own.says)

@@ -9,7 +9,7 @@ use Rattle.sci_blocks.specs.Blocks.{Placed}
 use Rattle.sci_blocks.specs.Wiring.{source_class, target_class}
 use Rattle.sci_goto.specs.declared.serving.Serving.{Serving}
 use Rattle.sci_goto.specs.declared.tag.TagForm.{TagForm}
-use Rattle.sci_goto.specs.declared.tag.TagForm.TheVariants.{Ports, Parameters, Gives, Takes}
+use Rattle.sci_goto.specs.declared.tag.TagForm.TheVariants.{WrongPorts, WrongParameters, Gives, Takes}
 use Rattle.sci_goto.specs.Phase.{Standing, standing}
 use Rattle.sci_flat.specs.Chain.{AllWithin}
 use Rattle.sci_flat.specs.declared.steps.seat.Seat.{Seat}
@@ -49,8 +49,8 @@ pub record IsNumberOf (names : List Port) (n : ℕ) (p : Port) : Type 0 where
 -- the number is that of a tag object's port, where the object says what it gives or takes: the input of what gives a tag, the output of
 -- what takes one
 abbrev pub IsTagNumber : List Port → List ℕ → TagForm → ℕ → Type 0
-IsTagNumber names place Ports n = Unit {0}
-IsTagNumber names place Parameters n = Unit {0}
+IsTagNumber names place WrongPorts n = Unit {0}
+IsTagNumber names place WrongParameters n = Unit {0}
 IsTagNumber names place (Gives t scope) n = IsNumberOf names n (port place (target_class t.link) (pos 1))
 IsTagNumber names place (Takes t) n = IsNumberOf names n (port place (source_class t.link) (pos 1))
 

@@ -1,9 +1,9 @@
 -- What a tag stands for: a link that isn't drawn. The steps of a tree with those of its tags.
-use Rattle.std.specs.Prelude.{pos, List, [], ◌∷◌, ◌++◌, flat_map, Option, Some, None, Ok, Err}
+use Rattle.std.specs.Prelude.{◌≡◌, pos, List, [], ◌∷◌, ◌++◌, flat_map, Option, Some, None, Ok, Err}
 use Rattle.sci_base.specs.Outcome.{Outcome}
 use Rattle.sci_diagram.specs.Objects.{Objects}
 use Rattle.sci_blocks.specs.Wiring.{source_class, target_class}
-use Rattle.sci_goto.specs.Phase.{Giving, Taking, Tags, server, tags_of}
+use Rattle.sci_goto.specs.Phase.{standing, Giving, Taking, Tags, server, tags_of}
 use Rattle.sci_flat.specs.Ports.{port, PortStep, tree_steps}
 
 -- from the input of what gives a tag to the output of what takes it
@@ -22,3 +22,7 @@ tag_steps (Err v) = []
 -- the steps that are drawn, and then those of the tags
 abbrev pub all_steps : Objects → List PortStep
 all_steps d = tree_steps d ++ tag_steps (tags_of d)
+
+-- a diagram in which no object is a tag has the steps of its drawing alone
+abbrev pub DrawnAlone : Type 0
+DrawnAlone = (d : Objects) → standing d ≡ [] → all_steps d ≡ tree_steps d

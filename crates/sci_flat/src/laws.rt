@@ -7,6 +7,7 @@ ghost use Rattle.sci_net.specs.Parts.{Parts};
 ghost use Rattle.sci_flat.specs.Ready.{IsReady};
 ghost use Rattle.sci_flat.specs.Flat.{IsFlatNet};
 ghost use Rattle.sci_flat.specs.Refused.{Breaks};
+ghost use Rattle.sci_flat.specs.Tagged.{DrawnAlone};
 
 /// Every diagram that is read from a file has what flattening asks of it.
 pub fn read_is_ready()
@@ -21,4 +22,9 @@ pub fn one_verdict()
 /// A tree breaks at most one rule first.
 pub fn one_violation()
     ensures { (t : Objects) (v w : Violation) → Breaks t v → Breaks t w → v ≡ w }
+{}
+
+/// A diagram in which no object is a tag has the steps of its drawing alone.
+pub fn drawn_alone()
+    ensures { DrawnAlone }
 {}

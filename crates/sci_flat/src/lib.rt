@@ -18,7 +18,7 @@ mod tests;
 mod wires;
 
 pub use flat::flatten;
-pub use laws::{one_verdict, one_violation, read_is_ready};
+pub use laws::{drawn_alone, one_verdict, one_violation, read_is_ready};
 
 /// The definitions say what was worked out by hand for a small diagram.
 pub fn worked_feeds()

@@ -10,7 +10,7 @@ use Rattle.sci_base.proofs.Stopping.{stops_then, stops_after}
 use Rattle.sci_goto.specs.declared.placed.PlacedTag.{PlacedTag}
 use Rattle.sci_goto.specs.declared.givers.Givers.{Givers}
 use Rattle.sci_goto.specs.declared.tag.TagForm.{TagForm}
-use Rattle.sci_goto.specs.declared.tag.TagForm.TheVariants.{Ports, Parameters, Gives, Takes}
+use Rattle.sci_goto.specs.declared.tag.TagForm.TheVariants.{WrongPorts, WrongParameters, Gives, Takes}
 use Rattle.sci_goto.specs.Phase.{Standing, Giving, Tags, no_tags, within, giving, taking, gives, joined, gathered}
 use Rattle.sci_goto.specs.Serving.{standing_at}
 use Rattle.sci_goto.specs.Placed.{standing_of}
@@ -85,8 +85,8 @@ once_takers tags more g true v h = cc
 once_takers tags more g false v h = let same : record { givers = tags.givers ++ g ∷ []; takers = tags.takers } ≡ more = cc in sym (ap (λ (t : Tags). t.takers) same)
 
 joined_takers : (tags more : Tags) (s : Standing) (f : TagForm) → joined tags s f ≡ Ok more → more.takers ≡ tags.takers ++ takings_as s f
-joined_takers tags more s Ports h = cc
-joined_takers tags more s Parameters h = cc
+joined_takers tags more s WrongPorts h = cc
+joined_takers tags more s WrongParameters h = cc
 joined_takers tags more s (Gives t scope) h =
     once_takers tags more (giving s t scope) (list_any (gives t (within scope s.around)) tags.givers) _ h ∙ sym (append-nil tags.takers)
 joined_takers tags more s (Takes t) h = let same : record { givers = tags.givers; takers = tags.takers ++ taking s t ∷ [] } ≡ more = cc in sym (ap (λ (t : Tags). t.takers) same)

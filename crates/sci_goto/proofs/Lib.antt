@@ -1,4 +1,4 @@
-mod Untagged
+pub mod Untagged
 mod Walking
 mod Keys
 mod Holding

@@ -9,7 +9,7 @@ use Rattle.sci_goto.specs.declared.givers.Givers.{Givers}
 use Rattle.sci_goto.specs.declared.serving.Serving.{Serving}
 use Rattle.sci_goto.specs.declared.tag.Tag.{Tag}
 use Rattle.sci_goto.specs.declared.tag.TagForm.{TagForm}
-use Rattle.sci_goto.specs.declared.tag.TagForm.TheVariants.{Ports, Parameters, Gives, Takes}
+use Rattle.sci_goto.specs.declared.tag.TagForm.TheVariants.{WrongPorts, WrongParameters, Gives, Takes}
 use Rattle.sci_goto.specs.Phase.{Standing, Giving, Taking, Tags, taking, same_tag, gives}
 use Rattle.sci_goto.specs.Serving.{standing_at, IsGiverAt, IsServing}
 
@@ -52,8 +52,8 @@ pub record IsJoined (m : Givers) (ss : List Standing) (o : Outcome Tags) : Type 
 
 -- the takers among these tag objects
 abbrev pub takings_as : Standing → TagForm → List Taking
-takings_as s Ports = []
-takings_as s Parameters = []
+takings_as s WrongPorts = []
+takings_as s WrongParameters = []
 takings_as s (Gives t scope) = []
 takings_as s (Takes t) = taking s t ∷ []
 

@@ -5,19 +5,19 @@ use Rattle.std.specs.Option.{option_eq}
 use Rattle.std.specs.Str.{bytes_eq}
 use Rattle.sci_base.specs.declared.refusal.Rule.{Rule}
 use Rattle.sci_base.specs.declared.refusal.Rule.TheVariants.{TagShape, TagTwice, TagMissing, TooManyTags}
-use Rattle.sci_base.specs.Plain.{Violation, Fields}
+use Rattle.sci_base.specs.Plain.{Violation}
 use Rattle.sci_base.specs.Outcome.{Outcome, ◌>>=◌}
 use Rattle.sci_diagram.specs.Objects.{Object, block, superblock, link, text, deleted, Objects, no_objects, object}
 use Rattle.sci_forms.specs.Forms.{or_else}
 use Rattle.sci_blocks.specs.declared.class.LinkType.{LinkType}
 use Rattle.sci_blocks.specs.declared.class.LinkType.TheVariants.{Regular, Activation}
+use Rattle.sci_blocks.specs.Rows.{pass_through}
 use Rattle.sci_goto.specs.declared.tag.Tag.{Tag}
 use Rattle.sci_goto.specs.declared.tag.Scope.{Scope}
 use Rattle.sci_goto.specs.declared.tag.Scope.TheVariants.{Local, Global}
-use Rattle.sci_goto.specs.declared.tag.TagObject.{TagObject}
 use Rattle.sci_goto.specs.declared.tag.TagForm.{TagForm}
-use Rattle.sci_goto.specs.declared.tag.TagForm.TheVariants.{Ports, Parameters, Gives, Takes}
-use Rattle.sci_goto.specs.Forms.{tag_object, form_of}
+use Rattle.sci_goto.specs.declared.tag.TagForm.TheVariants.{WrongPorts, WrongParameters, Gives, Takes}
+use Rattle.sci_goto.specs.Forms.{form_of}
 
 -- ---- the tag objects of a tree
 
@@ -27,9 +27,9 @@ pub record Standing : Type 0 where
   pub place : List ℕ
   pub form : TagForm
 
-abbrev pub standing_as : List ℕ → List ℕ → Fields → Option TagObject → List Standing
-standing_as at here f None = []
-standing_as at here f (Some o) = record { around = at; place = here; form = form_of o f } ∷ []
+abbrev pub standing_as : List ℕ → List ℕ → Option TagForm → List Standing
+standing_as at here None = []
+standing_as at here (Some form) = record { around = at; place = here; form = form } ∷ []
 
 -- the objects of the diagram at a place, the first of them at position k, in tree order
 unfoldable mutual
@@ -38,7 +38,7 @@ unfoldable mutual
   standing_in at k (object o os) = object_standing at (at ++ k ∷ []) o ++ standing_in at (k + 1) os
 
   pub object_standing : List ℕ → List ℕ → Object → List Standing
-  object_standing at here (block gui f) = standing_as at here f (tag_object gui)
+  object_standing at here (block gui f) = standing_as at here (form_of (pass_through gui) f)
   object_standing at here (superblock gui f os) = standing_in here 1 os
   object_standing at here (link from to kind) = []
   object_standing at here text = []
@@ -120,8 +120,8 @@ given_once tags g =
 
 -- one more tag object: its ports, then its parameters, then that it gives its tag as the first
 abbrev pub joined : Tags → Standing → TagForm → Outcome Tags
-joined tags s Ports = Err (ill_formed s.place (pos 1))
-joined tags s Parameters = Err (ill_formed s.place (pos 2))
+joined tags s WrongPorts = Err (ill_formed s.place (pos 1))
+joined tags s WrongParameters = Err (ill_formed s.place (pos 2))
 joined tags s (Gives t scope) = given_once tags (giving s t scope)
 joined tags s (Takes t) = Ok (record { givers = tags.givers; takers = tags.takers ++ taking s t ∷ [] })
 

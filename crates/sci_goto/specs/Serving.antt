@@ -8,13 +8,13 @@ use Rattle.sci_blocks.specs.declared.class.LinkType.TheVariants.{Regular}
 use Rattle.sci_goto.specs.declared.serving.Serving.{Serving}
 use Rattle.sci_goto.specs.declared.tag.Tag.{Tag}
 use Rattle.sci_goto.specs.declared.tag.Scope.{Scope}
-use Rattle.sci_goto.specs.declared.tag.TagForm.TheVariants.{Ports, Gives, Takes}
+use Rattle.sci_goto.specs.declared.tag.TagForm.TheVariants.{WrongPorts, Gives, Takes}
 use Rattle.sci_goto.specs.Phase.{Standing, standing, Giving, Taking, Tags, server, tags_of}
 
 -- ---- by position, from 0
 
 abbrev pub no_standing : Standing
-no_standing = record { around = []; place = []; form = Ports }
+no_standing = record { around = []; place = []; form = WrongPorts }
 
 -- the tag object at a position in tree order
 abbrev pub standing_at : List Standing → ℕ → Standing

@@ -3,9 +3,10 @@ ghost use Rattle.sci_base.specs.Stops.{IsViolation};
 ghost use Rattle.sci_goto.specs.Phase.{ill_formed, by_tag};
 ghost use Rattle.sci_goto.specs.Placed.{place_of};
 
-use crate::placed::{PlacedTag, child};
+use crate::placed::PlacedTag;
 use crate::tag::{Scope, Tag, TagForm};
 use sci_base::{NoMemory, Rule, Stop};
+use sci_diagram::child;
 use smallvec::SmallVec;
 use std::alloc::Global;
 use std::collections::BTreeMap;
@@ -116,8 +117,8 @@ impl Givers {
         ensures stop { (ss : List Standing) (tags : Tags) → HoldsGivers self.old ss tags.givers → IfErr result (λ e. Stops (joined tags (standing_of t.now) t.now.form) e) }
     {
         match t.form {
-            TagForm::Ports => Err(ill_formed(alloc, t, 1)),
-            TagForm::Parameters => Err(ill_formed(alloc, t, 2)),
+            TagForm::WrongPorts => Err(ill_formed(alloc, t, 1)),
+            TagForm::WrongParameters => Err(ill_formed(alloc, t, 2)),
             TagForm::Gives(tag, scope) => self.give(alloc, n, t, tag, scope),
             TagForm::Takes(_) => Ok(()),
         }

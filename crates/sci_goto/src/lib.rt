@@ -16,7 +16,7 @@ mod tests;
 pub use laws::{names_law, untagged_law};
 pub use served::serve;
 pub use serving::Serving;
-pub use tag::{Scope, Tag, TagForm, TagObject};
+pub use tag::{Scope, Tag, TagForm};
 
 /// The definitions say what was worked out by hand for small diagrams.
 pub fn worked_tags()

@@ -1,21 +1,12 @@
-// The ports and the parameters of a tag object.
+// The parameters of a tag object.
 ghost use Rattle.std.specs.Prelude.{◌≡◌};
-ghost use Rattle.sci_base.specs.Plain.{fields_of};
-ghost use Rattle.sci_goto.specs.Forms.{has_ports, tag_number, scope_of, gives_as, takes_as};
+ghost use Rattle.sci_goto.specs.Forms.{tag_number, scope_of, gives_as, takes_as, giver_form, taker_form};
 
 use crate::tag::{Scope, Tag, TagForm};
-use sci_base::BlockFields;
 use sci_blocks::LinkType;
 
-/// Whether a block has so many ports of each class.
-pub(crate) fn has_ports(f: &BlockFields, ins: usize, outs: usize, evtin: u32, evtout: u32) -> bool
-    ensures { result ≡ has_ports ins outs evtin evtout (fields_of f.now) }
-{
-    f.ins.len() == ins && f.outs.len() == outs && f.evtin == evtin && f.evtout == evtout
-}
-
 /// A tag's number.
-pub(crate) fn tag_number(n: i64) -> Option<u32>
+fn tag_number(n: i64) -> Option<u32>
     ensures { result ≡ tag_number n }
 {
     if n >= 1 && n <= 2147483647 {
@@ -25,7 +16,7 @@ pub(crate) fn tag_number(n: i64) -> Option<u32>
     }
 }
 
-pub(crate) fn scope_of(n: i64) -> Option<Scope>
+fn scope_of(n: i64) -> Option<Scope>
     ensures { result ≡ scope_of n }
 {
     match n {
@@ -35,23 +26,43 @@ pub(crate) fn scope_of(n: i64) -> Option<Scope>
     }
 }
 
-pub(crate) fn gives_as(link: LinkType, number: Option<u32>, scope: Option<Scope>) -> TagForm
+fn gives_as(link: LinkType, number: Option<u32>, scope: Option<Scope>) -> TagForm
     ensures { result ≡ gives_as link number scope }
 {
     match number {
-        None => TagForm::Parameters,
+        None => TagForm::WrongParameters,
         Some(number) => match scope {
-            None => TagForm::Parameters,
+            None => TagForm::WrongParameters,
             Some(scope) => TagForm::Gives(Tag { link, number }, scope),
         },
     }
 }
 
-pub(crate) fn takes_as(link: LinkType, number: Option<u32>) -> TagForm
+fn takes_as(link: LinkType, number: Option<u32>) -> TagForm
     ensures { result ≡ takes_as link number }
 {
     match number {
-        None => TagForm::Parameters,
+        None => TagForm::WrongParameters,
         Some(number) => TagForm::Takes(Tag { link, number }),
+    }
+}
+
+/// What an object that gives a tag says: the tag and its scope.
+pub(crate) fn giver_form(link: LinkType, ipar: &[i64]) -> TagForm
+    ensures { result ≡ giver_form link ipar.now }
+{
+    match ipar {
+        [number, scope] => gives_as(link, tag_number(*number), scope_of(*scope)),
+        _ => TagForm::WrongParameters,
+    }
+}
+
+/// What an object that takes a tag says: the tag alone.
+pub(crate) fn taker_form(link: LinkType, ipar: &[i64]) -> TagForm
+    ensures { result ≡ taker_form link ipar.now }
+{
+    match ipar {
+        [number] => takes_as(link, tag_number(*number)),
+        _ => TagForm::WrongParameters,
     }
 }

@@ -2,15 +2,15 @@
 ghost use Rattle.std.specs.Prelude.{◌≡◌, ◌++◌, ◌∷◌, [], map, IfOk, OnOk};
 ghost use Rattle.sci_base.specs.Plain.{fields_of};
 ghost use Rattle.sci_diagram.specs.Objects.{object_view, diagram_view};
+ghost use Rattle.sci_blocks.specs.Rows.{pass_through};
 ghost use Rattle.sci_blocks.specs.Sizes.{AreListsShort, IsInsideShort};
-ghost use Rattle.sci_goto.specs.Forms.{tag_object};
+ghost use Rattle.sci_goto.specs.Forms.{form_of};
 ghost use Rattle.sci_goto.specs.Phase.{standing_as, standing_in, object_standing, standing};
 ghost use Rattle.sci_goto.specs.Placed.{standing_of};
 
-use crate::tag::{TagForm, TagObject};
+use crate::tag::TagForm;
 use sci_base::{BlockFields, NoMemory, Place};
-use sci_diagram::{Diagram, Obj};
-use smallvec::SmallVec;
+use sci_diagram::{Diagram, Obj, child};
 use std::alloc::Global;
 
 /// A tag object.
@@ -23,19 +23,6 @@ pub(crate) struct PlacedTag {
     pub(crate) form: TagForm,
 }
 
-/// The place of the object at a position of the diagram at a place. It is short enough to stand in line at every level.
-pub(crate) fn child(
-    alloc: Global,
-    at: &[u32],
-    position: u32,
-) -> Result<SmallVec<u32, 16, Global>, NoMemory>
-    ensures { IfOk result (λ p. p.items ≡ at.now ++ position ∷ []) }
-{
-    let mut path = SmallVec::from_slice(alloc, at)?;
-    path.push(position)?;
-    Ok(path)
-}
-
 /// Adds a block that is no superblock, where it is a tag object.
 fn add_block(
     alloc: Global,
@@ -45,13 +32,12 @@ fn add_block(
     position: u32,
     tags: &mut Vec<PlacedTag>,
 ) -> Result<(), NoMemory>
-    ensures { OnOk result (map standing_of tags.new.items ≡ map standing_of tags.old.items ++ standing_as at.now (at.now ++ position ∷ []) (fields_of f.now) (tag_object gui.now)) }
+    ensures { OnOk result (map standing_of tags.new.items ≡ map standing_of tags.old.items ++ standing_as at.now (at.now ++ position ∷ []) (form_of (pass_through gui.now) (fields_of f.now))) }
 {
-    match TagObject::of(gui) {
+    match TagForm::of(gui, f) {
         None => Ok(()),
-        Some(object) => {
+        Some(form) => {
             let around = Place::of(alloc, at)?;
-            let form = object.form(f);
             tags.push(PlacedTag {
                 around,
                 position,

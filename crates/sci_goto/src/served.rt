@@ -12,7 +12,7 @@ use crate::givers::{Givers, by_tag};
 use crate::placed::{PlacedTag, placed_tags};
 use crate::serving::Serving;
 use crate::tag::TagForm;
-use sci_base::{Rule, Stop};
+use sci_base::{Rule, Stop, limits};
 use sci_diagram::Diagram;
 use std::alloc::Global;
 
@@ -22,7 +22,7 @@ fn few_enough(alloc: Global, n: usize) -> Result<(), Stop>
     ensures ok { OnOk result (few_enough n ≡ Ok tt) }
     ensures stop { IfErr result (λ e. Stops (few_enough n) e) }
 {
-    if n > 1024 {
+    if n > limits::TAGS as usize {
         return Err(Stop::by(alloc, Rule::TooManyTags, &[], &[n as i64]));
     }
     Ok(())
@@ -43,7 +43,7 @@ fn serving_of(
             Some(giver) => Ok(Some(Serving { giver, taker: n })),
             None => Err(by_tag(alloc, Rule::TagMissing, t, tag)),
         },
-        TagForm::Ports | TagForm::Parameters | TagForm::Gives(_, _) => Ok(None),
+        TagForm::WrongPorts | TagForm::WrongParameters | TagForm::Gives(_, _) => Ok(None),
     }
 }
 
@@ -54,9 +54,8 @@ fn servings(alloc: Global, givers: &Givers, tags: &[PlacedTag]) -> Result<Vec<Se
 {
     let mut servings = Vec::new(alloc);
     for (n, t) in tags.iter().enumerate() {
-        match serving_of(alloc, givers, n, t)? {
-            Some(serving) => servings.push(serving)?,
-            None => {}
+        if let Some(serving) = serving_of(alloc, givers, n, t)? {
+            servings.push(serving)?;
         }
     }
     Ok(servings)

@@ -1,7 +1,7 @@
-// Tags, and the objects that give and take them.
-use crate::parameters::{gives_as, has_ports, scope_of, tag_number, takes_as};
+// Tags, and what the objects say that give and take them.
+use crate::parameters::{giver_form, taker_form};
 use sci_base::BlockFields;
-use sci_blocks::LinkType;
+use sci_blocks::{LinkType, PassThrough, has_its_ports};
 
 /// A tag: those of values and those of activations are apart.
 #[derive(Clone, Copy, Debug, Drop, PartialEq, Eq, PartialOrd, Ord)]
@@ -20,78 +20,47 @@ pub enum Scope {
     Global,
 }
 
-/// A tag object, by its name.
-#[derive(Clone, Copy, Debug, Drop, PartialEq, Eq)]
-pub enum TagObject {
-    /// `GOTO`, `CLKGOTO`: gives a tag what comes to its input.
-    Giver(LinkType),
-    /// `FROM`, `CLKFROM`: takes what a tag is given to its output.
-    Taker(LinkType),
-}
-
 /// What a tag object says by its ports and its parameters.
 #[derive(Clone, Copy, Debug, Drop, PartialEq, Eq)]
 pub enum TagForm {
     /// Its counts of ports aren't those of its name.
-    Ports,
+    WrongPorts,
     /// Its parameters aren't a tag and, where it gives one, a scope.
-    Parameters,
+    WrongParameters,
     Gives(Tag, Scope),
     Takes(Tag),
 }
 
-impl TagObject {
+impl TagForm {
     ghost use Rattle.std.specs.Prelude.{◌≡◌};
     ghost use Rattle.sci_base.specs.Plain.{fields_of};
-    ghost use Rattle.sci_goto.specs.Forms.{tag_object, has_its_port, parameters_form, form_of};
+    ghost use Rattle.sci_blocks.specs.Rows.{pass_through};
+    ghost use Rattle.sci_goto.specs.Forms.{by_ports, form_of};
 
-    /// The tag object of a name.
-    pub fn of(gui: &str) -> Option<TagObject>
-        ensures { result ≡ tag_object gui.now }
+    // Its ports come first.
+    fn by_ports(p: PassThrough, f: &BlockFields, form: TagForm) -> TagForm
+        ensures { result ≡ by_ports p (fields_of f.now) form }
     {
-        match gui {
-            "GOTO" => Some(TagObject::Giver(LinkType::Regular)),
-            "FROM" => Some(TagObject::Taker(LinkType::Regular)),
-            "CLKGOTO" => Some(TagObject::Giver(LinkType::Activation)),
-            "CLKFROM" => Some(TagObject::Taker(LinkType::Activation)),
-            _ => None,
-        }
-    }
-
-    fn has_its_port(self, f: &BlockFields) -> bool
-        ensures { result ≡ has_its_port self (fields_of f.now) }
-    {
-        match self {
-            TagObject::Giver(LinkType::Regular) => has_ports(f, 1, 0, 0, 0),
-            TagObject::Taker(LinkType::Regular) => has_ports(f, 0, 1, 0, 0),
-            TagObject::Giver(LinkType::Activation) => has_ports(f, 0, 0, 1, 0),
-            TagObject::Taker(LinkType::Activation) => has_ports(f, 0, 0, 0, 1),
-        }
-    }
-
-    fn parameters_form(self, ipar: &[i64]) -> TagForm
-        ensures { result ≡ parameters_form self ipar.now }
-    {
-        match self {
-            TagObject::Giver(link) => match ipar {
-                [number, scope] => gives_as(link, tag_number(*number), scope_of(*scope)),
-                _ => TagForm::Parameters,
-            },
-            TagObject::Taker(link) => match ipar {
-                [number] => takes_as(link, tag_number(*number)),
-                _ => TagForm::Parameters,
-            },
-        }
-    }
-
-    /// What a tag object with these fields says.
-    pub fn form(self, f: &BlockFields) -> TagForm
-        ensures { result ≡ form_of self (fields_of f.now) }
-    {
-        if self.has_its_port(f) {
-            self.parameters_form(f.ipar.as_slice())
+        if has_its_ports(p, f) {
+            form
         } else {
-            TagForm::Ports
+            TagForm::WrongPorts
+        }
+    }
+
+    /// What a block with this name and these fields says, where it is a tag object.
+    pub fn of(gui: &str, f: &BlockFields) -> Option<TagForm>
+        ensures { result ≡ form_of (pass_through gui.now) (fields_of f.now) }
+    {
+        let p = PassThrough::of(gui)?;
+        let ipar = f.ipar.as_slice();
+        match p {
+            PassThrough::Giver(link) => Some(TagForm::by_ports(p, f, giver_form(link, ipar))),
+            PassThrough::Taker(link) => Some(TagForm::by_ports(p, f, taker_form(link, ipar))),
+            PassThrough::Split
+            | PassThrough::ActivationSplit
+            | PassThrough::Union
+            | PassThrough::PortBlock(_) => None,
         }
     }
 }

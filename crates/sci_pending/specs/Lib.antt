@@ -1,4 +1,3 @@
-pub mod Timer
 pub mod Pending
-pub mod Run
-pub mod Rows
+pub mod Order
+pub mod Worked

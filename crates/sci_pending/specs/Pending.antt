@@ -1,5 +1,5 @@
 -- The pending events, in no order. Each has the date at which it fires, the number in which it was programmed, and the
--- block whose activation output it is.
+-- source whose event it is, by its place among those of the net.
 use Rattle.std.specs.Prelude.{ℕ, ◌+◌, ◌==◌, ◌&&◌, ◌||◌, nat_lt, not, Bool, List, [], ◌∷◌, Option, Some, None, if◌then◌else◌, filter}
 use Rattle.std.specs.List.{list_any}
 

@@ -2,7 +2,7 @@
 use Rattle.std.proofs.Common.{◌≡◌, ℕ, ◌≤◌, nat_lt, Bool, false, List, [], ◌∷◌, ◌++◌, if◌then◌else◌, refl, sym, ap, subst, ◌∙◌, append_assoc, append-nil, arith}
 use Rattle.std.proofs.lemmas.Bool.Decides.{nat_tests}
 use Rattle.sci_pending.specs.Pending.{Pending, programmed}
-use Rattle.sci_run.specs.Order.{Falls, in_order}
+use Rattle.sci_pending.specs.Order.{Falls, in_order}
 use Rattle.sci_run.specs.Anew.{programmed_in_order, Rises, NumberedAnewLaw}
 use Rattle.sci_run.proofs.Sorting.{put_behind, programmed_behind}
 

@@ -24,7 +24,8 @@ use Rattle.sci_pending.specs.Pending.{Event, Pending, is_earlier, earlier, next,
 use Rattle.sci_run.specs.Activity.{Activity, halts}
 use Rattle.sci_run.specs.Programs.{with_delay, with_delays, firing_of, first_pending, delay_of, next_pending}
 use Rattle.sci_run.specs.Run.{State, first_state, taken, Over, Fires, in_time, comes_next, Reacts, ReachableFrom, here, reacted, Reachable}
-use Rattle.sci_run.specs.Order.{Falls, AreOnce, IsAhead, PendingInOrder}
+use Rattle.sci_pending.specs.Order.{Falls, AreOnce}
+use Rattle.sci_run.specs.Order.{IsAhead, PendingInOrder}
 use Rattle.sci_run.proofs.Ranges.{over_fires}
 
 pub by_cases : {A : Type 0} (b : Bool) (P : A → Type 0) (x y : A) → (b ≡ true → P x) → (b ≡ false → P y) → P (if b then x else y)
@@ -95,7 +96,7 @@ not_off : (t : Bool) → not t ≡ true → t ≡ false
 not_off true h = absurd (cc)
 not_off false h = refl
 
-none_of : (s : ℕ) (es : List Event) → is_pending s (without_source s es) ≡ false
+pub none_of : (s : ℕ) (es : List Event) → is_pending s (without_source s es) ≡ false
 none_of s [] = refl
 none_of s (e ∷ es) =
     by_cases (not (e.source == s)) (λ l. is_pending s l ≡ false) (e ∷ without_source s es) (without_source s es)
@@ -148,7 +149,7 @@ when_left until true x e h = absurd (over_fires Events e h)
 when_left until false None e h = absurd (over_fires Empty e h)
 when_left until false (Some f) e h = ap (λ v. Some v) (in_time_next until f e (nat_lt until f.date) h)
 
-fires_next : (until left : ℕ) (halted : Bool) (x : Option Event) (e : Event) → (if halted then Over Halt else if left == 0 then Over Events else in_time until x) ≡ Fires e → x ≡ Some e
+pub fires_next : (until left : ℕ) (halted : Bool) (x : Option Event) (e : Event) → (if halted then Over Halt else if left == 0 then Over Events else in_time until x) ≡ Fires e → x ≡ Some e
 fires_next until left true x e h = absurd (over_fires Halt e h)
 fires_next until left false x e h = when_left until (left == 0) x e h
 
@@ -157,7 +158,7 @@ fires_ahead n until left st e order fires =
     next_among (IsAhead n st.now) st.pending.events e (fires_next until left (halts n st.active) (next st.pending.events) e fires) (each_of (IsAhead n st.now) st.pending.events order.ahead)
 
 -- where the next event is taken, the others are due from its date on
-taken_ahead : (n : Parts) (now : ℕ) (p : Pending) (e : Event) → next p.events ≡ Some e → PendingInOrder n now p
+pub taken_ahead : (n : Parts) (now : ℕ) (p : Pending) (e : Event) → next p.events ≡ Some e → PendingInOrder n now p
     → PendingInOrder n e.date (record p { events = without e.order p.events })
 unfolding From
 taken_ahead n now p e is order =
@@ -178,7 +179,7 @@ below_limit : (d : ℕ) → pos d ≤ℤ pos 2147483647 → d < 2147483648
 below_limit d h = omega (arith, ints, h)
 
 module _ (n : Parts) (date : ℕ) where
-  programmed_ahead : (k : ℕ) (d : ℤ) (p : Pending) → 1 ≤ k → k < length (sources_of n) → d ≤ℤ pos 2147483647 → PendingInOrder n date p → PendingInOrder n date (with_delay date k d p)
+  pub programmed_ahead : (k : ℕ) (d : ℤ) (p : Pending) → 1 ≤ k → k < length (sources_of n) → d ≤ℤ pos 2147483647 → PendingInOrder n date p → PendingInOrder n date (with_delay date k d p)
   unfolding Each
   programmed_ahead k (pos d) p least most small order =
       let below = below_limit d small in
@@ -228,7 +229,7 @@ firing_small true xs p h =
     let b = both_true (nat_eq (length xs) 1) (firing_ok (at xs 0)) h in one_firing xs p (nat_same (length xs) 1 b.0) (int_le_told (at xs 0) (pos 2147483647) b.1)
 firing_small false xs p h = subst (λ v. v ≤ℤ pos 2147483647) (sym (no_firing xs p (nat_same (length xs) 0 h))) (omega arith)
 
-typed_firing : (s : Spec) (p : ℕ) → typed s ≡ true → numbered (negsuc 0) s.firing p ≤ℤ pos 2147483647
+pub typed_firing : (s : Spec) (p : ℕ) → typed s ≡ true → numbered (negsuc 0) s.firing p ≤ℤ pos 2147483647
 typed_firing s p h =
     let p3 = both_true _ _ h in
     let p2 = both_true _ _ p3.0 in

@@ -56,7 +56,7 @@ when_left until false None e t h = absurd (over_fires Empty e h)
 when_left until false (Some f) e t h = in_time_fires until f e (nat_lt until f.date) refl h
 
 -- an event fires only where one may, and not past the bound on time
-fires_within : (until left : ℕ) (halted : Bool) (x : Option Event) (e : Event) → (if halted then Over Halt else if left == 0 then Over Events else in_time until x) ≡ Fires e
+pub fires_within : (until left : ℕ) (halted : Bool) (x : Option Event) (e : Event) → (if halted then Over Halt else if left == 0 then Over Events else in_time until x) ≡ Fires e
     → (0 < left) × (e.date ≤ until)
 fires_within until left true x e h = absurd (over_fires Halt e h)
 fires_within until zero false x e h = absurd (over_fires Events e h)

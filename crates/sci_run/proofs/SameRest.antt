@@ -14,7 +14,7 @@ use Rattle.sci_pending.specs.Pending.{Event, Pending, next, without, replaced}
 use Rattle.sci_run.specs.Activity.{halts}
 use Rattle.sci_run.specs.Programs.{with_delay, with_delays, delay_of}
 use Rattle.sci_run.specs.Run.{State, taken, after_reaction, ReactionOutcome, Leads, StopsWith, IsOutcome, Decision, Over, Fires, in_time, comes_next, Reacts, Stops, Then, EndsOr, Observes, IsRunFrom, IsRest}
-use Rattle.sci_run.specs.Order.{Falls, due, in_order}
+use Rattle.sci_pending.specs.Order.{Falls, due, in_order}
 use Rattle.sci_run.specs.Alike.{SameMemory, AreAlike, GoOnAlike}
 use Rattle.sci_run.proofs.Ordered.{falls_kept}
 use Rattle.sci_run.proofs.Sorting.{put_behind, others_due, next_before, no_next, replaced_order}

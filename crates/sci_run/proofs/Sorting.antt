@@ -3,7 +3,7 @@ use Rattle.std.proofs.Common.{◌≡◌, ◌<◌, ◌≤◌, ◌==◌, nat_lt, n
 use Rattle.std.proofs.lemmas.Bool.{cases_Bool}
 use Rattle.std.proofs.lemmas.Bool.Decides.{nat_tests}
 use Rattle.sci_pending.specs.Pending.{Event, Pending, is_earlier, earlier, next, without, programmed, without_source, replaced}
-use Rattle.sci_run.specs.Order.{Falls, put_sorted, sorted, due, in_order}
+use Rattle.sci_pending.specs.Order.{Falls, put_sorted, sorted, due, in_order}
 use Rattle.sci_run.proofs.Ordered.{by_cases, falls_kept}
 
 abbrev pub put_behind : ℕ × ℕ → List (ℕ × ℕ) → List (ℕ × ℕ)

@@ -3,7 +3,7 @@ use Rattle.std.specs.Prelude.{◌≡◌, ℕ}
 use Rattle.sci_net.specs.Parts.{Parts, IsBlock}
 use Rattle.sci_reaction.specs.Memory.{Memory}
 use Rattle.sci_run.specs.Activity.{halts}
-use Rattle.sci_run.specs.Order.{Falls, in_order}
+use Rattle.sci_pending.specs.Order.{Falls, in_order}
 use Rattle.sci_run.specs.Run.{State}
 
 pub record SameMemory (n : Parts) (m other : Memory) : Type 0 where

@@ -1,7 +1,7 @@
 -- What is pending, numbered anew from the list of what falls due.
 use Rattle.std.specs.Prelude.{◌≡◌, ℕ, ◌≤◌, List, [], ◌∷◌}
 use Rattle.sci_pending.specs.Pending.{Pending, programmed}
-use Rattle.sci_run.specs.Order.{Falls, in_order}
+use Rattle.sci_pending.specs.Order.{Falls, in_order}
 
 -- each (date, source) of the list is programmed, in this order
 abbrev pub programmed_in_order : List (ℕ × ℕ) → Pending → Pending

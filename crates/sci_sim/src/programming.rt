@@ -1,57 +1,58 @@
 // Programming events.
-ghost use Rattle.std.specs.Prelude.{◌≡◌, ℕ, ◌+◌, [], ◌≤◌, ◌<◌, ◌^◌, ◌<ℤ◌, pos, false, map, length, All, OnOk, IfErr, Ok, Err};
-ghost use Rattle.sci_pending.specs.Timer.{event_delay, IsNet};
-ghost use Rattle.sci_agenda.specs.Firing.{Meaning, IsPort, is_pending};
-ghost use Rattle.sci_sim.specs.Firing.{program_due, due_first, first_due};
+ghost use Rattle.std.specs.Prelude.{◌≡◌, ℕ, ◌+◌, ◌-◌, ◌<◌, ◌^◌, ◌<ℤ◌, ℤ, pos, [], length};
+ghost use Rattle.sci_net.specs.declared.Source.{Source};
+ghost use Rattle.sci_net.specs.Sources.{sources_of, source_of};
+ghost use Rattle.sci_net.specs.Parts.{Parts};
+ghost use Rattle.sci_pending.specs.Pending.{Pending};
+ghost use Rattle.sci_run.specs.Programs.{first_pending, with_delay};
+ghost use Rattle.sci_agenda.specs.Firing.{IsPort};
+ghost use Rattle.sci_sim.specs.Programming.{firing_at, Keeps};
 
-use crate::targets::Target;
 use sci_agenda::agenda::Agenda;
-use sci_agenda::wheel::WheelAgenda;
-use sci_pending::Timer;
+use sci_net::{Net, Source};
 
-/// The targets program their outputs at a date. An `Err` is the block of a conflict.
-pub fn program(targets: &[Target], date: u64, agenda: &mut WheelAgenda) -> Result<(), u32>
-    requires ports { All (λ x. IsPort agenda.old.meaning x.block) targets.now }
-    requires delays { All (λ x. x.delay < 2147483648) targets.now }
-    requires now { agenda.old.meaning.now ≡ date }
-    requires date { date ≤ 2 ^ 62 }
-    ensures ok { OnOk result (program_due date targets.now agenda.old.meaning.events ≡ Ok agenda.new.meaning.events) }
-    ensures conflict { IfErr result (λ b. program_due date targets.now agenda.old.meaning.events ≡ Err b) }
-    ensures ports { agenda.new.meaning.ports ≡ agenda.old.meaning.ports }
+/// Programs a source after a delay of so many ticks, in place of the event of it that waits; a delay of -1 programs nothing.
+pub fn program<A: Agenda>(agenda: &mut A, date: u64, delay: i64, source: u32)
+    requires port { IsPort (A.meaning agenda.old) source }
+    requires small { date < 2 ^ 63 }
+    requires delay { delay <ℤ pos (2 ^ 31) }
+    requires keeps { (n : Parts) × (offset : ℕ) × (p : Pending) × Keeps n offset (date + offset) (A.meaning agenda.old) (A.puts agenda.old) p }
+    ensures { (n : Parts) (offset : ℕ) (p : Pending) → Keeps n offset (date + offset) (A.meaning agenda.old) (A.puts agenda.old) p → Keeps n offset (date + offset) (A.meaning agenda.new) (A.puts agenda.new) (with_delay (date + offset) source delay p) }
 {
-    for target in targets {
-        if agenda.is_pending(target.block) {
-            return Err(target.block);
+    if let Ok(ticks) = u64::try_from(delay) {
+        if agenda.is_pending(source) {
+            agenda.remove(source);
         }
-        agenda.put(date + target.delay, target.block);
-    }
-    Ok(())
-}
-
-fn program_first_of(timer: &Timer, block: u32, agenda: &mut WheelAgenda)
-    requires port { IsPort agenda.old.meaning block }
-    requires free { is_pending block agenda.old.meaning.events ≡ false }
-    requires now { agenda.old.meaning.now ≡ 0 }
-    requires firing { timer.now.firing <ℤ pos (2 ^ 31) }
-    ensures events { agenda.new.meaning.events ≡ due_first block timer.now.firing agenda.old.meaning.events }
-    ensures now { agenda.new.meaning.now ≡ 0 }
-    ensures ports { agenda.new.meaning.ports ≡ agenda.old.meaning.ports }
-{
-    if let Ok(date) = u64::try_from(timer.firing) {
-        agenda.put(date, block);
+        agenda.put(date + ticks, source);
     }
 }
 
-/// The timers of a net program their first events.
-pub fn program_first(timers: &[Timer], agenda: &mut WheelAgenda)
-    requires net { IsNet (map event_delay timers.now) }
-    requires start { agenda.old.meaning ≡ (record { events = []; now = 0; ports = length timers.now }) }
-    requires count { length timers.now < 2 ^ 32 }
-    ensures { agenda.new.meaning ≡ (record { events = first_due 1 (map event_delay timers.now) []; now = 0; ports = length timers.now }) }
+/// The first event of a source: its date, or -1.
+fn firing(net: &Net, source: u32) -> i64
+    requires { source < length (sources_of net.now) }
+    ensures value { result ≡ firing_at net.now (source_of net.now source) }
+    ensures small { result <ℤ pos (2 ^ 31) }
 {
-    let mut block = 0u32;
-    for timer in timers {
-        block += 1;
-        program_first_of(timer, block, agenda);
+    match net.source(source) {
+        Source::Start => -1,
+        Source::Port(q) => {
+            let firing = &net.spec(q.block).firing;
+            if q.port as usize <= firing.len() {
+                firing.get(q.port as usize - 1)
+            } else {
+                -1
+            }
+        }
+    }
+}
+
+/// The activation outputs with a first event program it.
+pub fn program_first<A: Agenda>(net: &Net, agenda: &mut A)
+    requires empty { A.meaning agenda.old ≡ record { events = []; now = 0; ports = length (sources_of net.now) - 1 } }
+    requires uncounted { A.puts agenda.old ≡ 0 }
+    ensures { Keeps net.now 0 0 (A.meaning agenda.new) (A.puts agenda.new) (first_pending net.now) }
+{
+    for source in 1..net.source_count() {
+        program(agenda, 0, firing(net, source), source);
     }
 }

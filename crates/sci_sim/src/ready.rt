@@ -1,118 +1,324 @@
 // A net that is ready to run, and its run.
-ghost use Rattle.std.specs.Prelude.{◌≡◌, ◌≤◌, ◌^◌, IfOk, Some};
+ghost use Rattle.std.specs.Prelude.{◌≡◌, ℕ, ◌+◌, ◌-◌, ◌<◌, ◌≤◌, ◌^◌, ◌++◌, ◌⊎◌, List, length, true, false, Some, None, IfOk, if◌then◌else◌, AllPairs, Contains};
+ghost use Rattle.sci_base.specs.Lists.{at};
+ghost use Rattle.sci_base.specs.declared.observation.Obs.{Obs};
 ghost use Rattle.sci_io.specs.Taken.{Writes};
-ghost use Rattle.sci_trace.specs.Lines.{text, stops};
-ghost use Rattle.sci_pending.specs.Run.{trace};
+ghost use Rattle.sci_trace.specs.Lines.{text};
+ghost use Rattle.sci_forms.specs.Ports.{total};
+ghost use Rattle.sci_net.specs.Parts.{IsBlock, spec_of};
+ghost use Rattle.sci_reaction.specs.Memory.{Columns, AreColumns};
+ghost use Rattle.sci_sched.specs.Plain.{rows_of};
+ghost use Rattle.sci_sched.specs.Answer.{IsPlan};
+ghost use Rattle.sci_run.specs.Run.{State, ReactionOutcome, IsOutcome, IsRun, comes_next};
+ghost use Rattle.sci_run.specs.Activity.{halts};
+ghost use Rattle.sci_net.specs.Sources.{source_of};
+ghost use Rattle.sci_bank.specs.Library.{AreInOrder, IsFull};
+ghost use Rattle.sci_bank.specs.Bank.{Meaning};
 
-use crate::programming::{program, program_first};
-use crate::targets::Targets;
-use crate::turn::{Next, next_event, write_end, write_reaction};
+use crate::end::{RunEnd, Step};
+use crate::frame::{Frame, rows};
+use crate::programming::program_first;
+use crate::reaction::{Firing, react};
+use crate::seats::seat_all;
+use crate::store::Store;
+use sci_agenda::agenda::Agenda;
 use sci_agenda::wheel::WheelAgenda;
+use sci_bank::library::{Banks, Library};
 use sci_base::{EndWord, NoMemory, Obs, StopWord};
 use sci_io::{Failed, Sink};
-use sci_pending::TimerNet;
-use sci_trace::write_obs;
+use sci_net::Net;
+use sci_places::Places;
+use sci_sched::Schedule;
+use sci_trace::inputs::Inputs;
 use std::alloc::Global;
 use std::marker::Model;
 
-/// How a run ended.
-#[derive(Clone, Copy, Debug, Drop, PartialEq, Eq)]
-pub enum RunEnd {
-    /// By a bound, by a halt, or since nothing was pending.
-    End(EndWord),
-    /// By a stop.
-    Stop(StopWord),
-}
-
-/// A net that is ready to run, with all memory that its run needs.
+/// A net that is ready to run, or whose run is under way, with all memory that the run needs.
 #[derive(Drop)]
 pub struct Ready {
-    net: TimerNet,
-    targets: Targets,
-    agenda: WheelAgenda,
+    frame: Frame,
+    store: Store,
+    // its dates are less by `offset`
+    wheel: WheelAgenda,
+    offset: u64,
+    now: u64,
+    fired: u64,
+    // the source of the last reaction, or 0 before the first
+    row: u32,
+    started: bool,
+    halted: bool,
 }
 
 impl Model for Ready {
-    ghost use Rattle.sci_sim.specs.Running.{Running, IsReady};
+    ghost use Rattle.sci_sim.specs.At.{Running, IsReady};
 
     ghost Value = { Running };
 
-    ghost view = { λ r. record { net = r.net; waiting = r.agenda.meaning } };
+    ghost view = { λ r. record { fixed = r.frame; store = r.store; wheel = r.wheel; offset = r.offset; now = r.now; fired = r.fired; row = r.row; started = r.started; halted = r.halted } };
 
-    ghost invariant = { λ r. IsReady r.net r.targets r.agenda.meaning };
+    ghost invariant = { λ r. IsReady (record { fixed = r.frame; store = r.store; wheel = r.wheel; offset = r.offset; now = r.now; fired = r.fired; row = r.row; started = r.started; halted = r.halted }) };
 }
 
 impl Ready {
-    ghost use Rattle.sci_sim.specs.Running.{Running, IsAtStart};
-    ghost use Rattle.sci_sim.specs.Firing.{turn_due, run_due};
-    ghost use Rattle.sci_sim.specs.Turns.{TurnIs};
-    ghost use Rattle.sci_sim.specs.Ended.{how_ended, is_stopped};
+    ghost use Rattle.sci_places.specs.Flat.{values_at};
+    ghost use Rattle.sci_sim.specs.Marks.{mark_at};
+    ghost use Rattle.sci_sim.specs.Store.{AreIdle};
+    ghost use Rattle.sci_sim.specs.Programming.{Keeps};
+    ghost use Rattle.sci_sim.specs.Frame.{row_in, AreSeated, IsFrame};
+    ghost use Rattle.sci_sim.specs.At.{Running, IsAt, IsAtStart, IsTallied};
+    ghost use Rattle.sci_sim.specs.Reacting.{IsFiring, ShowsFiring, IsReacted, AreMarksOf, seen_in};
+    ghost use Rattle.sci_sim.specs.Steps.{IsBeforeStep, IsStep, IsFinished, BeginsWith, end_due};
 
-    /// The net before its run. It takes all memory of the run; a net of 2^32 timers or more counts as want of memory.
-    pub fn new(alloc: Global, n: TimerNet) -> Result<Ready, NoMemory>
-        ensures net { IfOk result (λ r. r.net ≡ n) }
-        ensures start { IfOk result (λ r. IsAtStart r) }
+    /// The net before its run, over the schedule of the net and a full library. It resets all banks and adds an instance for each block; it takes
+    /// all memory of the run. Where memory is wanting, the banks may hold any instances.
+    pub fn new(alloc: Global, n: Net, p: Schedule, lib: &mut Library) -> Result<Ready, NoMemory>
+        requires full { IsFull (⟦<Library as Banks>⟧.banks lib.old) }
+        requires in_order { AreInOrder (⟦<Library as Banks>⟧.banks lib.old) }
+        requires plan { IsPlan n (rows_of p) }
+        ensures start { IfOk result (λ r. IsAtStart n r (⟦<Library as Banks>⟧.banks lib.new)) }
+        ensures full { IsFull (⟦<Library as Banks>⟧.banks lib.new) }
+        ensures in_order { AreInOrder (⟦<Library as Banks>⟧.banks lib.new) }
     {
-        let timers = n.parts();
-        let Ok(ports) = u32::try_from(timers.len()) else {
-            return Err(NoMemory);
-        };
-        let Ok(targets) = Targets::of_net(alloc, timers) else {
-            return Err(NoMemory);
-        };
-        let mut agenda = WheelAgenda::new(alloc, ports)?;
-        program_first(timers, &mut agenda);
-        Ok(Ready {
+        n.well_formed();
+        let places = Places::new(alloc, &n)?;
+        let rows = rows(alloc, p)?;
+        let seats = seat_all(alloc, &n, lib)?;
+        let mut wheel = WheelAgenda::new(alloc, n.source_count() - 1)?;
+        program_first(&n, &mut wheel);
+        let frame = Frame {
             net: n,
-            targets,
-            agenda,
+            rows,
+            places,
+            seats,
+        };
+        let store = Store::new(alloc, &frame)?;
+        Ok(Ready {
+            frame,
+            store,
+            wheel,
+            offset: 0,
+            now: 0,
+            fired: 0,
+            row: 0,
+            started: false,
+            halted: false,
         })
     }
 
-    // The next event fires, or the run ends before it.
-    fn turn<S: Sink>(&mut self, until: u64, out: &mut S) -> Result<Option<RunEnd>, Failed>
-        requires { until ≤ 2 ^ 62 }
-        ensures written { Writes (S.state out.old) (S.state out.new) (text (turn_due self.old.net until self.old.waiting.events).observed) result }
-        ensures next { IfOk result (λ e. TurnIs e (turn_due self.old.net until self.old.waiting.events) self.new.waiting.events) }
-        ensures net { self.new.net ≡ self.old.net }
+    // The source reacts at the date `now`: what is observed is written. The word of a stop, if there was one.
+    fn react<S: Sink>(
+        &mut self,
+        lib: &mut Library,
+        ins: &Inputs,
+        source: u32,
+        out: &mut S,
+    ) -> Result<Option<StopWord>, Failed>
+        requires source { source < length self.old.fixed.rows }
+        requires date { self.old.now ≤ 2 ^ 62 }
+        requires columns { AreColumns self.old.fixed.net ins.now }
+        requires shown { (st : State) × ShowsFiring self.old.fixed self.old.store (⟦<Library as Banks>⟧.banks lib.old) self.old.wheel.meaning self.old.wheel.puts self.old.offset self.old.now st }
+        ensures reacted { (st : State) → ShowsFiring self.old.fixed self.old.store (⟦<Library as Banks>⟧.banks lib.old) self.old.wheel.meaning self.old.wheel.puts self.old.offset self.old.now st → (o : ReactionOutcome) × IsOutcome self.old.fixed.net ins.now self.old.now (source_of self.old.fixed.net source) st o × Writes (S.state out.old) (S.state out.new) (text (seen_in o)) result × IfOk result (λ stop. IsReacted self.old.fixed source self.old.store self.new.store (⟦<Library as Banks>⟧.banks lib.old) (⟦<Library as Banks>⟧.banks lib.new) self.new.wheel.meaning self.new.wheel.puts self.old.offset o stop) }
+        ensures halted { IfOk result (λ stop. stop ≡ None → (after : State) → AreMarksOf self.old.fixed source self.new.store after → self.new.halted ≡ halts self.old.fixed.net after.active) }
+        ensures rest { self.new ≡ record self.old { store = self.new.store; wheel = self.new.wheel; row = source; halted = self.new.halted } }
+        ensures seated { AreSeated self.old.fixed (⟦<Library as Banks>⟧.banks lib.new) }
     {
-        match next_event(&mut self.agenda, until) {
-            Next::Ends(word) => write_end(word, out),
-            Next::Fires(date, source) => {
-                let programmed = program(self.targets.of(source), date, &mut self.agenda);
-                write_reaction(date, source, programmed, out)
+        self.store.clear(&self.frame, self.row);
+        self.row = source;
+        let firing = Firing {
+            source,
+            date: self.now,
+            offset: self.offset,
+        };
+        let stop = react(
+            &self.frame,
+            &mut self.store,
+            &mut self.wheel,
+            lib,
+            ins,
+            firing,
+            out,
+        )?;
+        if stop.is_none() {
+            self.halted = self.store.halts(&self.frame, source);
+        }
+        Ok(stop)
+    }
+
+    // The source that reacts next: start, and then those of the events, which are taken from the wheel.
+    fn next_source(&mut self) -> u32
+        requires before { (ins : Columns) × (until limit : ℕ) × (banks : List Meaning) × (seen : List Obs) × IsBeforeStep ins until limit self.old banks seen × (until ≤ 2 ^ 62) × (limit ≤ 1000000) }
+        ensures fires { (ins : Columns) (until limit : ℕ) (banks : List Meaning) (seen : List Obs) → IsBeforeStep ins until limit self.old banks seen → (st : State) × IsFiring self.old.fixed.net ins until limit seen self.new.now result st × ShowsFiring self.old.fixed self.old.store banks self.new.wheel.meaning self.new.wheel.puts self.old.offset self.new.now st × (self.new.fired ≡ st.fired) × (self.new.now ≤ until ⊎ (self.new.now ≡ 0)) × IsTallied self.old.store seen }
+        ensures source { result < length self.old.fixed.rows }
+        ensures fired { self.new.fired ≡ (if self.old.started then self.old.fired + 1 else self.old.fired) }
+        ensures frame { IsFrame self.old.fixed }
+        ensures rest { self.new ≡ record self.old { wheel = self.new.wheel; now = self.new.now; fired = self.new.fired; started = true } }
+    {
+        if !self.started {
+            self.started = true;
+            return 0;
+        }
+        match self.wheel.take() {
+            Some((date, source)) => {
+                self.now = date + self.offset;
+                self.fired += 1;
+                source
             }
+            None => unreachable!(),
         }
     }
 
-    // The turns of a run, up to its end.
-    fn turns<S: Sink>(&mut self, until: u64, limit: u64, out: &mut S) -> Result<RunEnd, Failed>
+    /// Whether the run ends behind the last reaction, and how: by a halt that was active in it; where `limit` events have fired;
+    /// where none is pending; where the next is later than `until`, a date in ticks of at most 2^62.
+    pub fn due_end(&self, until: u64, limit: u64) -> Option<EndWord>
         requires { until ≤ 2 ^ 62 }
-        ensures written { Writes (S.state out.old) (S.state out.new) (text (run_due self.old.net until limit self.old.waiting.events)) result }
-        ensures ended { IfOk result (λ e. how_ended (run_due self.old.net until limit self.old.waiting.events) ≡ Some e) }
-        ensures net { self.new.net ≡ self.old.net }
+        ensures { (banks : List Meaning) (st : State) → IsAt self.entry.now banks st → result ≡ end_due (comes_next self.entry.now.fixed.net until (limit - st.fired) st) }
     {
-        for _fired in 0..limit {
-            match self.turn(until, out)? {
-                None => {}
-                Some(end) => return Ok(end),
-            }
+        if self.halted {
+            return Some(EndWord::Halt);
         }
-        write_obs(&Obs::End(EndWord::Events), out)?;
-        Ok(RunEnd::End(EndWord::Events))
+        if self.fired >= limit {
+            return Some(EndWord::Events);
+        }
+        match self.wheel.next_date() {
+            None => Some(EndWord::Empty),
+            Some(date) => if until < date.saturating_add(self.offset) {
+                Some(EndWord::Until)
+            } else {
+                None
+            },
+        }
     }
 
-    /// Runs the net until its end, past no date over `until` and for at most `limit` events, and writes the trace. It takes
-    /// no memory.
-    pub fn run<S: Sink>(&mut self, until: u64, limit: u64, out: &mut S) -> Result<RunEnd, Failed>
-        requires start { IsAtStart self.old }
+    /// Does the next reaction of the run, start first, and writes what is observed of it, and the end of the run where it ends there.
+    /// The state is one of a run that isn't over. `until` is a date in ticks, at most 2^62, `limit` at most 1,000,000 events, and each sensor's
+    /// column is in range. It takes no memory. It fails only where the sink does, which then took a front of the lines; a net whose step
+    /// failed or whose run is over is of no more use but for the calls that read it.
+    pub fn step<S: Sink>(
+        &mut self,
+        lib: &mut Library,
+        ins: &Inputs,
+        until: u64,
+        limit: u64,
+        out: &mut S,
+    ) -> Result<Step, Failed>
         requires until { until ≤ 2 ^ 62 }
-        ensures written { Writes (S.state out.old) (S.state out.new) (text (trace self.old.net until limit)) result }
-        ensures ended { IfOk result (λ e. how_ended (trace self.old.net until limit) ≡ Some e) }
-        ensures stops { IfOk result (λ e. stops (trace self.old.net until limit) ≡ is_stopped e) }
-        ensures net { self.new.net ≡ self.old.net }
+        requires limit { limit ≤ 1000000 }
+        requires columns { AreColumns self.old.fixed.net ins.now }
+        requires before { (seen : List Obs) × IsBeforeStep ins.now until limit self.old (⟦<Library as Banks>⟧.banks lib.old) seen }
+        ensures written { (before : List Obs) → IsBeforeStep ins.now until limit self.old (⟦<Library as Banks>⟧.banks lib.old) before → (seen : List Obs) × Writes (S.state out.old) (S.state out.new) (text seen) result × IfOk result (λ step. IsStep ins.now until limit self.new (⟦<Library as Banks>⟧.banks lib.new) before seen step) × BeginsWith self.old.fixed.net ins.now until limit (before ++ seen) }
+        ensures started { self.new.started ≡ true }
+        ensures fired { self.new.fired ≡ (if self.old.started then self.old.fired + 1 else self.old.fired) }
+        ensures frame { IsFrame self.old.fixed }
+        ensures offset { self.new.offset ≡ self.old.offset }
+        ensures net { self.new.fixed ≡ self.old.fixed }
+        ensures full { IsFull (⟦<Library as Banks>⟧.banks lib.new) }
+        ensures in_order { AreInOrder (⟦<Library as Banks>⟧.banks lib.new) }
     {
-        write_obs(&Obs::Start, out)?;
-        self.turns(until, limit, out)
+        let source = self.next_source();
+        if let Some(word) = self.react(lib, ins, source, out)? {
+            return Ok(Step::Over(RunEnd::Stop(word)));
+        }
+        match self.due_end(until, limit) {
+            None => Ok(Step::More),
+            Some(word) => {
+                self.store.observe(&Obs::End(word), out)?;
+                Ok(Step::Over(RunEnd::End(word)))
+            }
+        }
+    }
+
+    /// Runs the net from before start until the end of its run, past no date over `until` and for at most `limit` events, and writes
+    /// the trace. The bounds, inputs and failures are those of `step`. A block without a value is the one cause of a stop; a conflict never comes.
+    /// It takes no memory.
+    pub fn run<S: Sink>(
+        &mut self,
+        lib: &mut Library,
+        ins: &Inputs,
+        until: u64,
+        limit: u64,
+        out: &mut S,
+    ) -> Result<RunEnd, Failed>
+        requires until { until ≤ 2 ^ 62 }
+        requires limit { limit ≤ 1000000 }
+        requires columns { AreColumns self.old.fixed.net ins.now }
+        requires start { IsAtStart self.old.fixed.net self.old (⟦<Library as Banks>⟧.banks lib.old) }
+        ensures written { (os : List Obs) → IsRun self.old.fixed.net ins.now until limit os → Writes (S.state out.old) (S.state out.new) (text os) result }
+        ensures finished { IfOk result (λ e. (os : List Obs) × IsRun self.old.fixed.net ins.now until limit os × IsFinished ins.now until limit self.new (⟦<Library as Banks>⟧.banks lib.new) os e) }
+        ensures offset { self.new.offset ≡ self.old.offset }
+        ensures net { self.new.fixed ≡ self.old.fixed }
+        ensures full { IsFull (⟦<Library as Banks>⟧.banks lib.new) }
+        ensures in_order { AreInOrder (⟦<Library as Banks>⟧.banks lib.new) }
+    {
+        for _reaction in 0..limit + 1 {
+            if let Step::Over(end) = self.step(lib, ins, until, limit, out)? {
+                return Ok(end);
+            }
+        }
+        unreachable!()
+    }
+
+    /// A value that a block's outputs hold, the elements of all of them counted from 1. The run hasn't stopped.
+    pub fn held(&self, block: u32, element: u32) -> i64
+        requires block { IsBlock self.now.fixed.net block }
+        requires least { 1 ≤ element }
+        requires most { element ≤ total (spec_of self.now.fixed.net block).outs }
+        ensures value { result ≡ at (values_at self.entry.now.fixed.net self.entry.now.store.values block) (element - 1) }
+        ensures held { (banks : List Meaning) (st : State) → IsAt self.entry.now banks st → result ≡ at (st.memory.held block) (element - 1) }
+    {
+        self.store.value(&self.frame, block, element)
+    }
+
+    /// The date of the last reaction, in ticks; 0 before the first.
+    pub fn now(&self) -> u64
+        ensures { result ≡ self.entry.now.now }
+    {
+        self.now
+    }
+
+    /// How many events have fired.
+    pub fn fired(&self) -> u64
+        ensures { result ≡ self.entry.now.fired }
+    {
+        self.fired
+    }
+
+    /// How many observations were written; the count stays at 2^64 - 1 once there.
+    pub fn lines(&self) -> u64
+        ensures { result ≡ self.entry.now.store.lines }
+    {
+        self.store.tally().lines
+    }
+
+    /// The sum of the values among them, modulo 2^32.
+    pub fn sum(&self) -> u32
+        ensures { result ≡ self.entry.now.store.sum }
+    {
+        self.store.tally().sum
+    }
+
+    /// The pending events. Their dates, in ticks, are counted from the date at which the run began, which is 0 after `new`.
+    pub fn wheel(&self) -> &WheelAgenda
+        ensures value { result.now ≡ self.entry.now.wheel }
+        ensures pending { (banks : List Meaning) (st : State) → IsAt self.entry.now banks st → Keeps self.entry.now.fixed.net self.entry.now.offset st.now result.now.meaning result.now.puts st.pending }
+    {
+        &self.wheel
+    }
+
+    /// The blocks that the source of the last reaction may activate, by number; before the first reaction those of start.
+    pub fn possible(&self) -> &[u32]
+        ensures value { result.now ≡ (row_in self.entry.now.fixed self.entry.now.row).blocks }
+        ensures rising { AllPairs (λ b c. b < c) result.now }
+        ensures active { (banks : List Meaning) (st : State) → IsAt self.entry.now banks st → (b : ℕ) → IsBlock self.entry.now.fixed.net b → st.active b ≡ true → Contains result.now b }
+    {
+        self.frame.possible(self.row)
+    }
+
+    /// Whether the last reaction activated the block. The run hasn't stopped.
+    pub fn is_active(&self, block: u32) -> bool
+        requires { IsBlock self.now.fixed.net block }
+        ensures mark { result ≡ (mark_at self.entry.now.store.marks block).active }
+        ensures active { (banks : List Meaning) (st : State) → IsAt self.entry.now banks st → result ≡ st.active block }
+    {
+        self.store.is_active(block)
     }
 }

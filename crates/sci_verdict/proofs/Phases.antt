@@ -9,15 +9,13 @@ use Rattle.sci_net.specs.Parts.{Parts}
 use Rattle.sci_flat.specs.Ready.{IsReady}
 use Rattle.sci_flat.specs.Answer.{IsFlattened}
 use Rattle.sci_infer.specs.Answer.{IsAnswer, IsStop}
-use Rattle.sci_pending.specs.Timer.{EventDelay}
 use Rattle.sci_sched.specs.Plain.{rows_of}
 use Rattle.sci_sched.specs.Answer.{IsPlan, IsPlanStop}
 use Rattle.sci_sched.specs.Measured.{IsMeasured as HasSize}
 use Rattle.sci_verdict.specs.declared.checked.Checked.{Checked}
 use Rattle.sci_verdict.specs.declared.checked.Measured.{Measured}
-use Rattle.sci_timers.specs.Built.{built, IsAnswer as IsBuilt}
 use Rattle.sci_base.specs.declared.stop.Stop.TheVariants.{Refused, Memory}
-use Rattle.sci_verdict.specs.Verdict.{GivesFlat, GivesNet, unread, not_flat, not_typed, Plan, Accepts, AcceptsSize, no_net, no_plan, plan_of, no_diagram, unbuilt, IsTyped, IsChecked, IsMeasured, IsJudged}
+use Rattle.sci_verdict.specs.Verdict.{GivesFlat, GivesNet, unread, not_flat, not_typed, Accepts, AcceptsSize, no_net, no_plan, plan_of, IsTyped, IsChecked, IsMeasured}
 use Rattle.sci_flat.proofs.Reading.{accepted_ready}
 
 -- a diagram that was read
@@ -87,27 +85,3 @@ stopped_measuring bytes n e s was given h = subst (λ q. IsMeasured bytes q) (sy
 pub measured : (bytes : List ℕ) (m : Measured) → GivesNet bytes m.net → HasSize m.net m.size → AcceptsSize bytes m
 measured bytes m given h =
     record { plan = record { net = m.net; rows = h.rows }; given = record { given = given; planned = h.planned }; net = refl; entries = h.entries; guards = h.guards }
-
--- ---- timers
-
-measured_stops : (bytes : List ℕ) (e : Stop) → IsMeasured bytes (Err e) → IsJudged bytes (Err e)
-measured_stops bytes (Refused r) h = no_diagram h
-measured_stops bytes Memory h = tt
-
-pub stopped_judging : (bytes : List ℕ) (e : Stop) (r : Result Measured Stop) (s : Result (List EventDelay) Stop) → r ≡ Err e → s ≡ Err e → IsMeasured bytes r → IsJudged bytes s
-stopped_judging bytes e r s is was h = subst (λ q. IsJudged bytes q) (sym was) (measured_stops bytes e (subst (λ q. IsMeasured bytes q) is h))
-
-pub was_measured : (bytes : List ℕ) (m : Measured) (r : Result Measured Stop) → r ≡ Ok m → IsMeasured bytes r → AcceptsSize bytes m
-was_measured bytes m r is h = subst (λ q. IsMeasured bytes q) is h
-
-timers_stops : (bytes : List ℕ) (p : Plan) (e : Stop) → Accepts bytes p → IsBuilt (built p.net) (Err e) → IsJudged bytes (Err e)
-timers_stops bytes p (Refused r) given h = unbuilt p given h
-timers_stops bytes p Memory given h = tt
-
--- the timers of a plan are those of its net
-built_of : (bytes : List ℕ) (m : Measured) (given : AcceptsSize bytes m) (r : Result (List EventDelay) Stop) → IsBuilt (built m.net) r → IsBuilt (built given.plan.net) r
-built_of bytes m given r h = subst (λ (n : Parts). IsBuilt (built n) r) (sym given.net) h
-
-pub judged : (bytes : List ℕ) (m : Measured) (r : Result (List EventDelay) Stop) → AcceptsSize bytes m → IsBuilt (built m.net) r → IsJudged bytes r
-judged bytes m (Ok ts) given h = record { plan = given.plan; given = given.given; built = built_of bytes m given (Ok ts) h }
-judged bytes m (Err e) given h = timers_stops bytes given.plan e given.given (built_of bytes m given (Err e) h)

@@ -23,10 +23,8 @@ use Rattle.sci_infer.proofs.TypedNet.{well_formed}
 use Rattle.sci_reaction.specs.Schedule.{Entry}
 use Rattle.sci_sched.specs.Answer.{IsPlan, IsPlanBreak}
 use Rattle.sci_verdict.proofs.OnePlan.{one_plan, one_plan_break, plan_or_not}
-use Rattle.sci_pending.specs.Timer.{EventDelay}
-use Rattle.sci_timers.specs.Built.{built}
-use Rattle.sci_verdict.specs.Verdict.{GivesFlat, GivesNet, BreaksNet, unread, not_flat, not_typed, Plan, Accepts, Breaks, no_net, no_plan, AcceptsTimers, BreaksTimers, no_diagram, unbuilt}
-use Rattle.sci_verdict.specs.Laws.{AreAlike, OneVerdict, OneVerdictOfTimers}
+use Rattle.sci_verdict.specs.Verdict.{GivesFlat, GivesNet, BreaksNet, unread, not_flat, not_typed, Plan, Accepts, Breaks, no_net, no_plan}
+use Rattle.sci_verdict.specs.Laws.{AreAlike, OneVerdict}
 
 same_tree : (bytes : List ℕ) (t u : Objects) → IsDiagram bytes t → IsDiagram bytes u → t ≡ u
 same_tree bytes t u h k = cc (h, k)
@@ -72,7 +70,7 @@ answer_is_net n m (Values vs) flat d e =
     let j = judged_ok (typed_parts vs.items n) m (net_broken (typed_parts vs.items n).specs) e in
     subst IsNet j.1 (well_formed n flat vs.items d.1 j.0)
 
-given_is_net : (bytes : List ℕ) (n : Parts) → GivesNet bytes n → IsNet n
+pub given_is_net : (bytes : List ℕ) (n : Parts) → GivesNet bytes n → IsNet n
 given_is_net bytes n h = answer_is_net h.declared n h.inferred.verdict h.given.flat.flat h.inferred.decided h.inferred.given
 
 abbrev made_plan : Parts → List (List Entry) → Plan
@@ -98,24 +96,3 @@ not_both bytes p v h (no_plan n given k) =
 
 pub one_verdict : OneVerdict
 one_verdict = record { one_made = one_made; one_break = one_break; not_both = not_both }
-
--- ---- of timers
-
-same_built : (bytes : List ℕ) (p q : Plan) → Accepts bytes p → Accepts bytes q → built p.net ≡ built q.net
-same_built bytes p q h k = ap (λ (x : Plan). built x.net) (one_made bytes p q h k)
-
-one_timers : (bytes : List ℕ) (m n : List EventDelay) → AcceptsTimers bytes m → AcceptsTimers bytes n → m ≡ n
-one_timers bytes m n h k = let e = same_built bytes h.plan k.plan h.given k.given in cc (e, h.built, k.built)
-
-one_timers_break : (bytes : List ℕ) (v w : Violation) → BreaksTimers bytes v → BreaksTimers bytes w → AreAlike v w
-one_timers_break bytes v w (no_diagram h) (no_diagram k) = one_break bytes v w h k
-one_timers_break bytes v w (no_diagram h) (unbuilt p given k) = absurd (not_both bytes p v given h)
-one_timers_break bytes v w (unbuilt p given h) (no_diagram k) = absurd (not_both bytes p w given k)
-one_timers_break bytes v w (unbuilt p given h) (unbuilt q given2 k) = let e = same_built bytes p q given given2 in inl (cc (e, h, k))
-
-timers_not_both : (bytes : List ℕ) (n : List EventDelay) (v : Violation) → AcceptsTimers bytes n → BreaksTimers bytes v → ⊥
-timers_not_both bytes n v h (no_diagram k) = not_both bytes h.plan v h.given k
-timers_not_both bytes n v h (unbuilt q given k) = let e = same_built bytes h.plan q h.given given in absurd (cc (e, h.built, k))
-
-pub one_verdict_of_timers : OneVerdictOfTimers
-one_verdict_of_timers = record { one_made = one_timers; one_break = one_timers_break; not_both = timers_not_both }

@@ -2,7 +2,7 @@
 use Rattle.std.specs.Prelude.{◌≡◌, ◌⊎◌, ℕ, List, take}
 use Rattle.sci_base.specs.Plain.{Violation}
 use Rattle.sci_base.specs.declared.refusal.Rule.TheVariants.{AlgebraicLoop}
-use Rattle.sci_verdict.specs.Verdict.{Accepts, Breaks, AcceptsTimers, BreaksTimers}
+use Rattle.sci_verdict.specs.Verdict.{Accepts, Breaks}
 
 -- both tell a loop of one source, whose block and port are the first two details
 pub record AreLoops (v w : Violation) : Type 0 where
@@ -21,7 +21,3 @@ pub record IsOneVerdict {A : Type 0} (accepts : List ℕ → A → Type 0) (brea
 
 abbrev pub OneVerdict : Type 0
 OneVerdict = IsOneVerdict Accepts Breaks
-
--- the same of the timers
-abbrev pub OneVerdictOfTimers : Type 0
-OneVerdictOfTimers = IsOneVerdict AcceptsTimers BreaksTimers

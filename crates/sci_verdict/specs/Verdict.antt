@@ -11,8 +11,6 @@ use Rattle.sci_reaction.specs.Schedule.{Entry}
 use Rattle.sci_sched.specs.Plain.{rows_of}
 use Rattle.sci_sched.specs.Answer.{IsPlan, IsPlanBreak}
 use Rattle.sci_sched.specs.Size.{entry_count, guard_count}
-use Rattle.sci_pending.specs.Timer.{EventDelay}
-use Rattle.sci_timers.specs.Built.{built}
 use Rattle.sci_verdict.specs.declared.checked.Checked.{Checked}
 use Rattle.sci_verdict.specs.declared.checked.Measured.{Measured}
 use Rattle.sci_base.specs.declared.stop.Stop.{Stop}
@@ -59,17 +57,6 @@ pub data Breaks (bytes : List ℕ) (v : Violation) : Type 0 where
   no_net : BreaksNet bytes v → Breaks bytes v
   no_plan : (n : Parts) → GivesNet bytes n → IsPlanBreak n v → Breaks bytes v
 
--- the bytes are a diagram of these timers
-pub record AcceptsTimers (bytes : List ℕ) (timers : List EventDelay) : Type 0 where
-  pub plan : Plan
-  pub given : Accepts bytes plan
-  pub built : built plan.net ≡ Ok timers
-
--- the first rule that the bytes break, or else it is not built yet
-pub data BreaksTimers (bytes : List ℕ) (v : Violation) : Type 0 where
-  no_diagram : Breaks bytes v → BreaksTimers bytes v
-  unbuilt : (p : Plan) → Accepts bytes p → built p.net ≡ Err v → BreaksTimers bytes v
-
 -- what an answer says; want of memory may come at any time
 abbrev pub IsTyped : List ℕ → Result Parts Stop → Type 0
 IsTyped bytes (Ok n) = GivesNet bytes n
@@ -85,7 +72,3 @@ IsChecked bytes (Err e) = StopsBy (Breaks bytes) e
 abbrev pub IsMeasured : List ℕ → Result Measured Stop → Type 0
 IsMeasured bytes (Ok m) = AcceptsSize bytes m
 IsMeasured bytes (Err e) = StopsBy (Breaks bytes) e
-
-abbrev pub IsJudged : List ℕ → Result (List EventDelay) Stop → Type 0
-IsJudged bytes (Ok timers) = AcceptsTimers bytes timers
-IsJudged bytes (Err e) = StopsBy (BreaksTimers bytes) e

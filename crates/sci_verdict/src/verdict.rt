@@ -1,6 +1,6 @@
 // A file's verdict, phase by phase.
 ghost use Rattle.std.specs.Prelude.{◌≤◌, length};
-ghost use Rattle.sci_verdict.specs.Verdict.{IsTyped, IsChecked, IsMeasured, IsJudged};
+ghost use Rattle.sci_verdict.specs.Verdict.{IsTyped, IsChecked, IsMeasured};
 
 use crate::checked::{Checked, Measured};
 use sci_base::Stop;
@@ -8,9 +8,7 @@ use sci_diagram::read;
 use sci_flat::flatten;
 use sci_infer::infer;
 use sci_net::Net;
-use sci_pending::TimerNet;
 use sci_sched::{measure as schedule_size, plan};
-use sci_timers::timer_net as timers_of;
 use std::alloc::Global;
 
 /// The typed net of a diagram's file, or the first rule that it breaks: of the file's form (1 to 6), of tags (34, 31, 32,
@@ -44,14 +42,4 @@ pub fn measure(alloc: Global, bytes: &[u8]) -> Result<Measured, Stop>
     let net = typed_net(alloc, bytes)?;
     let size = schedule_size(alloc, &net)?;
     Ok(Measured { net, size })
-}
-
-/// The net of timers of a diagram's file, or the first rule that it breaks: one of those of `check`, or else rule 30, at the
-/// first block that is no delayed event.
-pub fn timer_net(alloc: Global, bytes: &[u8]) -> Result<TimerNet, Stop>
-    requires { length bytes.now ≤ 16777216 }
-    ensures { IsJudged bytes.now result }
-{
-    let measured = measure(alloc, bytes)?;
-    timers_of(alloc, &measured.net)
 }

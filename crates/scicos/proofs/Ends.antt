@@ -3,7 +3,6 @@ use Rattle.std.proofs.Common.{◌≡◌, ℕ, List, [], ◌∷◌, ◌++◌, ◌
 use Rattle.sci_base.specs.Plain.{Violation}
 use Rattle.sci_io.specs.Files.{Files}
 use Rattle.sci_trace.specs.Lines.{stops}
-use Rattle.sci_pending.specs.Run.{trace}
 use Rattle.c_mean.specs.declared.start.CEnd.{CEnd}
 use Rattle.c_mean.specs.declared.start.CEnd.TheVariants.{End, Stop, Undefined}
 use Rattle.c_mean.specs.Meaning.{meaning}
@@ -39,7 +38,7 @@ Ends (reads A slot d accepts breaks next) (f ∷ files) = (f ≡ d) × ((made : 
 
 pub ends_of : (c : Request) → Ends (course_of c) (files_of c)
 ends_of (report r d) = (refl, λ p. (refl, λ a is. inl (status-is is)))
-ends_of (simulate d i until limit) = (refl, λ timers. (refl, λ _. (refl, λ a is. done_by (status-is is) (done_run (stops (trace timers until limit))))))
+ends_of (simulate d i until limit) = (refl, λ p. (refl, λ columns. (refl, λ a is. done_by (status-is is.2) (done_run (stops is.0)))))
 ends_of (run_c c i until limit) = (refl, λ program. (refl, λ columns. (refl, λ a is. done_by (status-is is) (done_c (end_of (meaning program columns (pos until) (pos limit)).how)))))
 ends_of host = (refl, λ a is. inl (status-is is))
 

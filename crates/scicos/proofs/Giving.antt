@@ -4,24 +4,24 @@ use Rattle.std.proofs.lemmas.List.{append-nil}
 use Rattle.std.specs.Prelude.{Result, Ok, Err, OnOk, OnErr}
 use Rattle.sci_base.specs.Plain.{Violation}
 use Rattle.sci_base.specs.declared.observation.Obs.{Obs}
-use Rattle.sci_base.specs.declared.observation.Obs.TheVariants.{Start}
 use Rattle.sci_io.specs.Causes.{Rose}
 use Rattle.sci_io.specs.declared.sink.Failed.{Failed}
 use Rattle.sci_io.specs.Taken.{SinkState, Advances, TakesFront, Writes}
 use Rattle.sci_io.proofs.Advance.{then_writes, same_text, all_taken}
 use Rattle.scicos.specs.Line.{refused_line, head_text}
-use Rattle.sci_trace.specs.Lines.{text, line, stops}
-use Rattle.sci_sim.specs.declared.ready.RunEnd.{RunEnd}
-use Rattle.sci_sim.specs.Ended.{is_stopped}
+use Rattle.sci_trace.specs.Lines.{text, stops}
+use Rattle.sci_sim.specs.declared.end.RunEnd.{RunEnd}
 use Rattle.c_mean.specs.declared.start.CEnd.{CEnd}
 use Rattle.c_mean.specs.declared.start.CEnd.TheVariants.{End, Stop, Undefined}
 use Rattle.c_mean.specs.declared.start.RunStop.{RunStop}
 use Rattle.c_mean.specs.declared.start.RunStop.TheVariants as causes
 use Rattle.c_mean.specs.Meaning.{Ran as Observed}
 use Rattle.c_mean.specs.Answering.{end_of}
-use Rattle.scicos.specs.Answer.{says, prints, ran, run_status, write_fault_line, no_memory_line, undefined_line, no_memory, c_status, c_err, c_ran}
+use Rattle.scicos.specs.Answer.{Answer, says, prints, ran, IsTraceOf, run_status, write_fault_line, no_memory_line, undefined_line, no_memory, c_status, c_err, c_ran}
 use Rattle.scicos.specs.Written.{Took, Cut, Given, CutShort, Written}
-use Rattle.scicos.specs.Deliver.{Gives, Said, Ran, Finished, RunsOut, RanC, FinishedC}
+use Rattle.scicos.specs.declared.prepare.Simulation.{Simulation}
+use Rattle.scicos.proofs.Traced.{trace_some}
+use Rattle.scicos.specs.Deliver.{Gives, Said, is_stopped, Ran, PrintsTrace, Finished, RunsOut, RanC, FinishedC}
 
 pub some_text : (t : List ℕ) → 0 < length t → t ≢ []
 some_text t h = λ e. omega (arith, h, ap length e)
@@ -29,10 +29,6 @@ some_text t h = λ e. omega (arith, h, ap length e)
 pub some_refusal : (v : Violation) → refused_line v ≢ []
 unfolding refused_line head_text
 some_refusal v = λ e. absurd (cc e)
-
-pub some_trace : (os : List Obs) → text (Start ∷ os) ≢ []
-unfolding line
-some_trace os = λ e. absurd (cc e)
 
 -- a text was written, and then the sink was flushed
 pub flushed : {T E U F : Type 0} {old mid new : SinkState} (t : List ℕ) (r : Result T E) (s : Result U F) (x : T) → r ≡ Ok x → Writes old mid t r → Writes mid new [] s → OnOk s (new.held ≡ []) → Gives old new t s
@@ -83,12 +79,18 @@ cut_written t out out' err err' answer some h said =
     let told = fault_told err err' answer said in
     inr (inl (told.0, (some_text t some, h), told.1))
 
-pub ran_written : (os : List Obs) (out out' err err' : SinkState) (answer : ℕ) (r : Result RunEnd Failed) → Ran (Start ∷ os) out out' r → Finished r err err' answer → Written (ran (Start ∷ os)) out out' err err' answer
-ran_written os out out' err err' answer (Ok e) p h =
-    inl (h.0 ∙ ap run_status p.0, inr (some_trace os, p.1), inl (refl, h.1))
-ran_written os out out' err err' answer (Err e) p h =
+ran_written : (os : List Obs) (out out' err err' : SinkState) (answer : ℕ) (r : Result RunEnd Failed) → text os ≢ [] → Ran os out out' r → Finished r err err' answer → Written (ran os) out out' err err' answer
+ran_written os out out' err err' answer (Ok e) some p h =
+    inl (h.0 ∙ ap run_status p.0, inr (some, p.1), inl (refl, h.1))
+ran_written os out out' err err' answer (Err e) some p h =
     let told = fault_told err err' answer h in
-    inr (inl (told.0, (some_trace os, p), told.1))
+    inr (inl (told.0, (some, p), told.1))
+
+pub trace_written : (s : Simulation) (out out' err err' : SinkState) (answer : ℕ) (r : Result RunEnd Failed) → PrintsTrace s out out' r → Finished r err err' answer
+    → (a : Answer) × IsTraceOf s.ready.fixed.net s.inputs s.until s.limit a × Written a out out' err err' answer
+trace_written s out out' err err' answer r p h =
+    let some = trace_some s.ready.fixed.net s.inputs s.until s.limit p.0 p.1 in
+    (ran p.0, (p.0, p.1, refl), ran_written p.0 out out' err err' answer r some p.2 h)
 
 -- a run failed to be written
 pub ran_cut : {T E : Type 0} (old new : SinkState) (os : List Obs) (r : Result T E) (s : Result RunEnd Failed) (e : E) (f : Failed) → r ≡ Err e → s ≡ Err f → Gives old new (text os) r → Ran os old new s
@@ -144,11 +146,11 @@ c_undefined r n out out' err err' answer is given (some, inr h) =
 c_lacks : (out out' err err' : SinkState) (answer : ℕ) → out' ≡ out → Said 5 no_memory_line err err' answer → Written no_memory out out' err err' answer
 c_lacks out out' err err' answer same said = subst (λ (s : SinkState). Written no_memory out s err err' answer) (sym same) (said_written 5 no_memory_line out err err' answer said)
 
-pub c_written : (r : Observed) (out out' err err' : SinkState) (answer : ℕ) (q : Result CEnd RunStop) → RanC r out out' q → FinishedC q err err' answer → Written (c_ran r) out out' err err' answer ⊎ (Unit {0} × Written no_memory out out' err err' answer)
-c_written r out out' err err' answer (Ok End) p h = inl (c_quiet r End out out' err err' answer refl h.0 p.0 p.1 h.1)
-c_written r out out' err err' answer (Ok Stop) p h = inl (c_quiet r Stop out out' err err' answer refl h.0 p.0 p.1 h.1)
-c_written r out out' err err' answer (Ok (Undefined n)) p h = inl (c_undefined r n out out' err err' answer p.0 p.1 h)
+pub c_written : (r : Observed) (out out' err err' : SinkState) (answer : ℕ) (q : Result CEnd RunStop) → RanC r out out' q → FinishedC q err err' answer → ((a : Answer) × (a ≡ c_ran r) × Written a out out' err err' answer) ⊎ (Unit {0} × Written no_memory out out' err err' answer)
+c_written r out out' err err' answer (Ok End) p h = inl (c_ran r, refl, c_quiet r End out out' err err' answer refl h.0 p.0 p.1 h.1)
+c_written r out out' err err' answer (Ok Stop) p h = inl (c_ran r, refl, c_quiet r Stop out out' err err' answer refl h.0 p.0 p.1 h.1)
+c_written r out out' err err' answer (Ok (Undefined n)) p h = inl (c_ran r, refl, c_undefined r n out out' err err' answer p.0 p.1 h)
 c_written r out out' err err' answer (Err causes.Failed) p h =
     let told = fault_told err err' answer h in
-    inl (inr (inl (told.0, p, told.1)))
+    inl (c_ran r, refl, inr (inl (told.0, p, told.1)))
 c_written r out out' err err' answer (Err causes.Memory) p h = inr (tt, c_lacks out out' err err' answer p h)

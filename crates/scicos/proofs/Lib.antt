@@ -1,5 +1,7 @@
 mod Spoken
 mod Whole
+mod Needed
+mod Traced
 mod Giving
 mod Ends
 mod Causes
@@ -10,5 +12,6 @@ mod Blamed
 mod Probing
 mod Courses
 mod Looking
+mod Simulated
 mod Steps
 mod Pieces

@@ -4,14 +4,19 @@ use Rattle.std.proofs.lemmas.Fmt.{decimal_injective}
 use Rattle.sci_base.specs.Plain.{Violation}
 use Rattle.sci_io.specs.Files.{Files}
 use Rattle.sci_verdict.specs.Laws.{AreAlike, IsOneVerdict}
-use Rattle.sci_verdict.proofs.Verdicts.{one_verdict, one_verdict_of_timers}
-use Rattle.scicos.specs.Inputs.{AcceptsInputs, BreaksInputs, AcceptsColumns, BreaksColumns}
+use Rattle.sci_verdict.proofs.Verdicts.{one_verdict, given_is_net}
+use Rattle.sci_verdict.specs.Verdict.{Plan, Accepts}
+use Rattle.sci_reaction.specs.Memory.{Columns}
+use Rattle.sci_run.proofs.Unique.{one_trace}
+use Rattle.sci_trace.specs.Columns.{Needed}
+use Rattle.sci_needs.specs.Needs.{needs_of}
+use Rattle.scicos.specs.Inputs.{AcceptsColumns, BreaksColumns}
 use Rattle.scicos.specs.Program.{AcceptsC, BreaksC, not_c}
 use Rattle.c_read.proofs.Uniqueness.{one_spelled, one_blamed, not_both}
 use Rattle.scicos.specs.declared.command.Report.{Report}
 use Rattle.scicos.specs.declared.command.Report.TheVariants.{Check, Map, Schedule}
 use Rattle.scicos.specs.Words.{Request, report, simulate, run_c, host, report_word, spelled, InBounds, Spells, NoCommand}
-use Rattle.scicos.specs.Answer.{Answer, refused}
+use Rattle.scicos.specs.Answer.{Answer, refused, ran, IsTraceOf}
 use Rattle.scicos.specs.Course.{Holds, Slot, Passes, Fails, Course, gives, reads, DueOn}
 use Rattle.scicos.specs.Due.{Due, course_of}
 use Rattle.scicos.specs.Laws.{AreOneAnswer, OneAnswer, OneAnswerOfBytes}
@@ -44,11 +49,8 @@ same_command (run_c d i t n) (run_c d' i' t' n') p q h =
 same_command host host p q h = refl
 same_command c d p q h = absurd (cc h)
 
-pub one_inputs : IsOneVerdict AcceptsInputs BreaksInputs
-one_inputs = record { one_made = λ bytes m n h k. refl; one_break = λ bytes v w h k. inl (h.1 ∙ sym k.1); not_both = λ bytes m v h k. k.0 h }
-
-one_columns : IsOneVerdict AcceptsColumns BreaksColumns
-one_columns = record {
+one_columns : (needs : List Needed) → IsOneVerdict (AcceptsColumns needs) (BreaksColumns needs)
+one_columns needs = record {
   one_made = λ bytes m n h k. cc (h, k);
   one_break = λ bytes v w h k. inl (cc (h, k));
   not_both = λ bytes m v h k. absurd (cc (h, k));
@@ -79,6 +81,12 @@ refused_alike : (a b : Answer) (v w : Violation) → a ≡ refused v → b ≡ r
 refused_alike a b v w h k (inl e) = inl (h ∙ (ap refused e ∙ sym k))
 refused_alike a b v w h k (inr loops) = inr (record { one = v; other = w; loops = loops; tells_one = h; tells_other = k })
 
+-- a net of an accepted diagram has one trace
+one_trace_answer : (bytes : List ℕ) (p : Plan) (i : Columns) (until limit : ℕ) (a b : Answer) → Accepts bytes p → IsTraceOf p.net i until limit a → IsTraceOf p.net i until limit b → a ≡ b
+one_trace_answer bytes p i until limit a b accepted h k =
+    let same : h.0 ≡ k.0 = one_trace p.net i (given_is_net bytes p.net accepted.given) accepted.planned.free until limit h.0 k.0 h.1 k.1 in
+    h.2 ∙ (ap ran same ∙ sym k.2)
+
 -- ---- one answer of a course
 
 -- bytes of files that are alike wherever both are a file's
@@ -99,12 +107,13 @@ same_are_one files (x ∷ xs) = ((λ d h k. refl), same_are_one files xs)
 -- one answer is due of it, whatever passes
 abbrev IsOneCourse : Course → Type 0
 IsOneCourse (gives due) = (a b : Answer) → due a → due b → a ≡ b
-IsOneCourse (reads A slot d accepts breaks next) = IsOneVerdict accepts breaks × ((made : A) → IsOneCourse (next made))
+IsOneCourse (reads A slot d accepts breaks next) = IsOneVerdict accepts breaks × ((bytes : List ℕ) (made : A) → accepts bytes made → IsOneCourse (next made))
 
 one_course_of : (c : Request) → IsOneCourse (course_of c)
-one_course_of (report r d) = (one_verdict, λ p a b h k. h ∙ sym k)
-one_course_of (simulate d i t n) = (one_verdict_of_timers, λ timers. (one_inputs, λ _ a b h k. h ∙ sym k))
-one_course_of (run_c c i t n) = (one_program, λ program. (one_columns, λ columns a b h k. h ∙ sym k))
+one_course_of (report r d) = (one_verdict, λ bytes p accepted a b h k. h ∙ sym k)
+one_course_of (simulate d i t n) =
+    (one_verdict, λ bytes p accepted. (one_columns (needs_of p.net), λ file columns read a b h k. one_trace_answer bytes p columns t n a b accepted h k))
+one_course_of (run_c c i t n) = (one_program, λ bytes program accepted. (one_columns [], λ file columns read a b h k. h ∙ sym k))
 one_course_of host = λ a b h k. h ∙ sym k
 
 one_due_on : (files : Files) (course : Course) (xs ys names others : List (List ℕ)) (a b : Answer) → IsOneCourse course → AreOne files xs ys → DueOn files course xs names a → DueOn files course ys others b → Same a b names others
@@ -121,7 +130,7 @@ one_due_on files (reads A slot d accepts breaks next) (x ∷ xs) (y ∷ ys) name
     let bytes : x ≡ y = same.0 d p q in
     let made : h.0 ≡ k.0 = one.0.one_made y h.0 k.0 (subst (λ (l : List ℕ). accepts l h.0) bytes h.1.1) k.1.1 in
     let due = subst (λ (m : A). DueOn files (next m) xs h.2 a) made h.4 in
-    let rest = one_due_on files (next k.0) xs ys h.2 k.2 a b (one.1 k.0) same.1 due k.4 in
+    let rest = one_due_on files (next k.0) xs ys h.2 k.2 a b (one.1 y k.0 k.1.1) same.1 due k.4 in
     (rest.0, h.3 ∙ (ap (λ (l : List (List ℕ)). d ∷ l) rest.1 ∙ sym k.3))
 
 one_due : (files : Files) (words xs ys names others : List (List ℕ)) (a b : Answer) → AreOne files xs ys → Due files words xs names a → Due files words ys others b → Same a b names others

@@ -4,13 +4,14 @@ use Rattle.sci_base.specs.Plain.{Violation}
 use Rattle.sci_base.specs.declared.observation.Obs.{Obs}
 use Rattle.scicos.specs.Line.{refused_line}
 use Rattle.sci_trace.specs.Lines.{text, stops}
-use Rattle.sci_net.specs.Sources.{sources_of}
 use Rattle.sci_sched.specs.Size.{entry_count, guard_count}
 use Rattle.sci_sched.specs.Text.{plan_text}
 use Rattle.scicos.specs.Map.{map_text}
 use Rattle.sci_verdict.specs.Verdict.{Plan}
-use Rattle.sci_pending.specs.Run.{trace}
-use Rattle.sci_pending.specs.Timer.{EventDelay}
+use Rattle.sci_net.specs.Parts.{Parts}
+use Rattle.sci_net.specs.Sources.{sources_of}
+use Rattle.sci_reaction.specs.Memory.{Columns}
+use Rattle.sci_run.specs.Run.{IsRun}
 use Rattle.c_mean.specs.declared.start.CEnd.{CEnd}
 use Rattle.c_mean.specs.declared.start.CEnd.TheVariants.{End, Stop, Undefined}
 use Rattle.c_mean.specs.Meaning.{Ran}
@@ -97,6 +98,6 @@ c_err (Undefined statement) = undefined_line statement
 abbrev pub c_ran : Ran → Answer
 c_ran r = record { out = text r.seen; err = c_err (end_of r.how); status = c_status (end_of r.how) }
 
--- the trace of a net of timers
-abbrev pub simulated : List EventDelay → (until limit : ℕ) → Answer
-simulated timers until limit = ran (trace timers until limit)
+-- it tells a trace of the net on these columns of the input file, up to the last date, of at most so many events
+abbrev pub IsTraceOf : Parts → Columns → (until limit : ℕ) → Answer → Type 0
+IsTraceOf n columns until limit a = (os : List Obs) × IsRun n columns until limit os × (a ≡ ran os)

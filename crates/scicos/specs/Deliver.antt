@@ -1,15 +1,17 @@
 -- What the steps of writing leave on a sink.
-use Rattle.std.specs.Prelude.{ℕ, ◌≡◌, ◌≢◌, ◌⊎◌, List, [], Result, Ok, Err, Option, Some, None}
+use Rattle.std.specs.Prelude.{ℕ, ◌≡◌, ◌≢◌, ◌⊎◌, List, [], Result, Ok, Err, Option, Some, None, Bool, true, false}
 use Rattle.sci_base.specs.declared.observation.Obs.{Obs}
 use Rattle.sci_io.specs.Taken.{SinkState}
 use Rattle.sci_io.specs.declared.sink.Failed.{Failed}
-use Rattle.sci_sim.specs.declared.ready.RunEnd.{RunEnd}
-use Rattle.sci_sim.specs.Ended.{is_stopped}
+use Rattle.sci_run.specs.Run.{IsRun}
+use Rattle.sci_sim.specs.declared.end.RunEnd.{RunEnd}
+use Rattle.sci_sim.specs.declared.end.RunEnd.TheVariants.{End as Ended, Stop as Stopped}
 use Rattle.sci_trace.specs.Lines.{text, stops}
-use Rattle.scicos.specs.Answer.{write_fault_line, no_memory_line, undefined_line, no_memory, run_status}
+use Rattle.scicos.specs.Answer.{Answer, write_fault_line, no_memory_line, undefined_line, no_memory, run_status}
 use Rattle.scicos.specs.Written.{Took, Cut, Given, CutShort, Written}
-use Rattle.scicos.specs.Prepare.{answer_of, MayLack}
+use Rattle.scicos.specs.Prepare.{IsAnswerOf, MayLack}
 use Rattle.scicos.specs.declared.prepare.Prepared.{Prepared}
+use Rattle.scicos.specs.declared.prepare.Simulation.{Simulation}
 use Rattle.c_mean.specs.Meaning.{Ran as Observed}
 use Rattle.c_mean.specs.Answering.{end_of}
 use Rattle.c_mean.specs.declared.start.CEnd.{CEnd}
@@ -26,10 +28,18 @@ Gives old new text (Err _) = Cut old new text
 abbrev pub Said : ℕ → List ℕ → SinkState → SinkState → ℕ → Type 0
 Said status text err err' answer = (text ≢ []) × (((answer ≡ status) × Took err err' text) ⊎ ((answer ≡ 4) × Cut err err' text))
 
+abbrev pub is_stopped : RunEnd → Bool
+is_stopped (Ended word) = false
+is_stopped (Stopped word) = true
+
 -- a run was printed on out, which ended as its trace does, or out failed
 abbrev pub Ran : List Obs → SinkState → SinkState → Result RunEnd Failed → Type 0
 Ran observed out out' (Ok end) = (is_stopped end ≡ stops observed) × Took out out' (text observed)
 Ran observed out out' (Err _) = Cut out out' (text observed)
+
+-- the same of a simulation, with some trace of its net
+abbrev pub PrintsTrace : Simulation → SinkState → SinkState → Result RunEnd Failed → Type 0
+PrintsTrace s out out' r = (os : List Obs) × IsRun s.ready.fixed.net s.inputs s.until s.limit os × Ran os out out' r
 
 -- after a run: its status; after a failure of out a write fault put on err
 abbrev pub Finished : Result RunEnd Failed → SinkState → SinkState → ℕ → Type 0
@@ -62,6 +72,7 @@ FinishedC (Ok (ends.Undefined statement)) err err' answer = Said 7 (undefined_li
 FinishedC (Err causes.Failed) err err' answer = Said 4 write_fault_line err err' answer
 FinishedC (Err causes.Memory) err err' answer = Said 5 no_memory_line err err' answer
 
--- what a prepared command writes: its answer; or, where memory may lack when it begins, that it does
+-- what a prepared command writes: an answer; or, where memory may lack when it begins, that it does
 abbrev pub Delivers : Prepared → SinkState → SinkState → SinkState → SinkState → ℕ → Type 0
-Delivers p out out' err err' status = Written (answer_of p) out out' err err' status ⊎ (MayLack p × Written no_memory out out' err err' status)
+Delivers p out out' err err' status =
+    ((a : Answer) × IsAnswerOf p a × Written a out out' err err' status) ⊎ (MayLack p × Written no_memory out out' err err' status)

@@ -1,28 +1,34 @@
 -- What is due of the words and the files.
 use Rattle.std.specs.Prelude.{ℕ, ℤ, ◌≡◌, ◌⊎◌, pos, List, [], ◌∷◌}
 use Rattle.sci_io.specs.Files.{Files}
-use Rattle.sci_pending.specs.Timer.{EventDelay}
+use Rattle.sci_needs.specs.Needs.{needs_of}
+use Rattle.sci_trace.specs.Columns.{Needed}
 use Rattle.c_ast.specs.Syntax.{Whole}
 use Rattle.c_mean.specs.Meaning.{meaning}
-use Rattle.sci_verdict.specs.Verdict.{Plan, Accepts, Breaks, AcceptsTimers, BreaksTimers}
-use Rattle.scicos.specs.Inputs.{AcceptsInputs, BreaksInputs, AcceptsColumns, BreaksColumns}
+use Rattle.sci_verdict.specs.Verdict.{Plan, Accepts, Breaks}
+use Rattle.scicos.specs.Inputs.{AcceptsColumns, BreaksColumns}
 use Rattle.scicos.specs.Program.{AcceptsC, BreaksC}
 use Rattle.scicos.specs.Host.{host_text}
 use Rattle.scicos.specs.Words.{Request, report, simulate, run_c, host, Spells, NoCommand}
-use Rattle.scicos.specs.Answer.{Answer, usage, prints, report_text, simulated, c_ran}
+use Rattle.scicos.specs.Answer.{Answer, usage, prints, report_text, IsTraceOf, c_ran}
 use Rattle.scicos.specs.Course.{diagram_slot, inputs_slot, c_slot, Course, gives, reads, DueOn}
 
--- what comes behind the diagram of a simulation, and behind a C file
-abbrev pub behind_timers : List ℕ → (until limit : ℕ) → List EventDelay → Course
-behind_timers i until limit timers = reads (Unit {0}) inputs_slot i AcceptsInputs BreaksInputs (λ _. gives (λ a. a ≡ simulated timers until limit))
+-- an input file with what is needed of it, and what is due of its columns
+abbrev pub behind_inputs : List ℕ → List Needed → (List (List ℤ) → Answer → Type 0) → Course
+behind_inputs i needs due = reads (List (List ℤ)) inputs_slot i (AcceptsColumns needs) (BreaksColumns needs) (λ columns. gives (due columns))
 
+-- what comes behind the diagram of a simulation
+abbrev pub behind_diagram : List ℕ → (until limit : ℕ) → Plan → Course
+behind_diagram i until limit p = behind_inputs i (needs_of p.net) (λ columns a. IsTraceOf p.net columns until limit a)
+
+-- and behind a C file, whose program needs no column
 abbrev pub behind_program : List ℕ → (until limit : ℕ) → Whole → Course
-behind_program i until limit program = reads (List (List ℤ)) inputs_slot i AcceptsColumns BreaksColumns (λ columns. gives (λ a. a ≡ c_ran (meaning program columns (pos until) (pos limit))))
+behind_program i until limit program = behind_inputs i [] (λ columns a. a ≡ c_ran (meaning program columns (pos until) (pos limit)))
 
 -- the files of a command with their rules, in the order in which they are read, and what is due of them
 abbrev pub course_of : Request → Course
 course_of (report r d) = reads Plan diagram_slot d Accepts Breaks (λ p. gives (λ a. a ≡ prints (report_text r p)))
-course_of (simulate d i until limit) = reads (List EventDelay) diagram_slot d AcceptsTimers BreaksTimers (behind_timers i until limit)
+course_of (simulate d i until limit) = reads Plan diagram_slot d Accepts Breaks (behind_diagram i until limit)
 course_of (run_c c i until limit) = reads Whole c_slot c AcceptsC BreaksC (behind_program i until limit)
 course_of host = gives (λ a. a ≡ prints host_text)
 

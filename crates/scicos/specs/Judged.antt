@@ -7,7 +7,8 @@ use Rattle.sci_net.specs.Sources.{sources_of}
 use Rattle.sci_sched.specs.Plain.{rows_of}
 use Rattle.sci_sched.specs.Text.{plan_text}
 use Rattle.scicos.specs.Map.{map_text}
-use Rattle.sci_verdict.specs.Verdict.{Plan, Accepts}
+use Rattle.sci_verdict.specs.Verdict.{Plan, Accepts, plan_of}
+use Rattle.sci_verdict.specs.declared.checked.Checked.{Checked}
 use Rattle.scicos.specs.Answer.{counts_line, report_text}
 use Rattle.scicos.specs.Program.{AcceptsC}
 use Rattle.sci_base.specs.Stops.{StopsBy}
@@ -40,6 +41,10 @@ Tells r p t = (report_text r p ≡ told_text t) × HasRows t
 -- the bytes are a diagram, and this tells the report on its plan
 abbrev pub AcceptsTold : Report → List ℕ → Told → Type 0
 AcceptsTold r bytes t = (p : Plan) × Accepts bytes p × Tells r p t
+
+-- the bytes are a diagram with this net and these schedules
+abbrev pub AcceptsChecked : List ℕ → Checked → Type 0
+AcceptsChecked bytes c = Accepts bytes (plan_of c)
 
 -- the bytes spell this program
 abbrev pub AcceptsProgram : List ℕ → Program → Type 0

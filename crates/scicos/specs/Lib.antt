@@ -13,6 +13,7 @@ pub mod Deliver
 pub mod Probe
 pub mod Judged
 pub mod Look
+pub mod Banks
 pub mod Prepare
 pub mod Headline
 pub mod Laws

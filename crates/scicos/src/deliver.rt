@@ -1,30 +1,30 @@
 ghost use Rattle.std.specs.Prelude.{◌≡◌, ◌≢◌, false, ◌≤◌, ◌<◌, ◌^◌, IsTrue, [], length, pos};
+ghost use Rattle.scicos.specs.Banks.{AreAllBanks};
 ghost use Rattle.sci_base.specs.Plain.{violation_of};
 ghost use Rattle.scicos.specs.Line.{refused_line};
-ghost use Rattle.sci_pending.specs.Run.{trace};
 ghost use Rattle.sci_io.specs.Taken.{Writes};
-ghost use Rattle.sci_sim.specs.Running.{IsAtStart};
 ghost use Rattle.c_ast.specs.View.{whole_of};
 ghost use Rattle.c_mean.specs.Meaning.{meaning};
 ghost use Rattle.scicos.specs.declared.told.Told.TheVariants.{Check};
 ghost use Rattle.scicos.specs.Answer.{prints, write_fault_line, usage_line, read_fault_line, no_memory_line, undefined_line};
 ghost use Rattle.scicos.specs.Judged.{told_text, HasRows};
 ghost use Rattle.scicos.specs.Written.{Written};
-ghost use Rattle.scicos.specs.Deliver.{Gives, Said, Ran, Finished, RunsOut, RanC, FinishedC, Delivers};
-ghost use Rattle.scicos.specs.Prepare.{answer_of, IsPrepared};
+ghost use Rattle.scicos.specs.Deliver.{Gives, Said, PrintsTrace, Finished, RunsOut, RanC, FinishedC, Delivers};
+ghost use Rattle.scicos.specs.Prepare.{IsReadyToRun, IsPrepared};
 
 use crate::net_map::write_map;
-use crate::prepare::Prepared;
+use crate::prepare::{Prepared, Simulation};
 use crate::probe::silent_end;
 use crate::report::put_refused;
 use crate::told::Told;
 use c_ast::Program;
 use c_mean::{CEnd, RunStop, run};
 use itoa::Buffer;
+use sci_bank::library::{Banks, Library};
 use sci_base::{NoMemory, Refusal};
 use sci_io::{Failed, Sink, put_all};
 use sci_sched::write_plan;
-use sci_sim::{Ready, RunEnd};
+use sci_sim::RunEnd;
 use sci_trace::inputs::Inputs;
 use sci_verdict::Measured;
 use std::alloc::Global;
@@ -98,17 +98,21 @@ fn say_no_memory<E: Sink>(err: &mut E) -> u8
 
 // Runs to the end and gives the last byte on.
 fn print_trace<O: Sink>(
-    ready: &mut Ready,
-    until: u64,
-    limit: u64,
+    simulation: Simulation,
+    lib: &mut Library,
     out: &mut O,
 ) -> Result<RunEnd, Failed>
-    requires start { IsAtStart ready.old }
-    requires until { until ≤ 2 ^ 62 }
-    requires limit { limit ≤ 1000000 }
-    ensures { Ran (trace ready.old.net until limit) (O.state out.old) (O.state out.new) result }
+    requires { IsReadyToRun (⟦<Library as Banks>⟧.banks lib.old) simulation }
+    ensures printed { PrintsTrace simulation (O.state out.old) (O.state out.new) result }
+    ensures banks { AreAllBanks (⟦<Library as Banks>⟧.banks lib.new) }
 {
-    let end = ready.run(until, limit, out)?;
+    let Simulation {
+        mut ready,
+        inputs,
+        until,
+        limit,
+    } = simulation;
+    let end = ready.run(lib, &inputs, until, limit, out)?;
     out.flush()?;
     Ok(end)
 }
@@ -290,10 +294,17 @@ fn finish_run<E: Sink>(ran: Result<CEnd, RunStop>, err: &mut E) -> u8
 }
 
 /// Writes a prepared command, and gives its status.
-#[tactic(auto, using(crate::proofs::Giving::said_written, crate::proofs::Giving::ran_written, crate::proofs::Giving::c_written))]
-pub fn deliver<O: Sink, E: Sink>(alloc: Global, prepared: Prepared, out: &mut O, err: &mut E) -> u8
-    requires { IsPrepared prepared }
-    ensures { Delivers prepared (O.state out.old) (O.state out.new) (E.state err.old) (E.state err.new) result }
+pub fn deliver<O: Sink, E: Sink>(
+    alloc: Global,
+    prepared: Prepared,
+    out: &mut O,
+    err: &mut E,
+    lib: &mut Library,
+) -> u8
+    requires prepared { IsPrepared (⟦<Library as Banks>⟧.banks lib.old) prepared }
+    requires banks { AreAllBanks (⟦<Library as Banks>⟧.banks lib.old) }
+    ensures delivered { Delivers prepared (O.state out.old) (O.state out.new) (E.state err.old) (E.state err.new) result }
+    ensures banks { AreAllBanks (⟦<Library as Banks>⟧.banks lib.new) }
 {
     match prepared {
         Prepared::Usage => say_usage(err),
@@ -302,10 +313,7 @@ pub fn deliver<O: Sink, E: Sink>(alloc: Global, prepared: Prepared, out: &mut O,
         Prepared::Memory => say_no_memory(err),
         Prepared::Print(text) => print(text, out, err),
         Prepared::Report(told) => tell(&told, out, err),
-        Prepared::Simulate(ready, until, limit) => {
-            let mut ready = ready;
-            finish(print_trace(&mut ready, until, limit, out), err)
-        }
+        Prepared::Simulate(simulation) => finish(print_trace(simulation, lib, out), err),
         Prepared::RunC(program, inputs, until, limit) => finish_run(
             print_run(alloc, &program, &inputs, until, limit, out),
             err,

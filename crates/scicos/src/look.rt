@@ -3,7 +3,7 @@ ghost use Rattle.std.specs.Prelude.{◌≡◌, ◌≤◌};
 ghost use Rattle.scicos.specs.Look.{IsFile, IsLooked, IsTooLong};
 
 use crate::rules::Rules;
-use sci_base::{Refusal, Rule, Stop};
+use sci_base::{NoMemory, Refusal, Rule, Stop};
 use sci_io::{Folder, ReadEnd};
 use std::alloc::Global;
 
@@ -27,6 +27,16 @@ pub enum LookStop {
     Fault,
     /// There was no memory for it.
     Memory,
+}
+
+impl From<NoMemory> for LookStop {
+    ghost use Rattle.scicos.specs.declared.look.LookStop.TheVariants.{Memory};
+
+    ghost from_gives = { λ _ e. e ≡ Memory };
+
+    fn from(_e: NoMemory) -> LookStop {
+        LookStop::Memory
+    }
 }
 
 // The bytes of a file, which keep the limit.

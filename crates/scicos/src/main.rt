@@ -1,6 +1,8 @@
 //! Checks, simulates and compiles Scicos block diagrams in discrete time over integer signals.
 #![tactic(auto)]
 
+ghost use Rattle.scicos.specs.Banks.{AreAllBanks};
+
 mod command;
 mod deliver;
 mod host;
@@ -17,7 +19,10 @@ mod told;
 mod top;
 mod words;
 
+use sci_bank::library::{Banks, Library};
+use sci_base::NoMemory;
 use sci_io::{BufferedSink, Machine, RealFolder, RealSink, Sink};
+use sci_library::{AnyBank, put_fresh};
 use std::alloc::Global;
 use std::env;
 use std::io::ErrorKind;
@@ -30,23 +35,47 @@ const ROOM: usize = 65_536;
 const LINE_ROOM: usize = 256;
 
 // The words behind the program's name. Where one is no UTF-8, which is no word of a command, there are none.
-fn words_of(rt: &HostRuntime, alloc: Global) -> Option<Vec<String>> {
+fn words_of(rt: &HostRuntime, alloc: Global) -> Result<Vec<String>, NoMemory> {
     match env::args(rt) {
-        Ok(args) => args.skip(1).collect::<Vec<String>>(alloc).ok(),
-        Err(error) if error.kind() != ErrorKind::OutOfMemory => Some(Vec::new(alloc)),
-        Err(_) => None,
+        Ok(args) => match args.skip(1).collect::<Vec<String>>(alloc) {
+            Ok(words) => Ok(words),
+            Err(_) => Err(NoMemory),
+        },
+        Err(error) if error.kind() != ErrorKind::OutOfMemory => Ok(Vec::new(alloc)),
+        Err(_) => Err(NoMemory),
     }
+}
+
+// Does what the words ask for, with the machine's files and streams.
+fn run(rt: &HostRuntime, alloc: Global, lib: &mut Library) -> Result<u8, NoMemory>
+    requires { AreAllBanks (⟦<Library as Banks>⟧.banks lib.old) }
+{
+    let words = words_of(rt, alloc)?;
+    let mut out = BufferedSink::new(alloc, RealSink::new(rt.stdout()), ROOM)?;
+    let mut err = BufferedSink::new(alloc, RealSink::new(rt.stderr()), LINE_ROOM)?;
+    let mut folder = RealFolder::new(Machine::new(rt), alloc);
+    Ok(top::top(alloc, &words, &mut folder, &mut out, &mut err, lib))
+}
+
+// Tells that there is no memory to begin with.
+fn no_memory(rt: &HostRuntime) -> ExitCode {
+    let _ = RealSink::new(rt.stderr()).put("out of memory\n".as_bytes());
+    ExitCode::from(5)
 }
 
 fn main(rt: HostRuntime) -> ExitCode {
     let alloc = rt.alloc();
-    let words = words_of(&rt, alloc);
-    let out = BufferedSink::new(alloc, RealSink::new(rt.stdout()), ROOM);
-    let err = BufferedSink::new(alloc, RealSink::new(rt.stderr()), LINE_ROOM);
-    let (Some(words), Ok(mut out), Ok(mut err)) = (words, out, err) else {
-        let _ = RealSink::new(rt.stderr()).put("out of memory\n".as_bytes());
-        return ExitCode::from(5);
-    };
-    let mut folder = RealFolder::new(Machine::new(&rt), alloc);
-    ExitCode::from(top::top(alloc, &words, &mut folder, &mut out, &mut err))
+    let mut lib = Library::new(alloc);
+    while let Some(kind) = lib.next_kind() {
+        let Ok(bank) = Box::new(alloc, AnyBank::of_kind(alloc, kind)) else {
+            return no_memory(&rt);
+        };
+        if put_fresh(&mut lib, kind, bank).is_err() {
+            return no_memory(&rt);
+        }
+    }
+    match run(&rt, alloc, &mut lib) {
+        Ok(status) => ExitCode::from(status),
+        Err(NoMemory) => no_memory(&rt),
+    }
 }

@@ -1,6 +1,5 @@
 // The rules of each kind of file.
-ghost use Rattle.std.specs.Prelude.{◌↔◌, ◌≡◌, ◌≤◌, ◌<◌, ◌^◌, true, length};
-ghost use Rattle.scicos.specs.Inputs.{HasNoColumns, AcceptsInputs, BreaksInputs};
+ghost use Rattle.std.specs.Prelude.{◌≤◌, ◌<◌, ◌^◌, length};
 ghost use Rattle.scicos.specs.Program.{BreaksC, not_c};
 ghost use Rattle.sci_base.specs.Stops.{IsViolation};
 ghost use Rattle.scicos.specs.Judged.{IsJudged, AcceptsProgram};
@@ -9,10 +8,9 @@ use crate::command::Report;
 use crate::told::{Told, report_on};
 use c_ast::Program;
 use c_read::{ParseStop, parse};
-use sci_base::{Refusal, Rule, Stop};
-use sci_pending::TimerNet;
-use sci_trace::inputs::{Inputs, read_inputs};
-use sci_verdict::timer_net;
+use sci_base::{Rule, Stop};
+use sci_trace::inputs::{Inputs, Need, read_inputs};
+use sci_verdict::{Checked, check};
 use std::alloc::Global;
 
 /// The rules of a file, and what is made of one that keeps them.
@@ -71,67 +69,27 @@ impl Rules for DiagramRules {
     ghost within = { Prim.search rules };
 }
 
-/// The rules of a diagram's file that has timers alone.
+/// The rules of a diagram's file, of which the net with its schedules is made.
 #[derive(Drop)]
-pub struct TimerRules;
+pub struct PlanRules;
 
-impl Rules for TimerRules {
+impl Rules for PlanRules {
     ghost use Rattle.std.proofs.Common.{rules};
-    ghost use Rattle.sci_verdict.specs.Verdict.{AcceptsTimers, BreaksTimers};
+    ghost use Rattle.sci_verdict.specs.Verdict.{Breaks};
+    ghost use Rattle.scicos.specs.Judged.{AcceptsChecked};
 
-    type Made = TimerNet;
+    type Made = Checked;
 
     const LONGEST: usize = 16_777_216;
 
     ghost LONGEST = { 16777216 };
 
-    ghost accepts = { λ _ bytes timers. AcceptsTimers bytes timers };
+    ghost accepts = { λ _ bytes checked. AcceptsChecked bytes checked };
 
-    ghost breaks = { λ _ bytes v. BreaksTimers bytes v };
+    ghost breaks = { λ _ bytes v. Breaks bytes v };
 
-    fn judge(&self, alloc: Global, bytes: &[u8]) -> Result<TimerNet, Stop> {
-        timer_net(alloc, bytes)
-    }
-
-    ghost within = { Prim.search rules };
-}
-
-fn has_no_columns(bytes: &[u8]) -> bool
-    ensures { (result ≡ true) ↔ HasNoColumns bytes.now }
-{
-    bytes == "[]".as_bytes() || bytes == "[]\n".as_bytes()
-}
-
-fn no_columns(alloc: Global, bytes: &[u8]) -> Result<(), Stop>
-    ensures { IsJudged AcceptsInputs BreaksInputs bytes.now result }
-{
-    if has_no_columns(bytes) {
-        Ok(())
-    } else {
-        Err(Stop::Refused(Refusal::of_the_whole(alloc, Rule::Unbuilt)))
-    }
-}
-
-/// The rules of the input file of a simulation: so far it has no columns.
-#[derive(Drop)]
-pub struct NoInputRules;
-
-impl Rules for NoInputRules {
-    ghost use Rattle.std.proofs.Common.{rules};
-    ghost use Rattle.scicos.specs.Inputs.{AcceptsInputs, BreaksInputs};
-
-    type Made = ();
-
-    const LONGEST: usize = 16_777_216;
-
-    ghost LONGEST = { 16777216 };
-
-    ghost accepts = { λ _ bytes made. AcceptsInputs bytes made };
-
-    ghost breaks = { λ _ bytes v. BreaksInputs bytes v };
-
-    fn judge(&self, alloc: Global, bytes: &[u8]) -> Result<(), Stop> {
-        no_columns(alloc, bytes)
+    fn judge(&self, alloc: Global, bytes: &[u8]) -> Result<Checked, Stop> {
+        check(alloc, bytes)
     }
 
     ghost within = { Prim.search rules };
@@ -183,12 +141,16 @@ impl Rules for CRules {
     ghost within = { Prim.search rules };
 }
 
-/// The rules of an input file of which no column is needed.
+/// The rules of an input file, of which this is needed.
 #[derive(Drop)]
-pub struct ColumnRules;
+pub struct ColumnRules {
+    pub needs: Vec<Need>,
+}
 
 impl Rules for ColumnRules {
+    ghost use Rattle.std.specs.Prelude.{map};
     ghost use Rattle.std.proofs.Common.{rules};
+    ghost use Rattle.sci_trace.specs.Columns.{needed_of};
     ghost use Rattle.scicos.specs.Inputs.{AcceptsColumns, BreaksColumns};
 
     type Made = Inputs;
@@ -197,12 +159,12 @@ impl Rules for ColumnRules {
 
     ghost LONGEST = { 16777216 };
 
-    ghost accepts = { λ _ bytes columns. AcceptsColumns bytes columns };
+    ghost accepts = { λ s bytes columns. AcceptsColumns (map needed_of s.needs.items) bytes columns };
 
-    ghost breaks = { λ _ bytes v. BreaksColumns bytes v };
+    ghost breaks = { λ s bytes v. BreaksColumns (map needed_of s.needs.items) bytes v };
 
     fn judge(&self, alloc: Global, bytes: &[u8]) -> Result<Inputs, Stop> {
-        read_inputs(alloc, bytes, &[])
+        read_inputs(alloc, bytes, &self.needs)
     }
 
     ghost within = { Prim.search rules };

@@ -1,5 +1,9 @@
+ghost use Rattle.scicos.specs.Banks.{AreAllBanks};
+
 use crate::top::top;
+use sci_bank::library::{Banks, Library};
 use sci_io::{MemFolder, MemSink};
+use sci_library::{AnyBank, put_fresh};
 use std::alloc::Global;
 use std::test::Fail;
 
@@ -15,14 +19,17 @@ struct Call {
     err: MemSink,
 }
 
-fn run_line(
+fn run_with(
     alloc: Global,
+    lib: &mut Library,
     line: &str,
     diagram: &str,
     inputs: &str,
     fails: Vec<u64>,
     room: usize,
-) -> Result<Call, Fail> {
+) -> Result<Call, Fail>
+    requires { AreAllBanks (⟦<Library as Banks>⟧.banks lib.old) }
+{
     let mut words = Vec::new(alloc);
     for word in line.split(' ') {
         words.push(String::from_str(alloc, word)?)?;
@@ -39,7 +46,7 @@ fn run_line(
     let mut folder = MemFolder::new(alloc, files, Vec::new(alloc));
     let mut out = MemSink::new(alloc, fails, room)?;
     let mut err = MemSink::new(alloc, Vec::new(alloc), 200)?;
-    let status = top(alloc, &words, &mut folder, &mut out, &mut err);
+    let status = top(alloc, &words, &mut folder, &mut out, &mut err, lib);
     let asked = folder.asked().len();
     Ok(Call {
         status,
@@ -47,6 +54,22 @@ fn run_line(
         out,
         err,
     })
+}
+
+fn run_line(
+    alloc: Global,
+    line: &str,
+    diagram: &str,
+    inputs: &str,
+    fails: Vec<u64>,
+    room: usize,
+) -> Result<Call, Fail> {
+    let mut lib = Library::new(alloc);
+    while let Some(kind) = lib.next_kind() {
+        let bank = Box::new(alloc, AnyBank::of_kind(alloc, kind))?;
+        put_fresh(&mut lib, kind, bank)?;
+    }
+    run_with(alloc, &mut lib, line, diagram, inputs, fails, room)
 }
 
 #[test]
@@ -93,16 +116,6 @@ fn a_failed_write_is_told(rt: HostRuntime) -> Result<(), Fail> {
 #[test]
 fn what_is_no_run_is_told(rt: HostRuntime) -> Result<(), Fail> {
     let alloc = rt.alloc();
-    let unbuilt = run_line(
-        alloc,
-        "simulate d i 8 10",
-        CLOCK,
-        "[[1]]",
-        Vec::new(alloc),
-        0,
-    )?;
-    assert_eq!(rt; unbuilt.status, 1);
-    assert_eq!(rt; unbuilt.err.taken(), "refused 30 Unbuilt at -\n".as_bytes());
     let missing = run_line(alloc, "simulate d j 8 10", CLOCK, "[]", Vec::new(alloc), 0)?;
     assert_eq!(rt; missing.status, 3);
     assert_eq!(rt; missing.err.taken(), "read fault\n".as_bytes());
@@ -112,6 +125,38 @@ fn what_is_no_run_is_told(rt: HostRuntime) -> Result<(), Fail> {
     let usage = run_line(alloc, "simulate d i 08 10", CLOCK, "[]", Vec::new(alloc), 0)?;
     assert_eq!(rt; usage.status, 2);
     assert_eq!(rt; usage.asked, 0);
+    Ok(())
+}
+
+// A sensor of bytes that an event activates at each tick.
+const SENSOR: &str = r#"{"objs":[
+{"obj":"Block","gui":"EVTDLY_c","model":{"evtin":1,"evtout":1,"ipar":1,"firing":0}},
+{"obj":"Block","gui":"SENSOR","model":{"out":1,"outtyp":8,"evtin":1,"ipar":1}},
+{"obj":"Link","from":[1,1,0],"to":[1,1,1],"ct":[5,-1]},
+{"obj":"Link","from":[1,1,0],"to":[2,1,1],"ct":[5,-1]}]}"#;
+
+#[test]
+fn a_sensor_takes_its_column(rt: HostRuntime) -> Result<(), Fail> {
+    let alloc = rt.alloc();
+    let line = "simulate d i 10 5";
+    let stopped = run_line(alloc, line, SENSOR, "[[7,8]]", Vec::new(alloc), 200)?;
+    assert_eq!(rt; stopped.status, 6);
+    assert_eq!(rt;
+        stopped.out.taken(),
+        "start\nevent 0 1 1\nval 2 1 1 7\nevent 1 1 1\nval 2 1 1 8\nevent 2 1 1\nstop input 2\n".as_bytes()
+    );
+    let outside = run_line(alloc, line, SENSOR, "[[7,300]]", Vec::new(alloc), 0)?;
+    assert_eq!(rt; outside.status, 1);
+    assert_eq!(rt;
+        outside.err.taken(),
+        "refused 28 InputRange at 2 1 2 300\n".as_bytes()
+    );
+    let missing = run_line(alloc, line, SENSOR, "[]", Vec::new(alloc), 0)?;
+    assert_eq!(rt; missing.status, 1);
+    assert_eq!(rt;
+        missing.err.taken(),
+        "refused 27 InputShape at - 1 0\n".as_bytes()
+    );
     Ok(())
 }
 

@@ -1,24 +1,30 @@
 ghost use Rattle.std.specs.Prelude.{◌≡◌, map, string_bytes};
+ghost use Rattle.scicos.specs.Banks.{AreAllBanks};
 ghost use Rattle.scicos.specs.Headline.{Meets};
 
 use crate::deliver::deliver;
 use crate::prepare::prepare;
+use sci_bank::library::{Banks, Library};
 use sci_io::{Folder, Sink};
 use std::alloc::Global;
 
 /// Does what the words ask for, and gives the status: 0 where it was done, 1 where a rule is broken, 2 where the words are
 /// no command, 3 where a file could not be read, 4 where out or err could not be written, 5 where memory lacked, 6 where
-/// the run stopped, 7 where a C program has no meaning.
+/// the run stopped, 7 where a C program has no meaning. A simulation runs on the banks of the library; where it stops they keep what they
+/// held.
 pub fn top<F: Folder, O: Sink, E: Sink>(
     alloc: Global,
     words: &[String],
     folder: &mut F,
     out: &mut O,
     err: &mut E,
+    lib: &mut Library,
 ) -> u8
+    requires { AreAllBanks (⟦<Library as Banks>⟧.banks lib.old) }
     ensures meets { Meets (map string_bytes words.now) (F.state folder.old) (F.state folder.new) (O.state out.old) (O.state out.new) (E.state err.old) (E.state err.new) result }
     ensures kept { (F.state folder.new).files ≡ (F.state folder.old).files }
+    ensures banks { AreAllBanks (⟦<Library as Banks>⟧.banks lib.new) }
 {
-    let prepared = prepare(alloc, words, folder);
-    deliver(alloc, prepared, out, err)
+    let prepared = prepare(alloc, words, folder, lib);
+    deliver(alloc, prepared, out, err, lib)
 }

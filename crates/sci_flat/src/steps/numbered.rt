@@ -21,7 +21,7 @@ pub struct Numbered {
     pub steps: Vec<(u32, u32)>,
     /// The blocks that are neither superblocks nor pass-through objects, in tree order.
     pub blocks: Vec<Seat>,
-    /// The tag objects, in tree order: each by the number of its port, or of the first where it breaks a rule by having more.
+    /// The tag objects, in tree order: each by the number of its port. Of one that hasn't exactly one port the entry has no meaning.
     pub tags: Vec<u32>,
 }
 

@@ -63,7 +63,7 @@ pub read_objs-returns-in_err-read_obj-clause-stop : goal.read_objs-returns-in_er
 read_objs-returns-in_err-read_obj-clause-stop t c =
     let is = taken (items_view c.loop-item.items) (view c.in-Some.item) (items_view c.next.new.self) c.in-Some.ensures.value in
     let many : c.len.result ≡ length c.loop-item.objs.items = omega arith in
-    let there = c.as_slice.ensures ∙ c.in_ok-place.ensures.ok ∙ place c.args.at.now many in
+    let there = c.as_slice.ensures ∙ c.in_ok-place.ensures ∙ place c.args.at.now many in
     let stops = rest_stops (diagram_at c.args.left) c.args.at.now (items_view c.loop-item.items) (view c.in-Some.item) (items_view c.next.new.self) is c.as_slice.result.now (map object_view c.loop-item.objs.items) (length c.loop-item.objs.items + 1) there _ c.loop-item.invariant.walked c.in_err-read_obj.field-0.0 c.in_err-read_obj.ensures.stop in
     search (rules, stops)
 
@@ -71,7 +71,7 @@ pub read_objs-loop-item-preserved-in_ok-push : goal.read_objs-loop-item-preserve
 read_objs-loop-item-preserved-in_ok-push t c =
     let is = taken (items_view c.loop-item.items) (view c.in-Some.item) (items_view c.next.new.self) c.in-Some.ensures.value in
     let many : c.len.result ≡ length c.loop-item.objs.items = omega arith in
-    let there = c.as_slice.ensures ∙ c.in_ok-place.ensures.ok ∙ place c.args.at.now many in
+    let there = c.as_slice.ensures ∙ c.in_ok-place.ensures ∙ place c.args.at.now many in
     let more = rest_more (diagram_at c.args.left) c.args.at.now (items_view c.loop-item.items) (view c.in-Some.item) (items_view c.next.new.self) is c.as_slice.result.now c.loop-item.objs.items c.push.new.self.items c.in_ok-read_obj.field-0 there c.in_ok-read_obj.ensures.ok c.in_ok-push.ensures.items in
     let few = fewer c.loop-item.objs.items c.push.new.self.items c.in_ok-read_obj.field-0 (items_view c.loop-item.items) (view c.in-Some.item) (items_view c.next.new.self) is c.in_ok-push.ensures.items in
     record { walked = more ∙ c.loop-item.invariant.walked; few = omega (arith, few, c.loop-item.invariant.few) }
@@ -80,7 +80,7 @@ pub read_objs-loop-item-preserved : goal.read_objs-loop-item-preserved
 read_objs-loop-item-preserved t c =
     let is = taken (items_view c.loop-item.items) (view c.in-Some.item) (items_view c.next.new.self) c.in-Some.ensures.value in
     let many : c.len.result ≡ length c.loop-item.objs.items = omega arith in
-    let there = c.as_slice.ensures ∙ c.in_ok-place.ensures.ok ∙ place c.args.at.now many in
+    let there = c.as_slice.ensures ∙ c.in_ok-place.ensures ∙ place c.args.at.now many in
     let more = rest_more (diagram_at c.args.left) c.args.at.now (items_view c.loop-item.items) (view c.in-Some.item) (items_view c.next.new.self) is c.as_slice.result.now c.loop-item.objs.items c.push.new.self.items c.in_ok-read_obj.field-0 there c.in_ok-read_obj.ensures.ok c.in_ok-push.ensures.items in
     let few = fewer c.loop-item.objs.items c.push.new.self.items c.in_ok-read_obj.field-0 (items_view c.loop-item.items) (view c.in-Some.item) (items_view c.next.new.self) is c.in_ok-push.ensures.items in
     record { walked = more ∙ c.loop-item.invariant.walked; few = omega (arith, few, c.loop-item.invariant.few) }

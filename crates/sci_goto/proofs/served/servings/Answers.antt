@@ -1,4 +1,4 @@
-use Rattle.std.proofs.Common.{◌≡◌, ◌<◌, Option, Vec, Global, ◌++◌, length, map, take, option_to_list, sym, ap, ◌∙◌, append-nil, rules, arith}
+use Rattle.std.proofs.Common.{◌≡◌, ◌<◌, List, Option, Some, None, Vec, Global, ◌++◌, length, map, take, option_to_list, refl, sym, ap, ◌∙◌, append-nil, rules, arith}
 use Rattle.std.proofs.lemmas.List.{length-map}
 use Rattle.sci_base.specs.Stops.{Stops}
 use Rattle.sci_goto.specs.declared.serving.Serving.{Serving}
@@ -8,7 +8,11 @@ use Rattle.sci_goto.specs.Givers.{takings_as, takings, Serve}
 use Rattle.sci_goto.proofs.Gathering.{take_standing, rest_standing, one_standing}
 use Rattle.sci_goto.proofs.Takers.{served_more, served_stop}
 use Rattle.sci_goto.proofs.served.servings.Goals as goal
-use Rattle.sci_goto.proofs.served.servings.Goals.{in-Some+in_ok-push-in-Some, in-None}
+use Rattle.sci_goto.proofs.served.servings.Goals.{in-Some+in_ok-push, in_default}
+
+none_more : (old : List Serving) (o : Option Serving) → ((s : Serving) → o ≡ Some s → ⊥) → old ≡ old ++ option_to_list o
+none_more old None h = sym (append-nil old)
+none_more old (Some s) h = absurd (h s refl)
 
 pub returns-in_err-serving-clause-stop : goal.returns-in_err-serving-clause-stop
 returns-in_err-serving-clause-stop c = λ gs h.
@@ -34,7 +38,7 @@ loop-n-preserved c = λ gs h.
     let more = served_more ss gs (map standing_of (take c.loop-n.n ts)) (standing_of t) old (option_to_list o) (c.loop-n.invariant gs h) one in
     let pushed : c.match-branch-2.servings.items ≡ old ++ option_to_list o =
     elim c.match-branch-2.branch [
-      | in-Some+in_ok-push-in-Some w ↦ ap (λ (v : Vec Serving Global). v.items) w.servings-is ∙ w.in_ok-push-in-Some.ensures.items ∙ ap (λ (r : Option Serving). old ++ option_to_list r) (sym w.in-Some.is)
-      | in-None w ↦ ap (λ (v : Vec Serving Global). v.items) w.servings-is ∙ sym (append-nil old) ∙ ap (λ (r : Option Serving). old ++ option_to_list r) (sym w.in-None.is)
+      | in-Some+in_ok-push w ↦ ap (λ (v : Vec Serving Global). v.items) w.servings-is ∙ w.in_ok-push.ensures.items ∙ ap (λ (r : Option Serving). old ++ option_to_list r) (sym w.in-Some.is)
+      | in_default w ↦ ap (λ (v : Vec Serving Global). v.items) w.servings-is ∙ none_more old o w.in_default.not-Some
     ] in
     rw (take_standing ts c.loop-n.n t c.loop-n-test.true c.index-tags-n.is, pushed) more

@@ -1,15 +1,11 @@
-use Rattle.std.proofs.Common.{◌≡◌, ◌+◌, [], drop, map, length}
-use Rattle.sci_pending.specs.Timer.{event_delay}
-use Rattle.sci_sim.specs.Firing.{first_due}
-use Rattle.sci_sim.proofs.Programmed.{IsFresh}
+use Rattle.std.proofs.Common.{◌≡◌, length}
+use Rattle.sci_net.specs.Sources.{sources_of}
+use Rattle.sci_sim.specs.Programming.{Keeps}
+use Rattle.sci_sim.proofs.Programs.{first_to}
 use Rattle.sci_sim.proofs.programming.program_first.Given as goal
 
--- what the others are still to program
-abbrev pub invariant-loop-timer : goal.invariant-loop-timer
-invariant-loop-timer l = record {
-  left : first_due 1 (map event_delay l.timers) [] ≡ first_due (l.block + 1) (map event_delay (drop l.timer-index l.timers)) l.agenda.meaning.events;
-  block : l.block ≡ l.timer-index;
-  now : l.agenda.meaning.now ≡ 0;
-  ports : l.agenda.meaning.ports ≡ length l.timers;
-  fresh : IsFresh l.block l.agenda.meaning.events;
+abbrev pub invariant-loop-source : goal.invariant-loop-source
+invariant-loop-source g l = record {
+  end : l.source-end ≡ length (sources_of l.net);
+  kept : Keeps l.net 0 0 (g.A.Agenda.meaning l.agenda) (g.A.Agenda.puts l.agenda) (first_to l.net l.source);
 }

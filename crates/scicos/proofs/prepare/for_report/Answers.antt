@@ -1,4 +1,4 @@
-use Rattle.std.proofs.Common.{rules, ◌≡◌, List, ℕ, sym, ap}
+use Rattle.std.proofs.Common.{rules, ◌≡◌, List, ℕ, sym, ap, ◌∙◌}
 use Rattle.sci_verdict.specs.Verdict.{Plan, Accepts, Breaks}
 use Rattle.scicos.specs.Answer.{Answer, prints, report_text}
 use Rattle.scicos.specs.Course.{diagram_slot, gives}
@@ -9,19 +9,19 @@ use Rattle.scicos.proofs.Looking.{first_stops, first_passes}
 use Rattle.scicos.proofs.prepare.for_report.Goals as goal
 
 pub returns-in_err-told-clause-looks : goal.returns-in_err-told-clause-looks
-returns-in_err-told-clause-looks g c =
+returns-in_err-told-clause-looks g c = λ banks.
     first_stops Plan diagram_slot c.args.file.now Accepts Breaks (λ p. gives (λ a. a ≡ prints (report_text c.args.report p))) Told (AcceptsTold c.args.report) (g.F.Folder.state c.args.folder.now)
-    (g.F.Folder.state c.look.new.folder) c.look.result c.from_residual.result _ c.in_err-told.was (search rules) c.look.ensures.looked
+    (g.F.Folder.state c.look.new.folder) banks c.look.result c.from_residual.result _ c.in_err-told.was (search rules) c.look.ensures.looked
 
 pub returns-clause-looks : goal.returns-clause-looks
-returns-clause-looks g c =
+returns-clause-looks g c = λ banks.
     let old = g.F.Folder.state c.args.folder.now in
     let new = g.F.Folder.state c.look.new.folder in
     let due : Plan → Answer → Type 0 = λ p a. a ≡ prints (report_text c.args.report p) in
     record {
-      reaches = of_files old new Plan diagram_slot c.args.file.now Accepts Breaks (λ p. gives (due p)) _
-          (first_passes Plan diagram_slot c.args.file.now Accepts Breaks (λ p. gives (due p)) Told (AcceptsTold c.args.report) old new new c.look.result c.in_ok-told.told _ c.in_ok-told.was c.look.ensures.looked c.look.ensures.kept
-          (λ b t. (t.0, t.1, due_now new (due t.0) _ (sym (ap prints t.2.0)))));
+      reaches = λ a is. of_files old new Plan diagram_slot c.args.file.now Accepts Breaks (λ p. gives (due p)) a
+          (first_passes Plan diagram_slot c.args.file.now Accepts Breaks (λ p. gives (due p)) Told (AcceptsTold c.args.report) old new new c.look.result c.in_ok-told.told a c.in_ok-told.was c.look.ensures.looked c.look.ensures.kept
+          (λ b t. (t.0, t.1, due_now new (due t.0) a (is ∙ sym (ap prints t.2.0)))));
       prepared = c.in_ok-told.ensures.looked.0.2.1.2.1;
       lacks = λ x. absurd x;
     }

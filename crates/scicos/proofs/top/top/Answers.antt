@@ -3,8 +3,7 @@ use Rattle.std.specs.Prelude.{string_bytes}
 use Rattle.scicos.proofs.Causes.{met_by}
 use Rattle.scicos.proofs.Delivered.{met_either}
 use Rattle.scicos.proofs.top.top.Goals as goal
-use Rattle.scicos.specs.Prepare.{answer_of}
 
 pub returns-clause-meets : goal.returns-clause-meets
 returns-clause-meets g c =
-    met_either c.prepare-prepared.result _ _ _ _ _ _ _ _ c.prepare-prepared.ensures.reaches c.prepare-prepared.ensures.lacks c.deliver.ensures
+    met_either c.prepare-prepared.result _ _ _ _ _ _ _ _ c.prepare-prepared.ensures.reaches c.prepare-prepared.ensures.lacks c.deliver.ensures.delivered

@@ -1,24 +1,28 @@
-use Rattle.std.proofs.Common.{◌≡◌, [], List, ℕ, map, length, sym, ◌∙◌, ap}
-use Rattle.std.proofs.lemmas.List.{length-map}
-use Rattle.sci_pending.specs.declared.net.Timer.{Timer}
-use Rattle.sci_pending.specs.Timer.{EventDelay, event_delay}
-use Rattle.sci_pending.specs.Run.{at_start}
-use Rattle.sci_agenda.specs.Firing.{Meaning}
-use Rattle.sci_agenda.specs.FiringOrder.{in_order}
-use Rattle.sci_sim.specs.Firing.{first_due}
-use Rattle.sci_sim.proofs.InOrder.{same_start}
+use Rattle.sci_sched.specs.Plain.{rows_of}
+use Rattle.sci_sim.specs.Frame.{IsFrame}
+use Rattle.sci_sim.proofs.Starting.{fixed_of, frame_is, ready_is, start_is}
+use Rattle.sci_sim.proofs.ready.Ready.new.Given.{Over}
+use Rattle.sci_sim.proofs.ready.Ready.new.Goals.{After-program_first}
 use Rattle.sci_sim.proofs.ready.Ready.new.Goals as goal
 
-abbrev waits : List (ℕ × ℕ) → ℕ → Meaning
-waits es ports = record { events = es; now = 0; ports = ports }
+frame : (g : Over) (c : After-program_first g) → IsFrame (fixed_of c.args.n c.in_ok-rows.rows.items c.in_ok-places.places c.in_ok-seats.seats.items)
+frame g c =
+    frame_is c.args.n c.in_ok-rows.rows.items (rows_of c.args.p) c.in_ok-places.places c.in_ok-seats.seats.items _ c.well_formed-2.ensures c.requires.plan
+    c.in_ok-rows.ensures.entries c.in_ok-rows.ensures.by_number c.in_ok-places.ensures c.in_ok-seats.ensures.seated
 
-start_is : (m : Meaning) (timers : List Timer) (net : List EventDelay) → m ≡ waits (first_due 1 (map event_delay timers) []) (length timers) → map event_delay timers ≡ net
-    → m ≡ waits (in_order (at_start net).events) (length net)
-start_is m timers net is parts =
-    is
-    ∙ (ap (λ (n : ℕ). waits (first_due 1 (map event_delay timers) []) n) (sym (length-map timers event_delay))
-    ∙ (ap (λ (ts : List EventDelay). waits (first_due 1 ts []) (length ts)) parts
-    ∙ ap (λ (es : List (ℕ × ℕ)). waits es (length net)) (sym (same_start net).0)))
+pub invariant_of-frame : goal.invariant_of-frame
+invariant_of-frame g c = frame g (goal.at.invariant_of-frame g c).After-program_first
+
+pub invariant_of-frame-2 : goal.invariant_of-frame-2
+invariant_of-frame-2 g c = frame g (goal.at.invariant_of-frame-2 g c).After-program_first
+
+pub invariant_of-result : goal.invariant_of-result
+invariant_of-result g c =
+    ready_is _ c.in_ok-store.store c.program_first.new.agenda (frame g (goal.at.invariant_of-result g c).After-program_first)
+    c.in_ok-store.ensures.store c.in_ok-store.ensures.idle
 
 pub returns-clause-start : goal.returns-clause-start
-returns-clause-start c = start_is c.program_first.new.agenda.meaning c.parts-timers.result.now c.args.n c.program_first.ensures c.parts-timers.ensures.parts
+returns-clause-start g c =
+    start_is _ c.in_ok-store.store c.program_first.new.agenda (frame g (goal.at.returns-clause-start g c).After-program_first)
+    c.in_ok-store.ensures.store c.in_ok-store.ensures.idle _ c.in_ok-seats.ensures.full c.in_ok-seats.ensures.in_order c.in_ok-seats.ensures.seated c.in_ok-store.ensures.held c.in_ok-store.ensures.cursors
+    c.in_ok-store.ensures.lines c.in_ok-store.ensures.sum c.program_first.ensures

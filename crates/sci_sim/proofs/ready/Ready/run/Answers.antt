@@ -1,42 +1,49 @@
-use Rattle.std.proofs.Common.{◌≡◌, ◌∷◌, [], List, ℕ, Some, sym, ◌∙◌, ap, subst, rules}
-use Rattle.sci_base.specs.declared.observation.Obs.{Obs}
-use Rattle.sci_base.specs.declared.observation.Obs.TheVariants.{Start}
-use Rattle.sci_io.specs.Taken.{Writes}
-use Rattle.sci_io.proofs.Advance.{then_writes, stopped}
-use Rattle.sci_trace.specs.Lines.{line, text, stops}
-use Rattle.sci_agenda.specs.Firing.{Meaning}
-use Rattle.sci_sim.specs.declared.ready.RunEnd.{RunEnd}
-use Rattle.sci_sim.specs.Firing.{run_due}
-use Rattle.sci_sim.specs.Running.{Running, IsAtStart}
-use Rattle.sci_sim.specs.Ended.{how_ended, is_stopped}
-use Rattle.sci_pending.specs.Run.{trace}
-use Rattle.sci_sim.proofs.InOrder.{trace_in_order}
-use Rattle.sci_sim.proofs.Runs.{how_ended-run, stops_by, if_ok}
+use Rattle.std.proofs.Common.{◌++◌, ◌∙◌, sym, subst, arith}
+use Rattle.std.proofs.lemmas.Result.{err_from_is_err_and}
+use Rattle.sci_reaction.specs.Memory.{AreColumns}
+use Rattle.sci_sim.specs.Frame.{Fixed}
+use Rattle.sci_sim.proofs.Runs.{start_on_way, goes_further, over_is, trace_written, trace_cut, no_more, not_over, finished_by}
 use Rattle.sci_sim.proofs.ready.Ready.run.Goals as goal
 
-trace_is : (r : Running) (until limit : ℕ) → IsAtStart r → trace r.net until limit ≡ Start ∷ run_due r.net until limit r.waiting.events
-trace_is r until limit start =
-    trace_in_order r.net until limit ∙ ap (λ (m : Meaning). Start ∷ run_due r.net until limit m.events) (sym start)
+pub loop-reaction-init : goal.loop-reaction-init
+loop-reaction-init g c = start_on_way c.args.ins.now c.args.until c.args.limit c.args.self.now _ _ c.requires.start
 
-ended_is : (r : Running) (until limit : ℕ) → IsAtStart r → how_ended (trace r.net until limit) ≡ how_ended (run_due r.net until limit r.waiting.events)
-ended_is r until limit start = ap how_ended (trace_is r until limit start) ∙ how_ended-run (Start ∷ []) r.net until limit r.waiting.events
+pub unreachable-requires : goal.unreachable-requires
+unreachable-requires g c = no_more c.args.ins.now c.args.until c.args.limit c.args.self.now c.loop-reaction.self _ _ _ c.loop-reaction._reaction c.loop-reaction.invariant (omega (arith, c.loop-reaction-test.false, c.loop-reaction.auto._reaction-end))
 
-pub returns-in_err-write_obs-clause-written : goal.returns-in_err-write_obs-clause-written
-returns-in_err-write_obs-clause-written g c =
-    subst (λ (os : List Obs). Writes (g.S.Sink.state c.args.out.now) (g.S.Sink.state c.write_obs.new.out) (text os) c.from_residual.result) (sym (trace_is c.args.self.now c.args.until c.args.limit c.requires.start))
-    (stopped (line Start) (text (run_due c.args.self.now.net c.args.until c.args.limit c.args.self.now.waiting.events)) c.write_obs.result c.from_residual.result _ _ c.in_err-write_obs.was (search rules) c.write_obs.ensures)
+pub step-requires-clause-columns : goal.step-requires-clause-columns
+step-requires-clause-columns g c = subst (λ (x : Fixed). AreColumns x.net c.args.ins.now) (sym c.loop-reaction.invariant.fixed) c.requires.columns
 
-pub returns-clause-written : goal.returns-clause-written
-returns-clause-written g c =
-    subst (λ (os : List Obs). Writes (g.S.Sink.state c.args.out.now) (g.S.Sink.state c.turns.new.out) (text os) c.turns.result) (sym (trace_is c.args.self.now c.args.until c.args.limit c.requires.start))
-    (then_writes (line Start) (text (run_due c.args.self.now.net c.args.until c.args.limit c.args.self.now.waiting.events)) c.write_obs.result c.turns.result _ c.in_ok-write_obs.was c.write_obs.ensures c.turns.ensures.written)
+pub returns-in_err-end-clause-written : goal.returns-in_err-end-clause-written
+returns-in_err-end-clause-written g c os run =
+    let w = c.loop-reaction.invariant in
+    let s = c.step.ensures.written w.seen w.before in
+    let err = err_from_is_err_and c.from_residual.result c.from_residual.ensures.1 in
+    trace_cut c.args.ins.now c.args.until c.args.limit c.args.self.now c.loop-reaction.self _ _ _ c.loop-reaction._reaction c.loop-reaction.invariant c.step.result c.from_residual.result _ err.0 _ s.0 os c.in_err-end.was err.1 s.3 run s.1
 
-pub returns-clause-ended : goal.returns-clause-ended
-returns-clause-ended g c =
-    if_ok (λ (e : RunEnd). how_ended (run_due c.args.self.now.net c.args.until c.args.limit c.args.self.now.waiting.events) ≡ Some e) (λ (e : RunEnd). how_ended (trace c.args.self.now.net c.args.until c.args.limit) ≡ Some e)
-    c.turns.result (λ e h. ended_is c.args.self.now c.args.until c.args.limit c.requires.start ∙ h) c.turns.ensures.ended
+pub returns-in-Over-clause-written : goal.returns-in-Over-clause-written
+returns-in-Over-clause-written g c os run =
+    let w = c.loop-reaction.invariant in
+    let s = c.in_ok-end.ensures.written w.seen w.before in
+    let f = finished_by c.args.ins.now c.args.until c.args.limit c.step.new.self _ w.seen s.0 _ c.in-Over.end c.in-Over.is s.2 in
+    let trace = over_is c.args.ins.now c.args.until c.args.limit c.args.self.now c.loop-reaction.self _ _ _ c.loop-reaction._reaction c.loop-reaction.invariant c.step.new.self _ s.0 c.in-Over.end c.step.ensures.net f in
+    trace_written c.args.ins.now c.args.until c.args.limit c.args.self.now c.loop-reaction.self _ _ _ c.loop-reaction._reaction c.loop-reaction.invariant _ _ _ s.0 os c.step.ensures.frame trace run s.1
 
-pub returns-clause-stops : goal.returns-clause-stops
-returns-clause-stops g c =
-    if_ok (λ (e : RunEnd). how_ended (run_due c.args.self.now.net c.args.until c.args.limit c.args.self.now.waiting.events) ≡ Some e) (λ (e : RunEnd). stops (trace c.args.self.now.net c.args.until c.args.limit) ≡ is_stopped e)
-    c.turns.result (λ e h. stops_by (trace c.args.self.now.net c.args.until c.args.limit) e (ended_is c.args.self.now c.args.until c.args.limit c.requires.start ∙ h)) c.turns.ensures.ended
+pub returns-in-Over-clause-finished : goal.returns-in-Over-clause-finished
+returns-in-Over-clause-finished g c =
+    let w = c.loop-reaction.invariant in
+    let s = c.in_ok-end.ensures.written w.seen w.before in
+    let f = finished_by c.args.ins.now c.args.until c.args.limit c.step.new.self _ w.seen s.0 _ c.in-Over.end c.in-Over.is s.2 in
+    (w.seen ++ s.0, over_is c.args.ins.now c.args.until c.args.limit c.args.self.now c.loop-reaction.self _ _ _ c.loop-reaction._reaction c.loop-reaction.invariant c.step.new.self _ s.0 c.in-Over.end c.step.ensures.net f, f)
+
+pub loop-reaction-preserved : goal.loop-reaction-preserved
+loop-reaction-preserved g c =
+    let w = c.loop-reaction.invariant in
+    let s = c.in_ok-end.ensures.written w.seen w.before in
+    goes_further c.args.ins.now c.args.until c.args.limit c.args.self.now c.loop-reaction.self _ _ _ c.loop-reaction._reaction c.loop-reaction.invariant _ c.step.new.self _ _ s.0 s.1 _ (not_over _ c.in_default.not-Over) s.2 c.step.ensures.net c.step.ensures.offset c.step.ensures.started c.step.ensures.fired
+
+pub returns-in_err-end-clause-offset : goal.returns-in_err-end-clause-offset
+returns-in_err-end-clause-offset g c = c.step.ensures.offset ∙ c.loop-reaction.invariant.offset
+
+pub returns-in-Over-clause-offset : goal.returns-in-Over-clause-offset
+returns-in-Over-clause-offset g c = c.step.ensures.offset ∙ c.loop-reaction.invariant.offset

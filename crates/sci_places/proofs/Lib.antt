@@ -1,0 +1,6 @@
+pub mod Lists
+pub mod Outputs
+pub mod Inputs
+pub mod Copying
+pub mod Placed
+pub mod Laid

@@ -1,0 +1,74 @@
+// The places of a net's values.
+ghost use Rattle.std.specs.Prelude.{◌≡◌, ◌≤◌, take, length, IfOk};
+
+use crate::Span;
+use crate::laying::{BlockPlace, block_place, spans_length, starts};
+use crate::span::copy_spans;
+use sci_base::NoMemory;
+use sci_net::Net;
+use std::alloc::Global;
+use std::marker::Model;
+
+/// Where the values of a net lie in one list of the values of all outputs, by block, port and element. Blocks are counted from 1.
+#[derive(Drop)]
+pub struct Places {
+    blocks: Vec<BlockPlace>,
+    longest: usize,
+}
+
+impl Model for Places {
+    ghost use Rattle.std.specs.Prelude.{map};
+    ghost use Rattle.sci_places.specs.Layout.{Layout, place_of};
+
+    ghost Value = { Layout };
+
+    ghost view = { λ p. record { blocks = map place_of p.blocks.items; longest = p.longest } };
+}
+
+impl Places {
+    ghost use Rattle.sci_places.specs.Layout.{IsLayout, place_at, gathered, spans_length, AreWithin};
+
+    /// The places of a net's values.
+    pub fn new(alloc: Global, net: &Net) -> Result<Places, NoMemory>
+        ensures { IfOk result (λ p. IsLayout net.now p) }
+    {
+        net.well_formed();
+        let starts = starts(alloc, net)?;
+        let mut blocks = Vec::with_capacity(alloc, net.len() as usize)?;
+        let mut longest = 1;
+        for block in 0..net.len() {
+            let place = block_place(alloc, net, &starts, block + 1)?;
+            longest = longest.max(spans_length(&place.ins));
+            blocks.push(place)?;
+        }
+        Ok(Places { blocks, longest })
+    }
+
+    /// How many values go into a block at most, and at least 1.
+    pub fn longest(&self) -> usize
+        ensures { result ≡ self.now.longest }
+    {
+        self.longest
+    }
+
+    /// Where the outputs of a block lie.
+    pub fn outs(&self, block: u32) -> Span
+        requires least { 1 ≤ block }
+        requires most { block ≤ length self.now.blocks }
+        ensures { result ≡ (place_at self.now block).outs }
+    {
+        self.blocks[block as usize - 1].outs
+    }
+
+    /// Copies the values on all inputs of a block, one behind the other. The answer is how many they are.
+    pub fn gather(&self, block: u32, values: &[i64], ins: &mut [i64]) -> usize
+        requires least { 1 ≤ block }
+        requires most { block ≤ length self.now.blocks }
+        requires within { AreWithin values.now (place_at self.now block).ins }
+        requires room { spans_length (place_at self.now block).ins ≤ length ins.old }
+        ensures count { result ≡ spans_length (place_at self.now block).ins }
+        ensures copied { take result ins.new ≡ gathered values.now (place_at self.now block).ins }
+    {
+        copy_spans(values, &self.blocks[block as usize - 1].ins, ins)
+    }
+}

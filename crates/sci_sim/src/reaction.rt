@@ -1,0 +1,137 @@
+// One reaction of a net.
+ghost use Rattle.std.specs.Prelude.{◌≡◌, ℕ, ◌+◌, ◌<◌, ◌≤◌, ◌^◌, true, length, Contains, IfOk, IsSome, OnOk};
+ghost use Rattle.sci_io.specs.Taken.{Writes};
+ghost use Rattle.sci_trace.specs.Lines.{text};
+ghost use Rattle.sci_net.specs.declared.Source.{Source};
+ghost use Rattle.sci_net.specs.Sources.{sources_of, source_of};
+ghost use Rattle.sci_reaction.specs.Memory.{Memory, IsMemory, AreColumns, next_value};
+ghost use Rattle.sci_reaction.specs.Equations.{Signals, AreInRange};
+ghost use Rattle.sci_pending.specs.Pending.{Pending};
+ghost use Rattle.sci_run.specs.Activity.{Activity, IsActivity};
+ghost use Rattle.sci_run.specs.Programs.{next_pending};
+ghost use Rattle.sci_run.specs.Observed.{header, blocks_seen};
+ghost use Rattle.sci_run.specs.Run.{State, ReactionOutcome, IsOutcome};
+ghost use Rattle.sci_sim.specs.Rows.{row_of};
+ghost use Rattle.sci_sim.specs.Frame.{row_in, AreSeated};
+ghost use Rattle.sci_sim.specs.Store.{IsStore, AreIdle, ShowsValues, cursor_at, state_of};
+ghost use Rattle.sci_sim.specs.Passed.{ShowsBefore, IsStepped, AreAlikeCounts};
+ghost use Rattle.sci_sim.specs.Marks.{mark_at, idle};
+ghost use Rattle.sci_places.specs.Flat.{values_at};
+ghost use Rattle.sci_net.specs.Parts.{IsBlock, spec_of, is_sensor};
+ghost use Rattle.sci_kinds.specs.Asks.{IsMask, IsState};
+ghost use Rattle.sci_sim.specs.Written.{AreAmong, tallied};
+ghost use Rattle.sci_sim.specs.Programming.{Keeps};
+ghost use Rattle.sci_sim.specs.Reacting.{ShowsFiring, IsReacted, seen_in};
+
+use crate::frame::{Frame, Row};
+use crate::store::Store;
+use sci_agenda::agenda::Agenda;
+use sci_bank::library::{Banks, Library};
+use sci_base::{Obs, StopWord};
+use sci_io::{Failed, Sink};
+use sci_net::{Net, Source};
+use sci_trace::inputs::Inputs;
+
+/// A source that fires.
+#[derive(Clone, Copy, Debug, Drop, PartialEq, Eq)]
+pub struct Firing {
+    /// Its place among the net's sources.
+    pub source: u32,
+    /// The date, in ticks.
+    pub date: u64,
+    /// How much less the dates of the agenda are.
+    pub offset: u64,
+}
+
+/// What is observed of a source that fires.
+fn header(net: &Net, firing: Firing) -> Obs
+    requires source { firing.source < length (sources_of net.now) }
+    requires date { firing.date < 2 ^ 63 }
+    ensures { result ≡ header firing.date (source_of net.now firing.source) }
+{
+    match net.source(firing.source) {
+        Source::Start => Obs::Start,
+        Source::Port(q) => Obs::Event(firing.date as i64, i64::from(q.block), i64::from(q.port)),
+    }
+}
+
+/// A reaction whose values are known: they are written, then the active blocks program their events and step their states.
+fn finish<A: Agenda, S: Sink>(
+    frame: &Frame,
+    store: &mut Store,
+    agenda: &mut A,
+    lib: &mut Library,
+    inputs: &Inputs,
+    row: &Row,
+    date: u64,
+    out: &mut S,
+) -> Result<(), Failed>
+    requires store { IsStore frame.now store.old }
+    requires seated { AreSeated frame.now (⟦<Library as Banks>⟧.banks lib.old) }
+    requires row { (k : ℕ) × (k < length frame.now.rows) × (row_of row.now ≡ row_in frame.now k) }
+    requires values { AreInRange frame.now.net (values_at frame.now.net store.old.values) }
+    requires masks { (b : ℕ) → IsBlock frame.now.net b → (mark_at store.old.marks b).active ≡ true → IsMask (spec_of frame.now.net b) (mark_at store.old.marks b).mask }
+    requires sensed { (b : ℕ) → IsBlock frame.now.net b → (mark_at store.old.marks b).active ≡ true → is_sensor (spec_of frame.now.net b).kind ≡ true → IsSome (next_value inputs.now (spec_of frame.now.net b) (cursor_at store.old b)) }
+    requires states { (b : ℕ) → IsBlock frame.now.net b → IsState (spec_of frame.now.net b) (state_of frame.now (⟦<Library as Banks>⟧.banks lib.old) b) }
+    requires date { date < 2 ^ 63 }
+    requires keeps { (offset : ℕ) × (p : Pending) × Keeps frame.now.net offset (date + offset) (A.meaning agenda.old) (A.puts agenda.old) p }
+    ensures written { (s : Source) (y : Signals) (active : Activity) → ShowsValues frame.now s store.old y active → AreAmong frame.now.net active row.now.blocks.items → Writes (S.state out.old) (S.state out.new) (text (blocks_seen 1 frame.now.net.specs y active)) result }
+    ensures counted { OnOk result ((s : Source) (y : Signals) (active : Activity) → ShowsValues frame.now s store.old y active → AreAmong frame.now.net active row.now.blocks.items → (store.new.lines ≡ (tallied store.old (blocks_seen 1 frame.now.net.specs y active)).lines) × (store.new.sum ≡ (tallied store.old (blocks_seen 1 frame.now.net.specs y active)).sum)) }
+    ensures programmed { OnOk result ((s : Source) (y : Signals) (active : Activity) (offset : ℕ) (p : Pending) → ShowsValues frame.now s store.old y active → AreAmong frame.now.net active row.now.blocks.items → Keeps frame.now.net offset (date + offset) (A.meaning agenda.old) (A.puts agenda.old) p → Keeps frame.now.net offset (date + offset) (A.meaning agenda.new) (A.puts agenda.new) (next_pending frame.now.net (date + offset) y active p)) }
+    ensures stepped { OnOk result ((s : Source) (m : Memory) (y : Signals) (active : Activity) → IsActivity frame.now.net s y active → ShowsValues frame.now s store.old y active → AreAmong frame.now.net active row.now.blocks.items → ShowsBefore frame.now store.old (⟦<Library as Banks>⟧.banks lib.old) m → IsMemory frame.now.net m → IsStepped frame.now s m y store.new (⟦<Library as Banks>⟧.banks lib.new)) }
+    ensures marks { (store.new.values ≡ store.old.values) × (store.new.marks ≡ store.old.marks) }
+    ensures store { IsStore frame.now store.new }
+    ensures seated { AreSeated frame.now (⟦<Library as Banks>⟧.banks lib.new) }
+    ensures counts { AreAlikeCounts (⟦<Library as Banks>⟧.banks lib.old) (⟦<Library as Banks>⟧.banks lib.new) }
+{
+    store.write_values(frame, row, out)?;
+    store.program_all(frame, row, lib, date, agenda);
+    store.update_all(frame, row, lib, inputs);
+    Ok(())
+}
+
+/// The source reacts: what is observed of it is written. The word of a stop, if there was one; no value is written then.
+pub fn react<A: Agenda, S: Sink>(
+    frame: &Frame,
+    store: &mut Store,
+    agenda: &mut A,
+    lib: &mut Library,
+    inputs: &Inputs,
+    firing: Firing,
+    out: &mut S,
+) -> Result<Option<StopWord>, Failed>
+    requires source { firing.source < length frame.now.rows }
+    requires date { firing.date ≤ 2 ^ 62 }
+    requires offset { firing.offset ≤ firing.date }
+    requires store { IsStore frame.now store.old }
+    requires idle { AreIdle frame.now store.old }
+    requires columns { AreColumns frame.now.net inputs.now }
+    requires shown { (st : State) × ShowsFiring frame.now store.old (⟦<Library as Banks>⟧.banks lib.old) (A.meaning agenda.old) (A.puts agenda.old) firing.offset firing.date st }
+    ensures reacted { (st : State) → ShowsFiring frame.now store.old (⟦<Library as Banks>⟧.banks lib.old) (A.meaning agenda.old) (A.puts agenda.old) firing.offset firing.date st → (o : ReactionOutcome) × IsOutcome frame.now.net inputs.now firing.date (source_of frame.now.net firing.source) st o × Writes (S.state out.old) (S.state out.new) (text (seen_in o)) result × IfOk result (λ stop. IsReacted frame.now firing.source store.old store.new (⟦<Library as Banks>⟧.banks lib.old) (⟦<Library as Banks>⟧.banks lib.new) (A.meaning agenda.new) (A.puts agenda.new) firing.offset o stop) }
+    ensures seated { AreSeated frame.now (⟦<Library as Banks>⟧.banks lib.new) }
+    ensures marked { (b : ℕ) → IsBlock frame.now.net b → (Contains (row_in frame.now firing.source).blocks b → ⊥) → mark_at store.new.marks b ≡ idle }
+    ensures store { IsStore frame.now store.new }
+{
+    let row = &frame.rows[firing.source as usize];
+    let stop = store.pass(frame, lib, inputs, row);
+    store.observe(&header(&frame.net, firing), out)?;
+    match stop {
+        Some((block, word)) => {
+            store.observe(&Obs::Stop(word, i64::from(block), 0), out)?;
+            Ok(Some(word))
+        }
+        None => {
+            finish(
+                frame,
+                store,
+                agenda,
+                lib,
+                inputs,
+                row,
+                firing.date - firing.offset,
+                out,
+            )?;
+            Ok(None)
+        }
+    }
+}
