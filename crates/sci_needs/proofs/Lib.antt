@@ -1,1 +1,2 @@
 pub mod Sensors
+pub mod Columns

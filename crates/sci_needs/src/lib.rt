@@ -3,7 +3,7 @@
 
 ghost use Rattle.std.specs.Prelude.{◌≡◌, map, IfOk};
 ghost use Rattle.sci_trace.specs.Columns.{needed_of};
-ghost use Rattle.sci_needs.specs.Needs.{needs_of, AreOfSensors};
+ghost use Rattle.sci_needs.specs.Needs.{needs_of, AreOfSensors, ColumnsInRange};
 
 use sci_base::NoMemory;
 use sci_net::{Net, columns};
@@ -27,3 +27,8 @@ pub fn needs_of_net(alloc: Global, net: &Net) -> Result<Vec<Need>, NoMemory>
     }
     Ok(needs)
 }
+
+/// An input file that has what a net needs of it gives each sensor a column in range.
+pub fn columns_in_range()
+    ensures { ColumnsInRange }
+{}

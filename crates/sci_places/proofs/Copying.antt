@@ -1,7 +1,7 @@
 -- Spans copied one behind the other.
-use Rattle.std.proofs.Common.{◌≡◌, ℕ, ◌+◌, ◌<◌, ◌≤◌, List, [], ◌∷◌, ◌++◌, length, take, drop, get_or, set, ℤ, ap, sym, ◌∙◌, arith, append_assoc}
-use Rattle.std.proofs.Math.Seq.{paste}
-use Rattle.std.proofs.lemmas.List.{append-nil, take_more, take_at, length-take-le, length-append, length-drop, get_or-drop}
+use Rattle.std.proofs.Common.{◌≡◌, ℕ, ◌+◌, ◌<◌, ◌≤◌, List, [], ◌∷◌, ◌++◌, length, take, drop, get_or, set, ℤ, ap, sym, ◌∙◌, add-one, arith, append_assoc}
+use Rattle.std.proofs.Math.Seq.{paste, drop-cons}
+use Rattle.std.proofs.lemmas.List.{append-nil, take_more, take_at, length-take-le, length-append, length-drop, get_or-drop, set_split}
 use Rattle.std.proofs.lemmas.List.Edits.{paste_more}
 use Rattle.sci_places.specs.declared.span.Span.{Span}
 use Rattle.sci_places.specs.Layout.{gathered, read_at, span_end}
@@ -14,6 +14,11 @@ paste_next values ins start at e d to from =
     let long = length-drop start values in
     ap (set (paste ins at (drop start values) e) (at + e)) (sym (get_or-drop start values e d))
     ∙ paste_more ins at (drop start values) e d to (omega (arith, long, from))
+
+-- the only value of a span
+pub paste_one : (values ins : List ℤ) (start at len : ℕ) (d : ℤ) → len ≡ 1 → at < length ins → start < length values
+    → set ins at (get_or values start d) ≡ take at ins ++ (take len (drop start values) ++ drop (at + len) ins)
+paste_one values ins start at len d one to from = rw (one, drop-cons values start d from, add-one at) (set_split ins at (get_or values start d) to)
 
 gathered_push : (values : List ℤ) (ss : List Span) (s : Span) → gathered values (ss ++ (s ∷ [])) ≡ gathered values ss ++ read_at values s
 gathered_push values [] s = append-nil (read_at values s)

@@ -17,6 +17,11 @@ fn copy_span(values: &[i64], span: Span, ins: &mut [i64], at: usize)
     requires to { at + span.len ≤ length ins.old }
     ensures { ins.new ≡ take at ins.old ++ (read_at values.now span ++ drop (at + span.len) ins.old) }
 {
+    // most outputs have one element
+    if span.len == 1 {
+        ins[at] = values[span.start];
+        return;
+    }
     for e in 0..span.len {
         ins[at + e] = values[span.start + e];
     }

@@ -46,8 +46,10 @@ module _ (r v : Running) (t : Standing) (is : v ≡ r) (cleared : t ≡ record v
       subst (λ (x : Running). IsReacted x.fixed source x.store new banks later waiting puts x.offset o stop) is (record {
         stops = h.stops;
         leads = h.leads;
-        lines = h.lines ∙ ap (λ (x : Standing). lines_after x.lines (length (seen_in o))) cleared;
-        sum = h.sum ∙ ap (λ (x : Standing). sum_of x.sum (seen_in o)) cleared;
+        tallied = record {
+          lines = h.tallied.lines ∙ ap (λ (x : Standing). lines_after x.lines (length (seen_in o))) cleared;
+          sum = h.tallied.sum ∙ ap (λ (x : Standing). sum_of x.sum (seen_in o)) cleared;
+        };
       })
 
 -- whether a HALT_f was active, as the view tells it

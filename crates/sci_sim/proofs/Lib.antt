@@ -16,3 +16,4 @@ pub mod Passing
 pub mod Fired
 pub mod Cleared
 pub mod Runs
+pub mod Again

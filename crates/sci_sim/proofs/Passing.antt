@@ -20,7 +20,7 @@ use Rattle.sci_net.specs.Parts.{Parts, IsBlock, spec_of, wire_of, numbered, no_s
 use Rattle.sci_net.specs.Net.{IsNet}
 use Rattle.sci_net.specs.Sources.{source_of}
 use Rattle.sci_net.specs.declared.Source.{Source}
-use Rattle.sci_reaction.specs.Active.{IsSync}
+use Rattle.sci_reaction.specs.Active.{IsSync, Possible}
 use Rattle.sci_reaction.specs.Depends.{IsLoopFree}
 use Rattle.sci_reaction.specs.Memory.{Memory, Columns, IsMemory, AreColumns, next_value}
 use Rattle.sci_reaction.specs.Equations.{Signals, AreInRange, input_in, output_among, branch_on, answer_of, answer, IsMaskOf}
@@ -133,16 +133,22 @@ none_active counts b (s ∷ ss) = let rest = none_active counts (b + 1) ss in by
 abbrev one_if : Activity → ℕ → ℕ
 one_if active c = cond (active c) 1 0
 
-few_active : (counts : Spec → Bool) (b : ℕ) (ss : List Spec) (active : Activity)
-    → activations_from counts b ss (one_if active) ≤ activations_from counts b ss (λ c. 1)
-few_active counts b [] active = omega arith
-few_active counts b (s ∷ ss) active = by_test (counts s) (active b) (few_active counts (b + 1) ss active)
+-- no more blocks are active than may be
+few_active : (counts : Spec → Bool) (b : ℕ) (ss : List Spec) (active possible : Activity) → ((j : ℕ) → j < length ss → active (b + j) ≡ true → possible (b + j) ≡ true)
+    → activations_from counts b ss (one_if active) ≤ activations_from counts b ss (one_if possible)
+few_active counts b [] active possible h = omega arith
+few_active counts b (s ∷ ss) active possible h =
+    let here : b + 0 ≡ b = omega arith in
+    by_test (counts s) (active b) (possible b) (λ on. ap possible (sym here) ∙ h 0 (omega arith) (ap active here ∙ on))
+    (activations_from counts (b + 1) ss (one_if active)) (activations_from counts (b + 1) ss (one_if possible))
+    (few_active counts (b + 1) ss active possible (λ j l on. let e : b + suc j ≡ b + 1 + j = omega arith in ap possible (sym e) ∙ h (suc j) (omega (arith, l)) (ap active e ∙ on)))
   where
-    by_test : (t u : Bool) → activations_from counts (b + 1) ss (one_if active) ≤ activations_from counts (b + 1) ss (λ c. 1)
-        → cond t (cond u 1 0) 0 + activations_from counts (b + 1) ss (one_if active) ≤ cond t 1 0 + activations_from counts (b + 1) ss (λ c. 1)
-    by_test true true h = omega (arith, h)
-    by_test true false h = omega (arith, h)
-    by_test false u h = omega (arith, h)
+    by_test : (t u v : Bool) → (u ≡ true → v ≡ true) → (x y : ℕ) → x ≤ y → cond t (cond u 1 0) 0 + x ≤ cond t (cond v 1 0) 0 + y
+    by_test true true true i x y h = omega (arith, h)
+    by_test true true false i x y h = absurd (true≢false (sym (i refl)))
+    by_test true false true i x y h = omega (arith, h)
+    by_test true false false i x y h = omega (arith, h)
+    by_test false u v i x y h = omega (arith, h)
 
 -- one more active block
 one_more : (counts : Spec → Bool) (b : ℕ) (ss : List Spec) (active : Activity) (c j : ℕ) → active c ≡ false → c ≡ b + j → j < length ss
@@ -209,12 +215,15 @@ module _ (f : Fixed) (frame : IsFrame f) (old banks : List Meaning) (seated : Ar
       by_test true before after e calls counts = omega (arith, e, calls, counts)
       by_test false before after e calls counts = omega (arith, e, calls, counts)
 
--- each block counts at most once
-pub counts_within : (f : Fixed) (old banks : List Meaning) (active : Activity) → ((k : Kind) → (bank_of old k).outs ≤ 18446744073709551615)
-    → AreCounted f.net active old banks → AreCountedWithin f.net old banks
-counts_within f old banks active small counts = record {
+-- each block that may be active counts at most once
+pub counts_within : (f : Fixed) (source : Source) (old banks : List Meaning) (active : Activity) → ((k : Kind) → (bank_of old k).outs ≤ 18446744073709551615)
+    → ((b : ℕ) → IsBlock f.net b → active b ≡ true → Possible f.net source b) → AreCounted f.net active old banks → AreCountedWithin f.net source old banks
+counts_within f source old banks active small may counts = record {
   least = λ k. omega (arith, counts k, small k);
-  most = λ k. let few = few_active (is_kind k) 1 f.net.specs active in omega (arith, counts k, few);
+  most = λ possible are k.
+      let few = few_active (is_kind k) 1 f.net.specs active possible
+      (λ j l on. let block : IsBlock f.net (1 + j) = record { least = omega arith; most = omega (arith, l) } in (are (1 + j) block).1 (may (1 + j) block on)) in
+      omega (arith, counts k, few);
 }
 
 -- ---- marks
@@ -413,15 +422,26 @@ module _ (f : Fixed) (frame : IsFrame f) (i : Columns) (columns : AreColumns f.n
       counts = (inv.found source m free is shows memory).counts;
     }
 
+    -- the source may activate the blocks that were, and this one
+    applied_possible : (c : ℕ) → IsBlock f.net c → w.applied c ≡ true → Possible f.net source c
+    applied_possible c block on =
+        (is.exactly c).0 (in_row c (applied_is_done f.net m i source (blocks_of pre) w c (inv.found source m free is shows memory).front on))
+
+    this_possible : (c : ℕ) → IsBlock f.net c → put w.applied e.block true c ≡ true → Possible f.net source c
+    this_possible c block on = elim (cases_eq c e.block) [
+      | inl same ↦ subst (Possible f.net source) (sym same) ((is.exactly e.block).0 (block_in row e there))
+      | inr other ↦ applied_possible c block (sym (put_other w.applied e.block true c other) ∙ on)
+    ]
+
     -- it stops the reaction
     stops_here : (word : StopWord) (u : Standing) (after : List Meaning) → ((l : Kind) → (bank_of old l).outs ≤ 18446744073709551615) → applies t.marks e ≡ true
         → given f i banks t e.block mask ≡ Err word → IsStopped f banks after t u e.block → IsPassed f i source m s u old after (Some (e.block, word))
     stops_here word u after small on gives stopped = (
       next.stops word (sym applies_same ∙ on) (sym given_here ∙ gives),
       ⊎_elim
-          (λ same. counts_within f old after w.applied small
+          (λ same. counts_within f source old after w.applied small applied_possible
           (subst (AreCounted f.net w.applied old) (sym same) (inv.found source m free is shows memory).counts))
-          (λ call. counts_within f old after (put w.applied e.block true) small
+          (λ call. counts_within f source old after (put w.applied e.block true) small this_possible
           (subst (AreCounted f.net (put w.applied e.block true) old) (sym call)
           (counts_go_on f frame old banks inv.seated w.applied e.block block_here off_before (inv.found source m free is shows memory).counts)))
           stopped.calls,

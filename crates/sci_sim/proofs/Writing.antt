@@ -29,6 +29,13 @@ use Rattle.sci_sim.specs.Frame.{Fixed, IsFrame, row_in}
 use Rattle.sci_sim.specs.Store.{Standing, ShowsValues}
 use Rattle.sci_sim.specs.Written.{AreAmong, sum_of, tallied}
 
+-- the only output has all elements
+pub only_output : (outs : List Port) (k all : ℕ) → length outs ≡ 1 → k < length outs → all ≡ total outs → all ≡ elements (port_at outs k)
+only_output [] k all one h is = absurd (omega arith)
+only_output (p ∷ []) zero all one h is = omega arith
+only_output (p ∷ []) (suc k) all one h is = absurd (omega arith)
+only_output (p ∷ q ∷ ps) k all one h is = absurd (omega arith)
+
 -- ---- a list of observations behind another
 
 pub text-append : (a b : List Obs) → text (a ++ b) ≡ text a ++ text b

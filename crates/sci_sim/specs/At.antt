@@ -19,7 +19,8 @@ use Rattle.sci_sim.specs.Written.{sum_of}
 use Rattle.sci_sim.specs.Tally.{lines_after}
 
 -- a net that is ready to run, or whose run is under way: what stays and what changes, the wheel and how much less its dates are, the date
--- of the last reaction, how many events have fired, the source of the last reaction, and whether the run has begun and a HALT_f was active
+-- of the last reaction, how many events have fired, the source of the last reaction, whether the run has begun, and whether a HALT_f was
+-- active in the last reaction
 pub record Running : Type 0 where
   pub fixed : Fixed
   pub store : Standing
@@ -66,6 +67,11 @@ pub record IsAtStart (n : Parts) (r : Running) (banks : List Meaning) : Type 0 w
   pub row : r.row ≡ 0
   pub lines : r.store.lines ≡ 0
   pub sum : r.store.sum ≡ 0
+
+-- what is observed more is counted
+pub record AreTallied (old new : Standing) (more : List Obs) : Type 0 where
+  pub lines : new.lines ≡ lines_after old.lines (length more)
+  pub sum : new.sum ≡ sum_of old.sum more
 
 -- what was counted is what was observed
 pub record IsTallied (s : Standing) (seen : List Obs) : Type 0 where

@@ -11,3 +11,4 @@ pub mod Programming
 pub mod At
 pub mod Reacting
 pub mod Steps
+pub mod Laws

@@ -84,7 +84,7 @@ pub record IsValued (f : Fixed) (i : Columns) (source : Source) (m : Memory) (s 
 -- the reaction has values, or it stops at a block with a word
 abbrev pub IsPassed : Fixed → Columns → Source → Memory → Standing → Standing → List Meaning → List Meaning → Option (ℕ × StopWord) → Type 0
 IsPassed f i source m s t banks after None = IsValued f i source m s t banks after
-IsPassed f i source m s t banks after (Some stop) = IsResult f.net m i source (Stopped stop.0 stop.1) × AreCountedWithin f.net banks after
+IsPassed f i source m s t banks after (Some stop) = IsResult f.net m i source (Stopped stop.0 stop.1) × AreCountedWithin f.net source banks after
 
 -- ---- behind the values
 

@@ -1,32 +1,43 @@
 -- A reaction of the run: the source that fires, and what its reaction comes to.
-use Rattle.std.specs.Prelude.{◌≡◌, ℕ, ◌-◌, pos, List, [], ◌∷◌, length, Option, Some, None}
+use Rattle.std.specs.Prelude.{◌≡◌, ℕ, ◌-◌, ◌≤◌, ◌⊎◌, pos, Bool, true, false, List, [], ◌∷◌, Option, Some, None}
 use Rattle.sci_base.specs.declared.observation.Obs.{Obs}
 use Rattle.sci_base.specs.declared.observation.Obs.TheVariants.{Stop}
 use Rattle.sci_base.specs.declared.observation.StopWord.{StopWord}
 use Rattle.sci_net.specs.Parts.{Parts}
 use Rattle.sci_net.specs.Sources.{source_of}
-use Rattle.sci_reaction.specs.Memory.{Columns}
 use Rattle.sci_reaction.specs.Equations.{Signals}
 use Rattle.sci_pending.specs.Pending.{Event}
-use Rattle.sci_run.specs.Run.{State, first_state, taken, ReactionOutcome, Leads, StopsWith, Fires, comes_next, Reachable}
+use Rattle.sci_run.specs.Run.{State, first_state, taken, ReactionOutcome, Leads, StopsWith, Fires, comes_next}
 use Rattle.sci_agenda.specs.Firing.{Meaning as Waiting}
 use Rattle.sci_bank.specs.Bank.{Meaning}
 use Rattle.sci_sim.specs.Frame.{Fixed, row_in}
 use Rattle.sci_sim.specs.Store.{Standing, ShowsValues, AreCountedWithin}
-use Rattle.sci_sim.specs.Written.{AreAmong, sum_of}
-use Rattle.sci_sim.specs.Tally.{lines_after}
-use Rattle.sci_sim.specs.At.{Shows}
+use Rattle.sci_sim.specs.Written.{AreAmong}
+use Rattle.sci_sim.specs.At.{Running, Shows, IsAt, AreTallied}
 
--- the source at this place fires at this date from this state, where this has been observed before: start before the run, or the event that
--- comes next, which is taken from the pending ones
-pub data IsFiring (n : Parts) (i : Columns) (until limit : ℕ) : (seen : List Obs) → (date source : ℕ) → State → Type 0 where
-  start : IsFiring n i until limit [] 0 0 (first_state n)
-  event : (st : State) (e : Event) (seen : List Obs) → Reachable n i until limit st seen → comes_next n until (limit - st.fired) st ≡ Fires e
-      → IsFiring n i until limit seen e.date e.source (taken st e)
+-- ---- the source that fires
+
+-- Where a run stands at a state, and has begun or not, the source at this place fires next, at this date and from this state: start before
+-- the run, or the event that comes next, which is taken from the pending ones.
+pub data FiresNext (n : Parts) (until limit : ℕ) : (started : Bool) → State → (date source : ℕ) → (from : State) → Type 0 where
+  start : FiresNext n until limit false (first_state n) 0 0 (first_state n)
+  event : (st : State) (e : Event) → comes_next n until (limit - st.fired) st ≡ Fires e → FiresNext n until limit true st e.date e.source (taken st e)
+
+-- a step may be done: the net stands at a state in which a source fires next
+abbrev pub MayStep : (until limit : ℕ) → Running → List Meaning → Type 0
+MayStep until limit r banks = (st from : State) × (date source : ℕ) × IsAt r banks st × FiresNext r.fixed.net until limit r.started st date source from
 
 -- the state from which a source fires at this date, but for its own date, which is that of the reaction before
 abbrev pub ShowsFiring : Fixed → Standing → List Meaning → Waiting → (puts offset date : ℕ) → State → Type 0
 ShowsFiring f s banks waiting puts offset date st = Shows f s banks waiting puts offset (record st { now = date })
+
+-- the net fires this source at this date from this state, where it stood at another before
+pub record HasSetOut (until : ℕ) (old new : Running) (banks : List Meaning) (date source : ℕ) (from : State) (fires : ℕ) : Type 0 where
+  pub source_is : fires ≡ source
+  pub now : new.now ≡ date
+  pub fired : new.fired ≡ from.fired
+  pub shown : ShowsFiring old.fixed old.store banks new.wheel.meaning new.wheel.puts old.offset date from
+  pub in_time : (date ≤ until) ⊎ (date ≡ 0)
 
 -- ---- what the reaction comes to
 
@@ -46,14 +57,15 @@ pub record AreMarksOf (f : Fixed) (source : ℕ) (s : Standing) (after : State) 
   pub shown : ShowsValues f (source_of f.net source) s y after.active
   pub among : AreAmong f.net after.active (row_in f source).blocks
 
--- a reaction with values leads to the state that is shown now; of one that stops, the banks have counted at most a call for each block
+-- a reaction with values leads to the state that is shown now; of one that stops, the banks have counted at most a call for each block that the
+-- source may activate
 abbrev pub LeadsTo : Fixed → (source : ℕ) → Standing → (old banks : List Meaning) → Waiting → (puts offset : ℕ) → ReactionOutcome → Type 0
 LeadsTo f source new old banks waiting puts offset (Leads seen after) = Shows f new banks waiting puts offset after × AreMarksOf f source new after
-LeadsTo f source new old banks waiting puts offset (StopsWith seen) = AreCountedWithin f.net old banks
+LeadsTo f source new old banks waiting puts offset (StopsWith seen) = AreCountedWithin f.net (source_of f.net source) old banks
 
 -- behind a reaction; what was observed is counted
-pub record IsReacted (f : Fixed) (source : ℕ) (old new : Standing) (before banks : List Meaning) (waiting : Waiting) (puts offset : ℕ) (o : ReactionOutcome) (stop : Option StopWord) : Type 0 where
+pub record IsReacted (f : Fixed) (source : ℕ) (old new : Standing) (before banks : List Meaning) (waiting : Waiting) (puts offset : ℕ) (o : ReactionOutcome)
+    (stop : Option StopWord) : Type 0 where
   pub stops : IsStopOf o stop
   pub leads : LeadsTo f source new before banks waiting puts offset o
-  pub lines : new.lines ≡ lines_after old.lines (length (seen_in o))
-  pub sum : new.sum ≡ sum_of old.sum (seen_in o)
+  pub tallied : AreTallied old new (seen_in o)

@@ -1,11 +1,11 @@
 -- What changes from one reaction to the next, and the memory that it stands for.
-use Rattle.std.specs.Prelude.{◌≡◌, ◌==◌, ℕ, ◌+◌, ◌≤◌, Bool, true, if◌then◌else◌, min, ℤ, List, length}
+use Rattle.std.specs.Prelude.{◌≡◌, ◌==◌, ℕ, ◌+◌, ◌≤◌, ◌↔◌, Bool, true, if◌then◌else◌, min, ℤ, List, length}
 use Rattle.sci_forms.specs.declared.Kind.{Kind}
 use Rattle.sci_forms.specs.declared.spec.Spec.{Spec}
 use Rattle.sci_forms.specs.Names.{number_of}
 use Rattle.sci_net.specs.declared.Source.{Source}
 use Rattle.sci_net.specs.Parts.{Parts, IsBlock, numbered, spec_of}
-use Rattle.sci_reaction.specs.Active.{IsSync}
+use Rattle.sci_reaction.specs.Active.{IsSync, Possible}
 use Rattle.sci_reaction.specs.Memory.{Memory}
 use Rattle.sci_reaction.specs.Equations.{Signals, input_in, branch_on, IsMaskOf}
 use Rattle.sci_reaction.specs.Pass.{Progress}
@@ -83,11 +83,12 @@ active_of n active k = activations_from (is_kind k) 1 n.specs (λ b. if active b
 abbrev pub AreCounted : Parts → Activity → List Meaning → List Meaning → Type 0
 AreCounted n active old new = (k : Kind) → (bank_of new k).outs ≡ min ((bank_of old k).outs + active_of n active k) 18446744073709551615
 
--- how many blocks are of a kind
-abbrev pub blocks_of_kind : Parts → Kind → ℕ
-blocks_of_kind n k = activations_from (is_kind k) 1 n.specs (λ b. 1)
+-- the source may activate these blocks and no other
+abbrev pub MayActivate : Parts → Source → Activity → Type 0
+MayActivate n s possible = (b : ℕ) → IsBlock n b → (possible b ≡ true) ↔ Possible n s b
 
--- no bank counts less, or more than a call for each block of its kind
-pub record AreCountedWithin (n : Parts) (old new : List Meaning) : Type 0 where
+-- no bank counts less, or more than a call for each block of its kind that the source may activate
+pub record AreCountedWithin (n : Parts) (s : Source) (old new : List Meaning) : Type 0 where
   pub least : (k : Kind) → (bank_of old k).outs ≤ (bank_of new k).outs
-  pub most : (k : Kind) → (bank_of new k).outs ≤ min ((bank_of old k).outs + blocks_of_kind n k) 18446744073709551615
+  pub most : (possible : Activity) → MayActivate n s possible → (k : Kind)
+      → (bank_of new k).outs ≤ min ((bank_of old k).outs + active_of n possible k) 18446744073709551615

@@ -5,6 +5,7 @@
 mod block;
 mod end;
 mod frame;
+mod laws;
 mod marks;
 mod programming;
 mod reaction;
@@ -15,4 +16,5 @@ mod store;
 mod tally;
 
 pub use end::{RunEnd, Step};
+pub use laws::a_step_may_be_done;
 pub use ready::Ready;

@@ -1,11 +1,12 @@
 // A net that is ready to run, and its run.
-ghost use Rattle.std.specs.Prelude.{◌≡◌, ℕ, ◌+◌, ◌-◌, ◌<◌, ◌≤◌, ◌^◌, ◌++◌, ◌⊎◌, List, length, true, false, Some, None, IfOk, if◌then◌else◌, AllPairs, Contains};
+ghost use Rattle.std.specs.Prelude.{◌≡◌, ℕ, ◌+◌, ◌-◌, ◌<◌, ◌≤◌, ◌^◌, ◌↔◌, List, length, true, Some, None, IfOk, if◌then◌else◌, AllPairs, Contains};
 ghost use Rattle.sci_base.specs.Lists.{at};
 ghost use Rattle.sci_base.specs.declared.observation.Obs.{Obs};
 ghost use Rattle.sci_io.specs.Taken.{Writes};
 ghost use Rattle.sci_trace.specs.Lines.{text};
 ghost use Rattle.sci_forms.specs.Ports.{total};
 ghost use Rattle.sci_net.specs.Parts.{IsBlock, spec_of};
+ghost use Rattle.sci_reaction.specs.Active.{Possible};
 ghost use Rattle.sci_reaction.specs.Memory.{Columns, AreColumns};
 ghost use Rattle.sci_sched.specs.Plain.{rows_of};
 ghost use Rattle.sci_sched.specs.Answer.{IsPlan};
@@ -62,12 +63,11 @@ impl Model for Ready {
 impl Ready {
     ghost use Rattle.sci_places.specs.Flat.{values_at};
     ghost use Rattle.sci_sim.specs.Marks.{mark_at};
-    ghost use Rattle.sci_sim.specs.Store.{AreIdle};
     ghost use Rattle.sci_sim.specs.Programming.{Keeps};
-    ghost use Rattle.sci_sim.specs.Frame.{row_in, AreSeated, IsFrame};
-    ghost use Rattle.sci_sim.specs.At.{Running, IsAt, IsAtStart, IsTallied};
-    ghost use Rattle.sci_sim.specs.Reacting.{IsFiring, ShowsFiring, IsReacted, AreMarksOf, seen_in};
-    ghost use Rattle.sci_sim.specs.Steps.{IsBeforeStep, IsStep, IsFinished, BeginsWith, end_due};
+    ghost use Rattle.sci_sim.specs.Frame.{row_in, AreSeated};
+    ghost use Rattle.sci_sim.specs.At.{Running, IsAt, IsAtStart, AreTallied};
+    ghost use Rattle.sci_sim.specs.Reacting.{FiresNext, MayStep, ShowsFiring, HasSetOut, IsReacted, AreMarksOf, seen_in};
+    ghost use Rattle.sci_sim.specs.Steps.{step_seen, IsStep, IsFinished, end_due};
 
     /// The net before its run, over the schedule of the net and a full library. It resets all banks and adds an instance for each block; it takes
     /// all memory of the run. Where memory is wanting, the banks may hold any instances.
@@ -146,11 +146,10 @@ impl Ready {
 
     // The source that reacts next: start, and then those of the events, which are taken from the wheel.
     fn next_source(&mut self) -> u32
-        requires before { (ins : Columns) × (until limit : ℕ) × (banks : List Meaning) × (seen : List Obs) × IsBeforeStep ins until limit self.old banks seen × (until ≤ 2 ^ 62) × (limit ≤ 1000000) }
-        ensures fires { (ins : Columns) (until limit : ℕ) (banks : List Meaning) (seen : List Obs) → IsBeforeStep ins until limit self.old banks seen → (st : State) × IsFiring self.old.fixed.net ins until limit seen self.new.now result st × ShowsFiring self.old.fixed self.old.store banks self.new.wheel.meaning self.new.wheel.puts self.old.offset self.new.now st × (self.new.fired ≡ st.fired) × (self.new.now ≤ until ⊎ (self.new.now ≡ 0)) × IsTallied self.old.store seen }
+        requires before { (until limit : ℕ) × (banks : List Meaning) × (st from : State) × (date source : ℕ) × IsAt self.old banks st × FiresNext self.old.fixed.net until limit self.old.started st date source from × (until ≤ 2 ^ 62) × (limit ≤ 1000000) }
+        ensures fires { (until limit : ℕ) (banks : List Meaning) (st from : State) (date source : ℕ) → IsAt self.old banks st → FiresNext self.old.fixed.net until limit self.old.started st date source from → HasSetOut until self.old self.new banks date source from result }
         ensures source { result < length self.old.fixed.rows }
         ensures fired { self.new.fired ≡ (if self.old.started then self.old.fired + 1 else self.old.fired) }
-        ensures frame { IsFrame self.old.fixed }
         ensures rest { self.new ≡ record self.old { wheel = self.new.wheel; now = self.new.now; fired = self.new.fired; started = true } }
     {
         if !self.started {
@@ -190,9 +189,10 @@ impl Ready {
     }
 
     /// Does the next reaction of the run, start first, and writes what is observed of it, and the end of the run where it ends there.
-    /// The state is one of a run that isn't over. `until` is a date in ticks, at most 2^62, `limit` at most 1,000,000 events, and each sensor's
-    /// column is in range. It takes no memory. It fails only where the sink does, which then took a front of the lines; a net whose step
-    /// failed or whose run is over is of no more use but for the calls that read it.
+    /// The net stands before start, or at a state in which an event fires next: within `until`, a date in ticks of at most 2^62, and where fewer than
+    /// `limit` events have fired, at most 1,000,000. Each sensor's column is in range. It takes no memory. It fails only where the sink does, which
+    /// then took a front of these lines; a net whose step failed or whose run is over is of no more use but for the calls that read it. Where
+    /// the run stops they tell the date, the source and the events that have fired of the reaction that stopped.
     pub fn step<S: Sink>(
         &mut self,
         lib: &mut Library,
@@ -204,11 +204,10 @@ impl Ready {
         requires until { until ≤ 2 ^ 62 }
         requires limit { limit ≤ 1000000 }
         requires columns { AreColumns self.old.fixed.net ins.now }
-        requires before { (seen : List Obs) × IsBeforeStep ins.now until limit self.old (⟦<Library as Banks>⟧.banks lib.old) seen }
-        ensures written { (before : List Obs) → IsBeforeStep ins.now until limit self.old (⟦<Library as Banks>⟧.banks lib.old) before → (seen : List Obs) × Writes (S.state out.old) (S.state out.new) (text seen) result × IfOk result (λ step. IsStep ins.now until limit self.new (⟦<Library as Banks>⟧.banks lib.new) before seen step) × BeginsWith self.old.fixed.net ins.now until limit (before ++ seen) }
+        requires before { MayStep until limit self.old (⟦<Library as Banks>⟧.banks lib.old) }
+        ensures reacted { (st from : State) (date source : ℕ) → IsAt self.old (⟦<Library as Banks>⟧.banks lib.old) st → FiresNext self.old.fixed.net until limit self.old.started st date source from → (o : ReactionOutcome) × IsOutcome self.old.fixed.net ins.now date (source_of self.old.fixed.net source) from o × Writes (S.state out.old) (S.state out.new) (text (step_seen self.old.fixed.net until limit o)) result × IfOk result (λ step. IsStep ins.now until limit date source from self.new (⟦<Library as Banks>⟧.banks lib.new) o step × AreTallied self.old.store self.new.store (step_seen self.old.fixed.net until limit o)) }
         ensures started { self.new.started ≡ true }
         ensures fired { self.new.fired ≡ (if self.old.started then self.old.fired + 1 else self.old.fired) }
-        ensures frame { IsFrame self.old.fixed }
         ensures offset { self.new.offset ≡ self.old.offset }
         ensures net { self.new.fixed ≡ self.old.fixed }
         ensures full { IsFull (⟦<Library as Banks>⟧.banks lib.new) }
@@ -249,6 +248,7 @@ impl Ready {
         ensures full { IsFull (⟦<Library as Banks>⟧.banks lib.new) }
         ensures in_order { AreInOrder (⟦<Library as Banks>⟧.banks lib.new) }
     {
+        self.frame.well_formed();
         for _reaction in 0..limit + 1 {
             if let Step::Over(end) = self.step(lib, ins, until, limit, out)? {
                 return Ok(end);
@@ -305,9 +305,11 @@ impl Ready {
     }
 
     /// The blocks that the source of the last reaction may activate, by number; before the first reaction those of start.
+    /// No block but these was active in it.
     pub fn possible(&self) -> &[u32]
         ensures value { result.now ≡ (row_in self.entry.now.fixed self.entry.now.row).blocks }
         ensures rising { AllPairs (λ b c. b < c) result.now }
+        ensures possible { (b : ℕ) → Contains result.now b ↔ Possible self.entry.now.fixed.net (source_of self.entry.now.fixed.net self.entry.now.row) b }
         ensures active { (banks : List Meaning) (st : State) → IsAt self.entry.now banks st → (b : ℕ) → IsBlock self.entry.now.fixed.net b → st.active b ≡ true → Contains result.now b }
     {
         self.frame.possible(self.row)

@@ -3,7 +3,7 @@ ghost use Rattle.std.specs.Prelude.{All, IfSome, IsSome, slice_set, ◌≡◌, �
 ghost use Rattle.sci_base.specs.Lists.{at, listed};
 ghost use Rattle.sci_io.specs.Taken.{Writes};
 ghost use Rattle.sci_trace.specs.Lines.{line, text};
-ghost use Rattle.sci_forms.specs.Ports.{total, elements, before};
+ghost use Rattle.sci_forms.specs.Ports.{total, elements, port_at, before};
 ghost use Rattle.sci_forms.specs.Forms.{is_sync, has_delay};
 ghost use Rattle.sci_kinds.specs.Asks.{IsMask, IsState};
 ghost use Rattle.sci_kinds.specs.Table.{held_of};
@@ -34,10 +34,10 @@ use sci_bank::Fate;
 use sci_bank::library::{Banks, Library};
 use sci_base::{NoMemory, Obs, StopWord};
 use sci_io::{Failed, Sink};
-use sci_kinds::{Kind, Spec};
+use sci_kinds::{Kind, Ports, Spec};
 use sci_sched::Entry;
 use sci_trace::inputs::Inputs;
-use sci_trace::write_obs;
+use sci_trace::{write_obs, write_value};
 use std::alloc::Global;
 use std::marker::Model;
 
@@ -99,6 +99,18 @@ fn all_held(alloc: Global, frame: &Frame) -> Result<Vec<i64>, NoMemory>
         push_held(&mut values, frame.net.spec(block + 1), count)?;
     }
     Ok(values)
+}
+
+/// How many elements an output has, of a block whose outputs have `all`. Most blocks have one output, whose sizes need not be multiplied.
+fn output_elements(outs: &Ports, port: usize, all: usize) -> usize
+    requires port { port < length outs.now }
+    requires all { all ≡ total outs.now }
+    ensures { result ≡ elements (port_at outs.now port) }
+{
+    if outs.len() == 1 {
+        return all;
+    }
+    outs.get(port).elements() as usize
 }
 
 impl Store {
@@ -341,10 +353,7 @@ impl Store {
     {
         for at in 0..count {
             let value = self.values[start + at];
-            write_obs(
-                &Obs::Val(i64::from(block), port as i64, at as i64 + 1, value),
-                out,
-            )?;
+            write_value(i64::from(block), port as i64, at as i64 + 1, value, out)?;
             self.tally.count_value(value);
         }
         Ok(())
@@ -359,9 +368,10 @@ impl Store {
         ensures same { self.new ≡ record self.old { lines = self.new.lines; sum = self.new.sum } }
     {
         let outs = &frame.net.spec(block).outs;
-        let mut start = frame.places.outs(block).start;
+        let place = frame.places.outs(block);
+        let mut start = place.start;
         for port in 0..outs.len() {
-            let count = outs.get(port).elements() as usize;
+            let count = output_elements(outs, port, place.len);
             self.write_port(block, port + 1, start, count, out)?;
             start += count;
         }

@@ -1,5 +1,5 @@
 -- What the bytes of an input file are read as: its columns, or the first rule that they break.
-use Rattle.std.specs.Prelude.{◌≡◌, ℕ, ◌+◌, max, ℤ, pos, List, [], ◌∷◌, length, not, nat_lt, if◌then◌else◌, Option, Some, None, option_map, option_and_then, slice_index_or, Result, Ok, Err}
+use Rattle.std.specs.Prelude.{ℕ, ◌+◌, max, ℤ, pos, List, [], ◌∷◌, length, not, nat_lt, if◌then◌else◌, Option, Some, None, option_map, option_and_then, slice_index_or, Result, Ok, Err}
 use Rattle.std.specs.List.{position}
 use Rattle.std.specs.Str.{is_utf8}
 use Rattle.serde_json.specs.Data.{Data, Items, no_items, item}
@@ -7,7 +7,7 @@ use Rattle.serde_json.specs.Find.{as_array}
 use Rattle.serde_json.specs.Read.{read}
 use Rattle.sci_base.specs.declared.refusal.Rule.TheVariants.{InputShape, InputRange}
 use Rattle.sci_base.specs.Fit.{in_range}
-use Rattle.sci_base.specs.Plain.{Violation, violation_of, of_the_whole}
+use Rattle.sci_base.specs.Plain.{Violation, of_the_whole}
 use Rattle.sci_base.specs.Outcome.{Outcome, ◌>>=◌}
 use Rattle.sci_json.specs.Field.{wholes}
 use Rattle.sci_base.specs.declared.stop.Stop.{Stop}

@@ -4,7 +4,7 @@
 pub mod inputs;
 mod write;
 
-pub use write::write_obs;
+pub use write::{write_obs, write_value};
 
 #[cfg(test)]
 mod tests {

@@ -1,6 +1,5 @@
 mod Spoken
 mod Whole
-mod Needed
 mod Traced
 mod Giving
 mod Ends

@@ -9,6 +9,7 @@ use Rattle.sci_run.specs.Run.{IsRun}
 use Rattle.sci_run.proofs.Traces.{some_trace}
 use Rattle.sci_bank.specs.Bank.{Meaning}
 use Rattle.sci_needs.specs.Needs.{needs_of, AreOfSensors}
+use Rattle.sci_needs.proofs.Columns.{columns_in_range}
 use Rattle.sci_sim.specs.At.{Running, IsAtStart}
 use Rattle.sci_verdict.specs.Verdict.{Plan, Accepts, Breaks, plan_of}
 use Rattle.sci_verdict.specs.declared.checked.Checked.{Checked}
@@ -26,7 +27,6 @@ use Rattle.scicos.specs.declared.look.LookStop.{LookStop}
 use Rattle.scicos.specs.declared.prepare.Simulation.{Simulation}
 use Rattle.scicos.proofs.Courses.{due_now, lacks_now, of_files}
 use Rattle.scicos.proofs.Looking.{first_passes, next_stops, looked_for}
-use Rattle.scicos.proofs.Needed.{columns_in_range}
 
 -- ---- what it comes to, where its diagram passes
 

@@ -233,8 +233,10 @@ returns-in_ok-observe-in-Some-clause-reacted g c st shows =
       record {
         stops = (h, c.in-Some.block, refl);
         leads = passed.1;
-        lines = ap (λ (s : Standing). s.lines) both ∙ ap (λ (n : ℕ). lines_after n (length (h ∷ stop ∷ []))) c.pass-stop.ensures.lines;
-        sum = ap (λ (s : Standing). s.sum) both ∙ ap (λ (n : ℕ). sum_of n (h ∷ stop ∷ [])) c.pass-stop.ensures.sum;
+        tallied = record {
+          lines = ap (λ (s : Standing). s.lines) both ∙ ap (λ (n : ℕ). lines_after n (length (h ∷ stop ∷ []))) c.pass-stop.ensures.lines;
+          sum = ap (λ (s : Standing). s.sum) both ∙ ap (λ (n : ℕ). sum_of n (h ∷ stop ∷ [])) c.pass-stop.ensures.sum;
+        };
       },
     )
 
@@ -301,7 +303,9 @@ returns-in_ok-finish-in-None-clause-reacted g c st shows =
           shows_after f (source_of f.net k) c.args.inputs.now st c.args.store.now c.pass-stop.new.self c.finish.new.store _ _ _ _ _ _ _ c.args.firing.offset date v shows step c.finish.ensures.seated c.finish.ensures.counts keeps,
           record { y = v.y; shown = shown_marks f (source_of f.net k) c.observe.new.self c.finish.new.store v.y v.active c.finish.ensures.marks.0 c.finish.ensures.marks.1 shown; among = in_row },
         );
-        lines = sums.0 ∙ (ap (λ (s : Standing). s.lines) both ∙ ap (λ (n : ℕ). lines_after n (length (h ∷ seen))) c.pass-stop.ensures.lines);
-        sum = sums.1 ∙ (ap (λ (s : Standing). s.sum) both ∙ ap (λ (n : ℕ). sum_of n (h ∷ seen)) c.pass-stop.ensures.sum);
+        tallied = record {
+          lines = sums.0 ∙ (ap (λ (s : Standing). s.lines) both ∙ ap (λ (n : ℕ). lines_after n (length (h ∷ seen))) c.pass-stop.ensures.lines);
+          sum = sums.1 ∙ (ap (λ (s : Standing). s.sum) both ∙ ap (λ (n : ℕ). sum_of n (h ∷ seen)) c.pass-stop.ensures.sum);
+        };
       },
     )

@@ -2,7 +2,7 @@ use Rattle.std.proofs.Common.{◌≡◌, ℕ, ◌+◌, ◌≤◌, ◌<◌, ℤ, 
 use Rattle.sci_base.specs.declared.observation.Obs.{Obs}
 use Rattle.sci_forms.specs.declared.ports.Port.{Port}
 use Rattle.sci_forms.specs.declared.spec.Spec.{Spec}
-use Rattle.sci_forms.specs.Ports.{port_at, elements, before}
+use Rattle.sci_forms.specs.Ports.{port_at, elements, total, before}
 use Rattle.sci_net.specs.Parts.{Parts, spec_of}
 use Rattle.sci_net.specs.Net.{IsNet}
 use Rattle.sci_trace.specs.Lines.{text}
@@ -18,16 +18,16 @@ use Rattle.sci_sim.specs.Written.{tallied}
 use Rattle.sci_sim.proofs.Writing.{left_begin, left_as, left_more, cut_in_more, left_same, same_then, outputs_next, output_at}
 use Rattle.sci_sim.proofs.store.Store.write_block.Given.{Over}
 use Rattle.sci_sim.proofs.store.Store.write_block.Goals as goal
-use Rattle.sci_sim.proofs.store.Store.write_block.Goals.{After-elements-count}
+use Rattle.sci_sim.proofs.store.Store.write_block.Goals.{After-output_elements-count}
 
 pub loop-port-init : goal.loop-port-init
 loop-port-init g c =
     let block = c.args.block in
     let place = ap (λ (p : BlockPlace). p.outs.start) (c.frame.invariant.layout.places block (record { least = c.requires.block.least; most = omega (arith, ap (λ (f : Fixed). length f.net.specs) c.frame.view_is) })) in
-    let start = ap (λ s. s.start) c.outs-start.ensures ∙ (place ∙ ap (λ (f : Fixed). start_of f.net block) c.frame.view_is) in
+    let start = ap (λ s. s.start) c.outs-place.ensures ∙ (place ∙ ap (λ (f : Fixed). start_of f.net block) c.frame.view_is) in
     (left_begin (g.S.Sink.state c.args.out.now) c.args.self.now (outputs_seen block 1 (spec_of c.args.frame.now.net block).outs (values_at c.args.frame.now.net c.args.self.now.values block)), omega (arith, start))
 
-module _ (g : Over) (c : After-elements-count g) where
+module _ (g : Over) (c : After-output_elements-count g) where
   net_is : c.frame.inside.net ≡ c.args.frame.now.net
   net_is = ap (λ (f : Fixed). f.net) c.frame.view_is
 
@@ -37,13 +37,13 @@ module _ (g : Over) (c : After-elements-count g) where
   inside : c.loop-port.port < length (spec_of c.args.frame.now.net c.args.block).outs
   inside = omega (arith, c.len-port-end.ensures.value, ap (λ (ps : List Port). length ps) outs_is)
 
-  count_is : c.elements-count.result ≡ elements (port_at (spec_of c.args.frame.now.net c.args.block).outs c.loop-port.port)
-  count_is = c.elements-count.ensures ∙ ap elements (c.get.ensures ∙ ap (λ (ps : List Port). port_at ps c.loop-port.port) outs_is)
+  count_is : c.output_elements-count.result ≡ elements (port_at (spec_of c.args.frame.now.net c.args.block).outs c.loop-port.port)
+  count_is = c.output_elements-count.ensures ∙ ap (λ (ps : List Port). elements (port_at ps c.loop-port.port)) outs_is
 
   values_is : c.loop-port.self.values ≡ c.args.self.now.values
   values_is = ap (λ (s : Standing). s.values) c.loop-port.invariant.0.counted
 
-  within : c.loop-port.start + c.elements-count.result ≤ length c.args.self.now.values
+  within : c.loop-port.start + c.output_elements-count.result ≤ length c.args.self.now.values
   within =
       let up = up_to (spec_of c.args.frame.now.net c.args.block).outs c.loop-port.port inside in
       let whole = block_within c.args.frame.now.net c.args.block c.requires.block in
@@ -52,7 +52,7 @@ module _ (g : Over) (c : After-elements-count g) where
   few : length c.args.self.now.values ≤ 65536
   few = let small = subst IsNet net_is c.frame.invariant.net in omega (arith, small.small, c.requires.store.values)
 
-  same_seen : elements_seen c.args.block (c.loop-port.port + 1) 1 (take c.elements-count.result (drop c.loop-port.start c.loop-port.self.values))
+  same_seen : elements_seen c.args.block (c.loop-port.port + 1) 1 (take c.output_elements-count.result (drop c.loop-port.start c.loop-port.self.values))
       ≡ elements_seen c.args.block (c.loop-port.port + 1) 1 (take (elements (port_at (spec_of c.args.frame.now.net c.args.block).outs c.loop-port.port)) (drop (before (spec_of c.args.frame.now.net c.args.block).outs c.loop-port.port) (values_at c.args.frame.now.net c.args.self.now.values c.args.block)))
   same_seen =
       let outs = (spec_of c.args.frame.now.net c.args.block).outs in
@@ -62,20 +62,24 @@ module _ (g : Over) (c : After-elements-count g) where
       ∙ (ap (λ (n : ℕ). take (elements (port_at outs c.loop-port.port)) (drop n c.args.self.now.values)) c.loop-port.invariant.1
       ∙ sym (output_at c.args.self.now.values (start_of c.args.frame.now.net c.args.block) c.loop-port.port outs inside))))
 
-pub overflow_cast-count : goal.overflow_cast-count
-overflow_cast-count g c = let a = within g c in let b = few g c in search (rules, a, b)
+pub output_elements-count-requires-clause-all : goal.output_elements-count-requires-clause-all
+output_elements-count-requires-clause-all g c =
+    let net = ap (λ (f : Fixed). f.net) c.frame.view_is in
+    let outs : c.spec.result.now.outs ≡ (spec_of c.args.frame.now.net c.args.block).outs = ap (λ (s : Spec). s.outs) c.spec.ensures.value ∙ ap (λ (n : Parts). (spec_of n c.args.block).outs) net in
+    let place = ap (λ (p : BlockPlace). p.outs.len) (c.frame.invariant.layout.places c.args.block (record { least = c.requires.block.least; most = omega (arith, ap (λ (f : Fixed). length f.net.specs) c.frame.view_is) })) in
+    ap (λ s. s.len) c.outs-place.ensures ∙ (place ∙ (ap (λ (n : Parts). total (spec_of n c.args.block).outs) net ∙ ap total (sym outs)))
 
 pub write_port-requires-clause-within : goal.write_port-requires-clause-within
 write_port-requires-clause-within g c =
-    let at = (goal.at.write_port-requires-clause-within g c).After-elements-count in
+    let at = (goal.at.write_port-requires-clause-within g c).After-output_elements-count in
     let a = within g at in omega (arith, a, ap (λ (vs : List ℤ). length vs) (values_is g at))
 
 pub overflow_add-start : goal.overflow_add-start
-overflow_add-start g c = let at = (goal.at.overflow_add-start g c).After-elements-count in let a = within g at in let b = few g at in search (rules, a, b)
+overflow_add-start g c = let at = (goal.at.overflow_add-start g c).After-output_elements-count in let a = within g at in let b = few g at in search (rules, a, b)
 
 pub returns-in_err-write_port-clause-written : goal.returns-in_err-write_port-clause-written
 returns-in_err-write_port-clause-written g c =
-    let at = (goal.at.returns-in_err-write_port-clause-written g c).After-elements-count in
+    let at = (goal.at.returns-in_err-write_port-clause-written g c).After-output_elements-count in
     let outs = (spec_of c.args.frame.now.net c.args.block).outs in
     let vs = values_at c.args.frame.now.net c.args.self.now.values c.args.block in
     cut_in_more _ _ c.write_port.result c.from_residual.result _ _ c.in_err-write_port.was (search rules)
@@ -84,7 +88,7 @@ returns-in_err-write_port-clause-written g c =
 
 pub loop-port-preserved : goal.loop-port-preserved
 loop-port-preserved g c =
-    let at = (goal.at.loop-port-preserved g c).After-elements-count in
+    let at = (goal.at.loop-port-preserved g c).After-output_elements-count in
     let outs = (spec_of c.args.frame.now.net c.args.block).outs in
     let vs = values_at c.args.frame.now.net c.args.self.now.values c.args.block in (
       left_more _ _ c.write_port.result c.in_ok-write_port.field-0 c.in_ok-write_port.was

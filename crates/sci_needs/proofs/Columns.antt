@@ -14,7 +14,6 @@ use Rattle.sci_trace.specs.Columns.{Needed, column_at}
 use Rattle.sci_trace.specs.Reading.{columns_in, greatest, outside_at, outside, or_else, first_outside, unless, judge_columns, shaped, judge}
 use Rattle.sci_base.specs.Outcome.{◌>>=◌}
 use Rattle.sci_needs.specs.Needs.{needs_of, need_at, AreOfSensors}
-use Rattle.scicos.specs.Inputs.{AcceptsColumns}
 
 -- ---- no value that is needed is outside its type
 
@@ -32,7 +31,7 @@ judged_ok needs (Some cs) columns e =
     let h = enough_ok (nat_lt (length cs) (greatest needs)) _ (first_outside needs cs) cs columns e in
     subst (λ (xs : List (List ℤ)). first_outside needs xs ≡ None) h.1 h.0
 
-none_outside : (needs : List Needed) (bytes : List ℕ) (columns : List (List ℤ)) → AcceptsColumns needs bytes columns → first_outside needs columns ≡ None
+none_outside : (needs : List Needed) (bytes : List ℕ) (columns : List (List ℤ)) → judge bytes needs ≡ Ok columns → first_outside needs columns ≡ None
 unfolding judge
 none_outside needs bytes columns h = judged_ok needs (columns_in bytes) columns h
 
@@ -79,7 +78,7 @@ column_is : (columns : List (List ℤ)) (k : ℕ) → column_at columns k ≡ nu
 column_is columns zero = refl
 column_is columns (suc i) = unwrap_or-slice_get columns i []
 
-pub columns_in_range : (n : Parts) (bytes : List ℕ) (columns : List (List ℤ)) → AreOfSensors n (needs_of n) → AcceptsColumns (needs_of n) bytes columns → AreColumns n columns
+pub columns_in_range : (n : Parts) (bytes : List ℕ) (columns : List (List ℤ)) → AreOfSensors n (needs_of n) → judge bytes (needs_of n) ≡ Ok columns → AreColumns n columns
 columns_in_range n bytes columns sensors accepted b sensor v h =
     let none = none_at (needs_of n) columns (need_at n b) (none_outside (needs_of n) bytes columns accepted) (sensors.each b sensor) in
     inside (need_at n b) (column_at columns (column_of (spec_of n b))) v none

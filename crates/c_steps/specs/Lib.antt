@@ -1,0 +1,5 @@
+pub mod Places
+pub mod Texts
+pub mod Runs
+pub mod Programs
+pub mod Laws

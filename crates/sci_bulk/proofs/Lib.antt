@@ -1,0 +1,4 @@
+pub mod Drawing
+pub mod Ready
+pub mod Forward
+pub mod Restless

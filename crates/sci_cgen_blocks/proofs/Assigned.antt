@@ -1,0 +1,59 @@
+-- What the texts of a block may do.
+use Rattle.std.proofs.Common.{◌≡◌, ℕ, Bool, true, false, ◌||◌, ◌⊎◌, inl, inr, refl, sym, subst, List, [], ◌∷◌}
+use Rattle.std.specs.Prelude.{◌≢◌}
+use Rattle.std.proofs.lemmas.Bool.{and_from}
+use Rattle.sci_forms.specs.declared.Kind.{Kind}
+use Rattle.sci_forms.specs.declared.Kind.TheVariants.{Sensor}
+use Rattle.sci_forms.specs.declared.spec.Spec.{Spec}
+use Rattle.sci_forms.specs.Ports.{total}
+use Rattle.sci_forms.specs.Words.{state_len_of}
+use Rattle.c_ast.specs.Syntax.{Block}
+use Rattle.c_mean.specs.Meaning.{same_name}
+use Rattle.c_steps.specs.Places.{is_scratch}
+use Rattle.c_steps.specs.Texts.{May, statement_within, block_within}
+use Rattle.c_steps.proofs.Texts.{upto_within}
+use Rattle.sci_cgen_blocks.specs.Terms.{Work, assign, assign_if, Step, change, stop_if, repeat, Recipe}
+use Rattle.sci_cgen_blocks.specs.Recipes.{recipe_of}
+use Rattle.sci_cgen_blocks.specs.Texts.{Places, values, work_statement, works_text, step_statement, steps_text, recipe_text, values_text, body_text, next_text}
+use Rattle.sci_cgen_blocks.proofs.Bodies.{values_are}
+use Rattle.sci_cgen_blocks.proofs.Sensing.{is_kind}
+use Rattle.sci_cgen_blocks.specs.Meant.{takes_input, body_may, next_may}
+
+-- assign scratch and values, and take input or not
+abbrev may_values : Bool → May
+may_values takes = record { assign = λ x. is_scratch x || same_name values x; call = λ f. false; take = takes; show = false }
+
+module _ (takes : Bool) (p : Places) where
+  work_within : (x : Work) → statement_within (may_values takes) (work_statement p x) ≡ true
+  work_within (assign n t) = refl
+  work_within (assign_if c n t) = refl
+
+  works_within : (ws : List Work) → block_within (may_values takes) (works_text p ws) ≡ true
+  works_within [] = refl
+  works_within (x ∷ ws) = and_from _ _ (work_within x) (works_within ws)
+
+  step_within : (x : Step) → statement_within (may_values takes) (step_statement p x) ≡ true
+  step_within (change x) = work_within x
+  step_within (stop_if c word) = refl
+  step_within (repeat n k ws) = works_within ws
+
+  steps_within : (xs : List Step) (rest : Block) → block_within (may_values takes) rest ≡ true → block_within (may_values takes) (steps_text p xs rest) ≡ true
+  steps_within [] rest h = h
+  steps_within (x ∷ xs) rest h = and_from _ _ (step_within x) (steps_within xs rest h)
+
+  recipe_within : (e : ℕ) (x : Recipe) → block_within (may_values takes) (recipe_text p e x) ≡ true
+  recipe_within e x = steps_within x.steps _ refl
+
+values_within : (c : Kind) (s : Spec) (p : Places) → (c ≡ Sensor) ⊎ (c ≢ Sensor) → block_within (may_values (takes_input c)) (values_text c s p) ≡ true
+values_within c s p (inl e) = subst (λ (c : Kind). block_within (may_values (takes_input c)) (values_text c s p) ≡ true) (sym e) refl
+values_within c s p (inr n) =
+    subst (λ (b : Block). block_within (may_values (takes_input c)) b ≡ true) (sym (values_are c s p n))
+    (upto_within (may_values (takes_input c)) (λ e. recipe_text p e (recipe_of c s e)) (total s.outs) (λ e h. recipe_within (takes_input c) p e (recipe_of c s e)))
+
+-- The text of the values assigns scratch and values alone, calls nothing and shows nothing; a SENSOR's alone takes input.
+pub body_within : (s : Spec) (p : Places) → block_within (body_may s) (body_text s p) ≡ true
+body_within s p = values_within s.kind s p (is_kind s.kind)
+
+-- That of the next state assigns states alone.
+pub next_within : (s : Spec) (p : Places) → block_within next_may (next_text s p) ≡ true
+next_within s p = upto_within next_may _ (state_len_of s.kind s) (λ i h. refl)

@@ -1,0 +1,211 @@
+-- The texts of a block are within the bounds of the subset.
+use Rattle.std.proofs.Common.{◌≡◌, ℕ, zero, suc, ◌+◌, ◌<◌, ◌≤◌, ◌^◌, true, refl, sym, ap, ◌∙◌, subst, arith, inl, inr, ◌⊎◌, pos, negsuc, List, [], ◌∷◌, Bool, false, if◌then◌else◌}
+use Rattle.std.specs.Prelude.{◌≢◌}
+use Rattle.std.proofs.lemmas.Int.{ints}
+use Rattle.sci_forms.specs.declared.Kind.{Kind}
+use Rattle.sci_forms.specs.declared.Kind.TheVariants.{Sensor, LogicalOp, Shift}
+use Rattle.sci_forms.specs.declared.spec.Spec.{Spec}
+use Rattle.sci_base.specs.Fit.{InRange}
+use Rattle.sci_base.specs.Lists.{listed}
+use Rattle.sci_forms.specs.declared.ports.Port.{Port}
+use Rattle.sci_forms.specs.Ports.{total, type_at, Fills}
+use Rattle.sci_forms.specs.Forms.{is_sync, has_delay}
+use Rattle.sci_kinds.proofs.Elements.{listed_at}
+use Rattle.sci_kinds.proofs.Ranges.{zero_in_range}
+use Rattle.sci_forms.specs.Words.{state_len_of}
+use Rattle.sci_forms.specs.Typed.{typed}
+use Rattle.c_ast.specs.Syntax.{Exp, num, var, element, neg, not, bin, Block, done, next}
+use Rattle.c_ast.specs.Bounds.{Fits, IsExp, StatementFits, BlockFits, IsName}
+use Rattle.c_steps.specs.Texts.{joined, upto}
+use Rattle.sci_cgen_blocks.specs.Terms.{Term, constant, input, state, mask, scratch, both, Work, assign, assign_if, Step, change, stop_if, repeat, Recipe, Readable, TermFits, WorkFits, WorksFit, StepFits, StepsFit, RecipeFits}
+use Rattle.sci_cgen_blocks.specs.Recipes.{recipe_of, next_term, delay_term, branch_term, scratch_of, fed, from_value, inputs}
+use Rattle.sci_cgen_blocks.specs.Laws.{CellReadsLaw, NextReadsLaw}
+use Rattle.sci_cgen_blocks.specs.Texts.{Places, scratch_name, input_place, expression, work_statement, works_text, step_statement, steps_text, recipe_text, sensor_text, body_text, next_text, delay_expression, branch_expression}
+use Rattle.sci_cgen_blocks.specs.Meant.{AreInBounds}
+use Rattle.sci_cgen_blocks.proofs.Effects.{delay_term_law, branch_term_law}
+use Rattle.sci_cgen_blocks.proofs.Bodies.{values_are}
+use Rattle.sci_cgen_blocks.proofs.Sensing.{sensor_values, sensor_column, sensor_out, is_kind}
+
+-- ---- expressions
+
+-- what fits fits where more do
+fits_more : (d d' : ℕ) (e : Exp) → Fits d e → d ≤ d' → Fits d' e
+fits_more zero d' e f l = absurd f
+fits_more (suc d) zero e f l = absurd (omega (arith, l))
+fits_more (suc d) (suc d') (num z) f l = f
+fits_more (suc d) (suc d') (var x) f l = f
+fits_more (suc d) (suc d') (element x e) f l = (f.0, fits_more d d' e f.1 (omega (arith, l)))
+fits_more (suc d) (suc d') (neg e) f l = fits_more d d' e f (omega (arith, l))
+fits_more (suc d) (suc d') (not e) f l = fits_more d d' e f (omega (arith, l))
+fits_more (suc d) (suc d') (bin op a b) f l = (fits_more d d' a f.0 (omega (arith, l)), fits_more d d' b f.1 (omega (arith, l)))
+
+-- what may be read lies at places that can be spelled
+record HasBounds (p : Places) (r : Readable) : Type 0 where
+  pub input : (k e : ℕ) → r.input k e → input_place p k e < 2 ^ 63
+  pub state : (i : ℕ) → r.state i → p.state + i < 2 ^ 63
+  pub mask : p.mask < 2 ^ 63
+  pub number : p.number < 2 ^ 63
+  pub scratch : r.scratch < 2 ^ 32
+
+is_number : (n : ℕ) → n < 2 ^ 63 → (d : ℕ) → Fits (suc d) (num (pos n))
+is_number n h d = h
+
+scratch_is_name : (p : Places) (r : Readable) (n : ℕ) → HasBounds p r → n ≤ r.scratch → IsName (scratch_name n)
+scratch_is_name p r n h l = (refl, omega (arith, l, h.scratch))
+
+expression_fits : (p : Places) (r : Readable) → HasBounds p r → (d : ℕ) (t : Term) → TermFits r d t → Fits (suc d) (expression p t)
+expression_fits p r h zero t f = absurd f
+expression_fits p r h (suc d) (constant (pos n)) f = omega (arith, ints, f.1)
+expression_fits p r h (suc d) (constant (negsuc n)) f = omega (arith, ints, f.0)
+expression_fits p r h (suc d) (input k e) f = ((refl, omega arith), h.input k e f)
+expression_fits p r h (suc d) (state i) f = ((refl, omega arith), h.state i f)
+expression_fits p r h (suc d) mask f = ((refl, omega arith), h.mask)
+expression_fits p r h (suc d) (scratch n) f = scratch_is_name p r n h f.1
+expression_fits p r h (suc d) (both op a b) f = (expression_fits p r h d a f.0, expression_fits p r h d b f.1)
+
+is_exp : (p : Places) (r : Readable) → HasBounds p r → (t : Term) → TermFits r 32 t → IsExp (expression p t)
+unfolding IsExp
+is_exp p r h t f = fits_more 33 64 (expression p t) (expression_fits p r h 32 t f) (omega arith)
+
+number_is_exp : (n : ℕ) → n < 2 ^ 63 → IsExp (num (pos n))
+unfolding IsExp
+number_is_exp n h = h
+
+first_is_exp : IsExp (var (scratch_name 1))
+unfolding IsExp
+first_is_exp = (refl, omega arith)
+
+-- ---- statements
+
+module _ (p : Places) (r : Readable) (h : HasBounds p r) where
+  work_fits : (d : ℕ) (x : Work) → WorkFits r x → StatementFits (suc (suc d)) (work_statement p x)
+  work_fits d (assign n t) f = (scratch_is_name p r n h f.0.1, is_exp p r h t f.1)
+  work_fits d (assign_if c n t) f = (is_exp p r h c f.1, ((scratch_is_name p r n h f.0.1, is_exp p r h t f.2), tt), tt)
+
+  works_fit : (d : ℕ) (ws : List Work) → WorksFit r ws → BlockFits (suc (suc d)) (works_text p ws)
+  works_fit d [] f = tt
+  works_fit d (x ∷ ws) f = (work_fits d x f.0, works_fit d ws f.1)
+
+  step_fits : (d : ℕ) (x : Step) → StepFits r x → StatementFits (suc (suc (suc d))) (step_statement p x)
+  step_fits d (change x) f = work_fits (suc d) x f
+  step_fits d (stop_if c word) f =
+      (is_exp p r h c f.0, ((number_is_exp word (omega (arith, f.1)), number_is_exp p.number h.number, number_is_exp 0 (omega arith)), tt), tt)
+  step_fits d (repeat n k ws) f = (scratch_is_name p r n h f.0.1, omega (arith, f.1), works_fit d ws f.2)
+
+  steps_fit : (d : ℕ) (xs : List Step) (rest : Block) → StepsFit r xs → BlockFits (suc (suc (suc d))) rest → BlockFits (suc (suc (suc d))) (steps_text p xs rest)
+  steps_fit d [] rest f q = q
+  steps_fit d (x ∷ xs) rest f q = (step_fits d x f.0, steps_fit d xs rest f.1 q)
+
+  recipe_fits : (d e : ℕ) (x : Recipe) → RecipeFits r x → p.outs + e < 2 ^ 63 → BlockFits (suc (suc (suc d))) (recipe_text p e x)
+  recipe_fits d e x f q =
+      steps_fit d x.steps _ f.0 ((((refl, omega arith), number_is_exp (p.outs + e) q), is_exp p r h x.value f.1), tt)
+
+joined_fits : (d : ℕ) (a b : Block) → BlockFits d a → BlockFits d b → BlockFits d (joined a b)
+joined_fits d done b p q = q
+joined_fits d (next s a) b p q = (p.0, joined_fits d a b p.1 q)
+
+upto_fits : (d : ℕ) (f : ℕ → Block) (n : ℕ) → ((e : ℕ) → e < n → BlockFits d (f e)) → BlockFits d (upto f n)
+upto_fits d f zero go = tt
+upto_fits d f (suc n) go = joined_fits d (upto f n) (f n) (upto_fits d f n (λ e h. go e (omega (arith, h)))) (go n (omega arith))
+
+-- ---- blocks
+
+scratch_few : (c : Kind) (s : Spec) → scratch_of c s ≤ 4
+scratch_few LogicalOp s = by_test _
+  where
+    by_test : (b : Bool) → (if b then 1 else 4) ≤ 4
+    by_test true = omega arith
+    by_test false = omega arith
+scratch_few Shift s = by_test _
+  where
+    by_test : (b : Bool) → (if b then 0 else 1) ≤ 4
+    by_test true = omega arith
+    by_test false = omega arith
+scratch_few _ s = omega arith
+
+module _ (s : Spec) (p : Places) (places : AreInBounds s p) where
+  fed_bounds : HasBounds p (fed s)
+  fed_bounds = record {
+    input = λ k e f. places.ins k e f.0;
+    state = λ i f. omega (arith, f, places.state);
+    mask = places.mask;
+    number = places.number;
+    scratch = omega (arith, scratch_few s.kind s);
+  }
+
+  from_bounds : (n : ℕ) → HasBounds p (from_value s n)
+  from_bounds n = record {
+    input = λ k e f. places.ins k e f;
+    state = λ i f. omega (arith, f.1, places.state);
+    mask = places.mask;
+    number = places.number;
+    scratch = omega arith;
+  }
+
+  input_bounds : HasBounds p (inputs s)
+  input_bounds = record {
+    input = λ k e f. places.ins k e f;
+    state = λ i f. absurd f;
+    mask = places.mask;
+    number = places.number;
+    scratch = omega arith;
+  }
+
+  sensor_fits : (d c : ℕ) → c < 2 ^ 63 → p.outs < 2 ^ 63 → BlockFits (suc (suc d)) (sensor_text p (pos c))
+  sensor_fits d c q o = (
+    ((refl, omega arith), number_is_exp c q),
+    (
+      (
+        first_is_exp,
+        ((((refl, omega arith), number_is_exp p.outs o), number_is_exp c q), tt),
+        ((number_is_exp 2 (omega arith), number_is_exp p.number places.number, number_is_exp 0 (omega arith)), tt),
+      ),
+      tt,
+    ),
+  )
+
+  pub next_fits : NextReadsLaw → typed s ≡ true → (d : ℕ) → BlockFits (suc d) (next_text s p)
+  next_fits reads is_typed d = upto_fits (suc d) _ (state_len_of s.kind s) (λ i l. (
+    (((refl, omega arith), number_is_exp (p.state + i) (omega (arith, l, places.state))), is_exp p (from_value s i) (from_bounds i) (next_term s.kind s i) (reads s is_typed i l)),
+    tt,
+  ))
+
+  pub values_fit : CellReadsLaw → typed s ≡ true → s.kind ≢ Sensor → (d : ℕ) → BlockFits (suc (suc (suc d))) (body_text s p)
+  values_fit reads is_typed other d =
+      subst (BlockFits (suc (suc (suc d)))) (sym (values_are s.kind s p other))
+      (upto_fits (suc (suc (suc d))) _ (total s.outs) (λ e l. recipe_fits p (fed s) fed_bounds d e (recipe_of s.kind s e) (reads s is_typed other e l) (omega (arith, l, places.outs))))
+
+  pub senses_fit : typed s ≡ true → s.kind ≡ Sensor → (d : ℕ) → BlockFits (suc (suc d)) (body_text s p)
+  senses_fit is_typed kind d =
+      let c = sensor_column s is_typed kind in
+      let one = sensor_out s is_typed kind in
+      subst (BlockFits (suc (suc d))) (sym (sensor_values s.kind s p kind ∙ ap (sensor_text p) c.1.0))
+      (sensor_fits d (suc c.0) (omega (arith, c.1.1)) (omega (arith, one, places.outs)))
+
+  -- The text of the values is nested at most three deep.
+  pub body_fits : CellReadsLaw → typed s ≡ true → (d : ℕ) → BlockFits (suc (suc (suc d))) (body_text s p)
+  body_fits reads is_typed d = by_kind (is_kind s.kind)
+    where
+      by_kind : ((s.kind ≡ Sensor) ⊎ (s.kind ≢ Sensor)) → BlockFits (suc (suc (suc d))) (body_text s p)
+      by_kind (inl e) = senses_fit is_typed e (suc d)
+      by_kind (inr n) = values_fit reads is_typed n d
+
+  pub delay_fits : TermFits (inputs s) 32 (delay_term s.kind s) → IsExp (delay_expression s p)
+  delay_fits f = is_exp p (inputs s) input_bounds (delay_term s.kind s) f
+
+  pub branch_fits : TermFits (inputs s) 32 (branch_term s.kind s) → IsExp (branch_expression s p)
+  branch_fits f = is_exp p (inputs s) input_bounds (branch_term s.kind s) f
+
+-- inputs that are all 0
+some_inputs : (ps : List Port) → Fills ps (listed (λ e. pos 0) (total ps))
+some_inputs ps =
+    let l = listed_at (λ e. pos 0) (total ps) in
+    record { enough = l.0; in_range = λ e h. subst (InRange (type_at ps e)) (sym (l.1 e h)) (zero_in_range (type_at ps e)) }
+
+pub delay_fits_all : (s : Spec) (p : Places) → typed s ≡ true → has_delay s.kind ≡ true → AreInBounds s p → IsExp (delay_expression s p)
+delay_fits_all s p is_typed has places =
+    delay_fits s p places (delay_term_law s [] 0 0 (listed (λ e. pos 0) (total s.ins)) is_typed has (some_inputs s.ins) (λ n. pos 0)).1
+
+pub branch_fits_all : (s : Spec) (p : Places) → typed s ≡ true → is_sync s.kind ≡ true → AreInBounds s p → IsExp (branch_expression s p)
+branch_fits_all s p is_typed sync places =
+    branch_fits s p places (branch_term_law s [] 0 (listed (λ e. pos 0) (total s.ins)) is_typed sync (some_inputs s.ins) (λ n. pos 0)).1

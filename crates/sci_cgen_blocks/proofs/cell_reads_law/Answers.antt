@@ -1,0 +1,5 @@
+use Rattle.sci_cgen_blocks.proofs.KindLaws.{cell_reads_law}
+use Rattle.sci_cgen_blocks.proofs.cell_reads_law.Goals as goal
+
+pub returns : goal.returns
+returns c = cell_reads_law

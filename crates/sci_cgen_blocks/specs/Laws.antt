@@ -1,0 +1,91 @@
+-- The recipes are right: each gives what the table of kinds says, and reads nothing but what the block has. And so are the texts made of them.
+use Rattle.std.specs.Prelude.{◌≡◌, ◌≢◌, ℕ, suc, ◌<◌, ℤ, pos, List, Some, true}
+use Rattle.sci_forms.specs.declared.Kind.TheVariants.{Sensor}
+use Rattle.sci_forms.specs.declared.spec.Spec.{Spec}
+use Rattle.sci_forms.specs.Ports.{total, Fills}
+use Rattle.sci_forms.specs.Words.{param, state_len_of}
+use Rattle.sci_forms.specs.Forms.{is_sync, has_delay}
+use Rattle.sci_forms.specs.Typed.{typed}
+use Rattle.sci_kinds.specs.Asks.{IsState, IsMask}
+use Rattle.sci_kinds.specs.Table.{cell, out, next_of, delay, branch}
+use Rattle.c_ast.specs.Bounds.{BlockFits, IsExp}
+use Rattle.c_mean.specs.Meaning.{World, Around, run_block}
+use Rattle.c_steps.specs.Places.{HasValue, Has}
+use Rattle.c_steps.specs.Texts.{block_within}
+use Rattle.sci_cgen_blocks.specs.Terms.{Scratch, Gives, value, RecipeFits, TermFits}
+use Rattle.sci_cgen_blocks.specs.Recipes.{recipe_of, next_term, delay_term, branch_term, given, fed, from_value, inputs}
+use Rattle.sci_cgen_blocks.specs.Texts.{Places, values, scratch_name, body_text, next_text, delay_expression, branch_expression}
+use Rattle.sci_cgen_blocks.specs.Meant.{Holds, IsFed, IsAny, IsApart, Answers, NextIs, Senses, AreInBounds, body_may, next_may}
+
+-- each element's recipe gives its cell, whatever scratch holds before
+abbrev pub CellLaw : Type 0
+CellLaw =
+    (s : Spec) (x : List ℤ) (m : ℕ) (u : List ℤ) → typed s ≡ true → s.kind ≢ Sensor → IsState s x → IsMask s m → Fills s.ins u
+    → (e : ℕ) → e < total s.outs → (t : Scratch) → Gives (given s x m u) (recipe_of s.kind s e) t (cell s x m u e)
+
+-- it reads inputs with feedthrough and the state alone
+abbrev pub CellReadsLaw : Type 0
+CellReadsLaw = (s : Spec) → typed s ≡ true → s.kind ≢ Sensor → (e : ℕ) → e < total s.outs → RecipeFits (fed s) (recipe_of s.kind s e)
+
+abbrev pub NextLaw : Type 0
+NextLaw =
+    (s : Spec) (x : List ℤ) (m : ℕ) (u : List ℤ) → typed s ≡ true → IsState s x → Fills s.ins u
+    → (i : ℕ) → i < state_len_of s.kind s → (t : Scratch) → value (given s x m u) t (next_term s.kind s i) ≡ Some (next_of s.kind s x m u i)
+
+abbrev pub NextReadsLaw : Type 0
+NextReadsLaw = (s : Spec) → typed s ≡ true → (i : ℕ) → i < state_len_of s.kind s → TermFits (from_value s i) 32 (next_term s.kind s i)
+
+abbrev pub DelayTermLaw : Type 0
+DelayTermLaw =
+    (s : Spec) (x : List ℤ) (m p : ℕ) (u : List ℤ) → typed s ≡ true → has_delay s.kind ≡ true → Fills s.ins u
+    → (t : Scratch) → (value (given s x m u) t (delay_term s.kind s) ≡ Some (delay s p u)) × TermFits (inputs s) 32 (delay_term s.kind s)
+
+abbrev pub BranchTermLaw : Type 0
+BranchTermLaw =
+    (s : Spec) (x : List ℤ) (m : ℕ) (u : List ℤ) → typed s ≡ true → is_sync s.kind ≡ true → Fills s.ins u
+    → (t : Scratch) → (value (given s x m u) t (branch_term s.kind s) ≡ Some (pos (branch s u))) × TermFits (inputs s) 32 (branch_term s.kind s)
+
+-- ---- what the texts do in a memory
+
+-- From a memory that holds the block's state, its mask and its inputs with feedthrough, the text of its values leaves what the table of kinds says, or ends the run by the stop.
+abbrev pub ValuesLaw : Type 0
+ValuesLaw =
+    (env : Around) (s : Spec) (p : Places) (x : List ℤ) (m : ℕ) (u : List ℤ) (n : ℕ) (w : World) → typed s ≡ true → s.kind ≢ Sensor → IsState s x
+    → IsMask s m → Fills s.ins u → Holds s p (IsFed s) x m u w → IsApart s p → Answers s p w (out s x m u) (run_block env n (body_text s p) w)
+
+-- A SENSOR's takes the next value of its column. The parameter counts columns from 1, and c from 0.
+abbrev pub SensorLaw : Type 0
+SensorLaw =
+    (env : Around) (s : Spec) (p : Places) (c n : ℕ) (w : World) → s.kind ≡ Sensor → param s 0 ≡ pos (suc c) → Has w values p.outs → Has w (scratch_name 1) 0
+    → Senses p c w (run_block env n (body_text s p) w)
+
+-- From a memory that holds all inputs too the text of the next state leaves it.
+abbrev pub NextStateLaw : Type 0
+NextStateLaw =
+    (env : Around) (s : Spec) (p : Places) (x : List ℤ) (m : ℕ) (u : List ℤ) (n : ℕ) (w : World) → typed s ≡ true → IsState s x → Fills s.ins u
+    → Holds s p IsAny x m u w → NextIs s p w (next_of s.kind s x m u) (run_block env n (next_text s p) w)
+
+-- and there the delay of activation output q and the branch have the values of the table
+abbrev pub DelayLaw : Type 0
+DelayLaw =
+    (s : Spec) (p : Places) (x : List ℤ) (m q : ℕ) (u : List ℤ) (w : World) → typed s ≡ true → has_delay s.kind ≡ true → Fills s.ins u
+    → Holds s p IsAny x m u w → HasValue (delay_expression s p) w (delay s q u)
+
+abbrev pub BranchLaw : Type 0
+BranchLaw =
+    (s : Spec) (p : Places) (x : List ℤ) (m : ℕ) (u : List ℤ) (w : World) → typed s ≡ true → is_sync s.kind ≡ true → Fills s.ins u
+    → Holds s p IsAny x m u w → HasValue (branch_expression s p) w (pos (branch s u))
+
+-- ---- what they are
+
+-- they do no more than they may
+pub record MayLaw : Type 0 where
+  pub body : (s : Spec) (p : Places) → block_within (body_may s) (body_text s p) ≡ true
+  pub next : (s : Spec) (p : Places) → block_within next_may (next_text s p) ≡ true
+
+-- They are within the bounds of the subset: the values nested at most three deep, the next state not at all.
+pub record BoundsLaw : Type 0 where
+  pub body : (s : Spec) (p : Places) → typed s ≡ true → AreInBounds s p → (d : ℕ) → BlockFits (suc (suc (suc d))) (body_text s p)
+  pub next : (s : Spec) (p : Places) → typed s ≡ true → AreInBounds s p → (d : ℕ) → BlockFits (suc d) (next_text s p)
+  pub delay : (s : Spec) (p : Places) → typed s ≡ true → has_delay s.kind ≡ true → AreInBounds s p → IsExp (delay_expression s p)
+  pub branch : (s : Spec) (p : Places) → typed s ≡ true → is_sync s.kind ≡ true → AreInBounds s p → IsExp (branch_expression s p)

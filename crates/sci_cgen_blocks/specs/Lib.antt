@@ -1,0 +1,5 @@
+pub mod Terms
+pub mod Recipes
+pub mod Laws
+pub mod Texts
+pub mod Meant

@@ -1,0 +1,315 @@
+-- How each kind's values, next states, delays and branches are worked out. What a kind means stands in its table (sci_kinds); these are ways to it that
+-- C leaves nowhere undefined.
+use Rattle.std.specs.Prelude.{◌≡◌, ℕ, zero, suc, ◌+◌, ◌-◌, ◌*◌, ◌^◌, ◌<◌, ◌≤◌, true, ℤ, pos, negsuc, List, [], ◌∷◌, ◌++◌, length, nat_lt, int_lt, if◌then◌else◌, unsigned_abs}
+use Rattle.std.specs.Int.{int_rem_euclid}
+use Rattle.sci_base.specs.declared.Ty.{Ty}
+use Rattle.sci_base.specs.declared.Ty.TheVariants.{U32}
+use Rattle.sci_base.specs.declared.Mode.{Mode}
+use Rattle.sci_base.specs.declared.Mode.TheVariants.{Wrap, Saturate, Stop}
+use Rattle.sci_base.specs.Fit.{low, high, span, width, int_eq}
+use Rattle.sci_base.specs.Lists.{at, spread, truth_at}
+use Rattle.sci_forms.specs.declared.Kind.{Kind}
+use Rattle.sci_forms.specs.declared.Kind.TheVariants.{Const, Summation, GainBlk, Product, AbsValue, Signum, MaxMin, Saturation, DeadBand, Convert, Mux, Demux, Extractor, LogicalOp, RelationalOp, Shift, BitSet, BitClear, ExtractBits, Switch2, Select, Logic, AndLog, Dollar, SampHold, Register, ModuloCount, GatedDelay, Sensor, EvtDly, EvtVarDly, IfThEl, ESelect, Halt}
+use Rattle.sci_forms.specs.declared.ports.Port.{Port}
+use Rattle.sci_forms.specs.declared.spec.Spec.{Spec}
+use Rattle.sci_forms.specs.Ports.{elements, port_at, before}
+use Rattle.sci_forms.specs.Words.{param, out_type, state_len_of}
+use Rattle.sci_kinds.specs.Table.{mode_of}
+use Rattle.c_ast.specs.declared.Op.{Op}
+use Rattle.c_ast.specs.declared.Op.TheVariants.{Add, Sub, Mul, Div, Rem, Lt, Le, Gt, Ge, Eq, Ne, And, Or}
+use Rattle.sci_cgen_blocks.specs.Terms.{Term, constant, input, state, mask, scratch, both, Work, assign, assign_if, Step, change, stop_if, repeat, Recipe, Given, Readable}
+
+-- ---- words
+
+abbrev pub natural : ℕ → Term
+natural n = constant (pos n)
+
+-- the first scratch number, in which a value is worked out
+abbrev pub result : Term
+result = scratch 1
+
+abbrev pub set : Term → Step
+set t = change (assign 1 t)
+
+abbrev pub set_if : Term → Term → Step
+set_if c t = change (assign_if c 1 t)
+
+abbrev pub plain : Term → Recipe
+plain t = record { steps = []; value = t }
+
+abbrev pub worked_out : List Step → Recipe
+worked_out xs = record { steps = xs; value = result }
+
+-- the remainder that isn't negative, by remainders of signed numbers
+abbrev pub modulo : Term → ℕ → Term
+modulo t n = both Rem (both Add (both Rem t (natural n)) (natural n)) (natural n)
+
+-- ---- fitting
+
+-- the number of the type that differs from t by a multiple of the span
+abbrev pub wrapped : Ty → Term → Term
+wrapped ty t = both Add (constant (low ty)) (modulo (both Sub t (constant (low ty))) (span ty))
+
+-- the result becomes what fits, or the run stops
+abbrev pub fit_steps : Ty → Mode → List Step
+fit_steps ty Wrap = set (wrapped ty result) ∷ []
+fit_steps ty Saturate = set_if (both Lt result (constant (low ty))) (constant (low ty)) ∷ set_if (both Gt result (constant (high ty))) (constant (high ty)) ∷ []
+fit_steps ty Stop = stop_if (both Lt result (constant (low ty))) 0 ∷ stop_if (both Gt result (constant (high ty))) 0 ∷ []
+
+-- the result of these steps, fitted
+abbrev pub fitted_out : Ty → Mode → List Step → Recipe
+fitted_out ty m xs = worked_out (xs ++ fit_steps ty m)
+
+-- a pattern as a number of the type
+abbrev pub from_pattern : Ty → Term → Recipe
+from_pattern ty t = plain (wrapped ty t)
+
+-- the pattern of a number of the type
+abbrev pub pattern : Ty → Term → Term
+pattern ty t = modulo t (span ty)
+
+-- bit k of a pattern
+abbrev pub bit : Term → ℕ → Term
+bit p k = both Rem (both Div p (natural (2 ^ k))) (natural 2)
+
+-- ---- products
+
+-- Two numbers of uint32 have a product that 64 bits needn't hold. Modulo 2^32 it is a times the lower half of b, and the upper half's product modulo 2^16 above it.
+abbrev pub halves_product : Term → Term → Term
+halves_product a b =
+    both Rem (both Add (both Mul a (both Rem b (natural 65536))) (both Mul (both Rem (both Mul a (both Div b (natural 65536))) (natural 65536)) (natural 65536)))
+    (natural 4294967296)
+
+-- whether the product of two numbers of uint32 is past the type's end, told by a quotient
+abbrev pub product_is_large : Term → Term → Term
+product_is_large a b = both And (both Ne b (natural 0)) (both Gt a (both Div (natural 4294967295) b))
+
+abbrev pub product_fits : Term → Term → Term
+product_fits a b = both Or (both Eq b (natural 0)) (both Le a (both Div (natural 4294967295) b))
+
+abbrev pub large_product : Mode → Term → Term → List Step
+large_product Wrap a b = set (halves_product a b) ∷ []
+large_product Saturate a b = set (natural 4294967295) ∷ set_if (product_fits a b) (both Mul a b) ∷ []
+large_product Stop a b = stop_if (product_is_large a b) 0 ∷ set (both Mul a b) ∷ []
+
+abbrev pub product : Ty → Mode → Term → Term → Recipe
+product U32 m a b = worked_out (large_product m a b)
+product ty m a b = fitted_out ty m (set (both Mul a b) ∷ [])
+
+abbrev pub quotient : Ty → Mode → Term → Term → Recipe
+quotient ty m a b = fitted_out ty m (stop_if (both Eq b (natural 0)) 1 ∷ set (both Div a b) ∷ [])
+
+-- ---- many inputs
+
+-- the signed inputs from k on, n of them, added to the result
+abbrev pub terms : Spec → ℕ → ℕ → ℕ → List Step
+terms s e k zero = []
+terms s e k (suc n) = set (both (if int_eq (param s (k + 1)) (pos 1) then Add else Sub) result (input k e)) ∷ terms s e (suc k) n
+
+-- the inputs from k on, n of them, compared with the result
+abbrev pub extremes : Op → ℕ → ℕ → ℕ → List Step
+extremes op e k zero = []
+extremes op e k (suc n) = set_if (both op (input k e) result) (input k e) ∷ extremes op e (suc k) n
+
+-- 1 where a term isn't 0
+abbrev pub truth : Term → Term
+truth t = both Ne t (natural 0)
+
+-- the truths of the terms from k on, n of them, counted in the result
+abbrev pub counted : (ℕ → Term) → ℕ → ℕ → List Work
+counted f k zero = []
+counted f k (suc n) = assign 1 (both Add result (f k)) ∷ counted f (suc k) n
+
+abbrev pub changed : List Work → List Step
+changed [] = []
+changed (w ∷ ws) = change w ∷ changed ws
+
+-- the logical operation, where the result counts the true inputs of n
+abbrev pub logical : ℤ → ℕ → Term
+logical op n =
+    if int_eq op (pos 0) then both Eq result (natural n) else
+    if int_eq op (pos 1) then both Gt result (natural 0) else
+    if int_eq op (pos 2) then both Ne result (natural n) else
+    if int_eq op (pos 3) then both Eq result (natural 0) else
+    if int_eq op (pos 4) then both Eq (both Rem result (natural 2)) (natural 1) else both Eq result (natural 0)
+
+abbrev pub logical_truths : ℤ → ℕ → ℕ → Recipe
+logical_truths op n e = record { steps = set (natural 0) ∷ changed (counted (λ k. truth (input k e)) 0 n); value = logical op n }
+
+-- Bit by bit: scratch 2 has the pattern so far, 3 the weight of the bit, 4 counts the bits.
+abbrev pub logical_bits : Ty → ℤ → ℕ → ℕ → Recipe
+logical_bits ty op n e = record {
+  steps = change (assign 2 (natural 0)) ∷ change (assign 3 (natural 1)) ∷ repeat 4 (width ty) (
+      (assign 1 (natural 0) ∷ counted (λ k. both Rem (both Div (pattern ty (input k e)) (scratch 3)) (natural 2)) 0 n)
+      ++ assign 2 (both Add (scratch 2) (both Mul (logical op n) (scratch 3))) ∷ assign 3 (both Mul (scratch 3) (natural 2)) ∷ []) ∷ [];
+  value = wrapped ty (scratch 2);
+}
+
+abbrev pub logical_operation : Ty → ℤ → ℤ → ℕ → ℕ → Recipe
+logical_operation ty op b n e = if int_eq b (pos 0) then logical_truths op n e else logical_bits ty op n e
+
+-- of inputs k - 1 down to 0 the last whose activation input is activated
+abbrev pub selected : ℕ → ℕ → List Step
+selected e zero = []
+selected e (suc k) = set_if (bit mask k) (input k e) ∷ selected e k
+
+-- scratch 2 becomes the number whose binary digits are the truths of inputs k to k + n - 1
+abbrev pub row_digits : ℕ → ℕ → List Step
+row_digits k zero = []
+row_digits k (suc n) = change (assign 2 (both Add (both Mul (natural 2) (scratch 2)) (truth (input k 0)))) ∷ row_digits (suc k) n
+
+-- column e of the table's row with the number of scratch 2, of rows k to k + n - 1
+abbrev pub row_entry : Spec → ℕ → ℕ → ℕ → List Step
+row_entry s e k zero = []
+row_entry s e k (suc n) = set_if (both Eq (scratch 2) (natural k)) (constant (param s (k * length s.outs + e))) ∷ row_entry s e (suc k) n
+
+-- ---- one input
+
+abbrev pub relation : ℤ → Op
+relation op =
+    if int_eq op (pos 0) then Eq else if int_eq op (pos 1) then Ne else if int_eq op (pos 2) then Lt else if int_eq op (pos 3) then Le else
+    if int_eq op (pos 4) then Gt else Ge
+
+-- rounded toward minus infinity
+abbrev pub floor_quotient : Term → ℕ → Term
+floor_quotient t n = both Div (both Sub t (modulo t n)) (natural n)
+
+abbrev pub shifted : Ty → ℤ → Term → Recipe
+shifted ty n t =
+    if int_lt n (pos 0) then plain (floor_quotient t (2 ^ unsigned_abs n)) else plain (wrapped ty (both Mul t (natural (2 ^ unsigned_abs n))))
+
+abbrev pub turned : Ty → ℕ → Term → Recipe
+turned ty n t =
+    record { steps = set (both Mul (pattern ty t) (natural (2 ^ n))) ∷ []; value = wrapped ty (both Add (both Rem result (natural (span ty))) (both Div result (natural (span ty)))) }
+
+abbrev pub shift : Ty → ℤ → ℤ → Term → Recipe
+shift ty n r t = if int_eq r (pos 0) then shifted ty n t else turned ty (unsigned_abs (int_rem_euclid n (pos (width ty)))) t
+
+-- the pattern with bit k made 1, or 0
+abbrev pub with_bit : Ty → ℕ → Term → Recipe
+with_bit ty k t = from_pattern ty (both Add (pattern ty t) (both Mul (both Sub (natural 1) (bit (pattern ty t) k)) (natural (2 ^ k))))
+
+abbrev pub without_bit : Ty → ℕ → Term → Recipe
+without_bit ty k t = from_pattern ty (both Sub (pattern ty t) (both Mul (bit (pattern ty t) k) (natural (2 ^ k))))
+
+abbrev pub bits : Ty → ℕ → ℕ → Term → Recipe
+bits ty a b t = from_pattern ty (both Rem (both Div (pattern ty t) (natural (2 ^ a))) (natural (2 ^ ((b - a) + 1))))
+
+-- whether the first of the switched inputs is taken
+abbrev pub switches : ℤ → ℤ → Term → Term
+switches c a t = if int_eq c (pos 0) then both Ge t (constant a) else if int_eq c (pos 1) then both Gt t (constant a) else both Ne t (constant a)
+
+-- low to high, a low below
+abbrev pub brought : ℤ → ℤ → Term → List Step
+brought low high t = set t ∷ set_if (both Gt result (constant high)) (constant high) ∷ set_if (both Lt t (constant low)) (constant low) ∷ []
+
+-- ---- the recipes
+
+-- element e of all inputs together, counted from input k on
+abbrev pub flat_from : List Port → ℕ → ℕ → Term
+flat_from [] k e = input k e
+flat_from (p ∷ ps) k e = if nat_lt e (elements p) then input k e else flat_from ps (suc k) (e - elements p)
+
+-- Element e of the outputs, counted through all of them. A SENSOR's is no recipe, since it asks for its value.
+abbrev pub recipe_of : Kind → Spec → ℕ → Recipe
+recipe_of Const s e = plain (constant (spread s.params e))
+recipe_of Summation s e = fitted_out (out_type s) (mode_of (param s 0)) (set (natural 0) ∷ terms s e 0 (length s.ins))
+recipe_of GainBlk s e = product (out_type s) (mode_of (param s 0)) (constant (param s 1)) (input 0 e)
+recipe_of Product s e =
+    if int_eq (param s 1) (pos 1) then product (out_type s) (mode_of (param s 0)) (input 0 e) (input 1 e)
+    else quotient (out_type s) (mode_of (param s 0)) (input 0 e) (input 1 e)
+recipe_of AbsValue s e = fitted_out (out_type s) (mode_of (param s 0)) (set (input 0 e) ∷ set_if (both Lt result (natural 0)) (both Sub (natural 0) result) ∷ [])
+recipe_of Signum s e = plain (both Sub (both Gt (input 0 e) (natural 0)) (both Lt (input 0 e) (natural 0)))
+recipe_of MaxMin s e =
+    worked_out (set (input 0 e) ∷ extremes (if int_eq (param s 0) (pos 1) then Lt else Gt) e 1 (length s.ins - 1))
+recipe_of Saturation s e = worked_out (brought (param s 0) (param s 1) (input 0 e))
+recipe_of DeadBand s e =
+    fitted_out (out_type s) (mode_of (param s 0)) (set (natural 0) ∷ set_if (both Lt (input 0 e) (constant (param s 1))) (both Sub (input 0 e) (constant (param s 1)))
+    ∷ set_if (both Gt (input 0 e) (constant (param s 2))) (both Sub (input 0 e) (constant (param s 2))) ∷ [])
+recipe_of Convert s e = fitted_out (out_type s) (mode_of (param s 0)) (set (input 0 e) ∷ [])
+recipe_of Mux s e = plain (flat_from s.ins 0 e)
+recipe_of Demux s e = plain (input 0 e)
+recipe_of Extractor s e = plain (input 0 (unsigned_abs (param s e) - 1))
+recipe_of LogicalOp s e = logical_operation (out_type s) (param s 0) (param s 1) (length s.ins) e
+recipe_of RelationalOp s e = plain (both (relation (param s 0)) (input 0 e) (input 1 e))
+recipe_of Shift s e = shift (out_type s) (param s 0) (param s 1) (input 0 e)
+recipe_of BitSet s e = with_bit (out_type s) (unsigned_abs (param s 0)) (input 0 e)
+recipe_of BitClear s e = without_bit (out_type s) (unsigned_abs (param s 0)) (input 0 e)
+recipe_of ExtractBits s e = bits (out_type s) (unsigned_abs (param s 0)) (unsigned_abs (param s 1)) (input 0 e)
+recipe_of Switch2 s e = worked_out (set (input 2 e) ∷ set_if (switches (param s 0) (param s 1) (input 1 0)) (input 0 e) ∷ [])
+recipe_of Select s e = worked_out (set (natural 0) ∷ selected e s.evtin)
+recipe_of Logic s e = worked_out (change (assign 2 (natural 0)) ∷ set (natural 0) ∷ row_digits 0 (length s.ins) ++ row_entry s e 0 (2 ^ length s.ins))
+recipe_of AndLog s e = plain (both Sub (both Mul (natural 2) (both Eq mask (natural 3))) (natural 1))
+recipe_of Dollar s e = plain (state e)
+recipe_of SampHold s e = plain (input 0 e)
+recipe_of Register s e = plain (state 0)
+recipe_of ModuloCount s e = plain (state 0)
+recipe_of GatedDelay s e = plain (both Mul (both Gt (input 1 0) (natural 0)) (state e))
+recipe_of Sensor s e = plain (natural 0)
+recipe_of EvtDly s e = plain (natural 0)
+recipe_of EvtVarDly s e = plain (natural 0)
+recipe_of IfThEl s e = plain (natural 0)
+recipe_of ESelect s e = plain (natural 0)
+recipe_of Halt s e = plain (natural 0)
+
+-- Value i of the next state. The values are assigned in order, so a term may read the state from value i on alone.
+abbrev pub next_term : Kind → Spec → ℕ → Term
+next_term Dollar s i = input 0 i
+next_term GatedDelay s i = input 0 i
+next_term Register s i = if nat_lt (i + 1) (length s.state) then state (i + 1) else input 0 0
+next_term ModuloCount s i = modulo (both Add (state 0) (natural 1)) (unsigned_abs (param s 0))
+next_term _ s i = natural 0
+
+-- t where it is at most the most, else the most
+abbrev pub at_most : ℕ → Term → Term
+at_most n t = both Add (both Mul (both Le t (natural n)) t) (both Mul (both Gt t (natural n)) (natural n))
+
+-- the delay of an activation output
+abbrev pub delay_term : Kind → Spec → Term
+delay_term EvtDly s = constant (param s 0)
+delay_term EvtVarDly s = both Sub (both Mul (both Ge (input 0 0) (natural 0)) (at_most 2147483647 (input 0 0))) (both Lt (input 0 0) (natural 0))
+delay_term _ s = constant (negsuc 0)
+
+-- the branch that a synchronous block takes
+abbrev pub branch_term : Kind → Spec → Term
+branch_term IfThEl s = both Sub (natural 2) (both Gt (input 0 0) (natural 0))
+branch_term ESelect s = both Add (both Mul (both Ge (input 0 0) (natural 1)) (at_most s.evtout (input 0 0))) (both Lt (input 0 0) (natural 1))
+branch_term _ s = natural 1
+
+-- ---- what they may read
+
+-- how many scratch numbers the values take
+abbrev pub scratch_of : Kind → Spec → ℕ
+scratch_of Summation s = 1
+scratch_of GainBlk s = 1
+scratch_of Product s = 1
+scratch_of AbsValue s = 1
+scratch_of MaxMin s = 1
+scratch_of Saturation s = 1
+scratch_of DeadBand s = 1
+scratch_of Convert s = 1
+scratch_of LogicalOp s = if int_eq (param s 1) (pos 0) then 1 else 4
+scratch_of Shift s = if int_eq (param s 1) (pos 0) then 0 else 1
+scratch_of Switch2 s = 1
+scratch_of Select s = 1
+scratch_of Logic s = 2
+scratch_of Sensor s = 1
+scratch_of _ s = 0
+
+abbrev pub given : Spec → List ℤ → ℕ → List ℤ → Given
+given s x m u = record { input = λ k e. at u (before s.ins k + e); state = at x; mask = m }
+
+abbrev pub IsElement : Spec → ℕ → ℕ → Type 0
+IsElement s k e = (k < length s.ins) × (e < elements (port_at s.ins k))
+
+-- for the values: the inputs with feedthrough, and the state
+abbrev pub fed : Spec → Readable
+fed s = record { input = λ k e. IsElement s k e × (truth_at s.feed k ≡ true); state = λ i. i < state_len_of s.kind s; scratch = scratch_of s.kind s }
+
+-- for value i of the next state: all inputs, and the state from this value on
+abbrev pub from_value : Spec → ℕ → Readable
+from_value s i = record { input = IsElement s; state = λ j. (i ≤ j) × (j < state_len_of s.kind s); scratch = 0 }
+
+-- for delays and branches: all inputs
+abbrev pub inputs : Spec → Readable
+inputs s = record { input = IsElement s; state = λ i. ⊥; scratch = 0 }

@@ -1,0 +1,97 @@
+-- The C text of a block: its recipes as statements over the program's arrays.
+use Rattle.std.specs.Prelude.{ℕ, ◌+◌, ℤ, pos, List, [], ◌∷◌, slice_index_or}
+use Rattle.sci_forms.specs.declared.Kind.{Kind}
+use Rattle.sci_forms.specs.declared.Kind.TheVariants.{Sensor}
+use Rattle.sci_forms.specs.declared.spec.Spec.{Spec}
+use Rattle.sci_forms.specs.Ports.{total}
+use Rattle.sci_forms.specs.Words.{param, state_len_of}
+use Rattle.c_ast.specs.declared.Name.{Name}
+use Rattle.c_ast.specs.declared.Bound.TheVariants as bounds
+use Rattle.c_ast.specs.Syntax.{Exp, num, var, bin, scalar, cell, more, input as next_input, tell, stop, Statement, set, ask, choice, loop, Block, done, next}
+use Rattle.c_steps.specs.Places.{named}
+use Rattle.c_steps.specs.Texts.{number, place, upto}
+use Rattle.sci_cgen_blocks.specs.Terms.{Term, constant, input, state, mask, scratch, both, Work, assign, assign_if, Step, change, stop_if, repeat, Recipe}
+use Rattle.sci_cgen_blocks.specs.Recipes.{recipe_of, next_term, delay_term, branch_term}
+
+-- Where a block's places lie: its number, of each input the first place in the array of values, the first place of its outputs there, of its state in the array of
+-- states, and its mask's place in the array of masks.
+pub record Places : Type 0 where
+  pub number : ℕ
+  pub ins : List ℕ
+  pub outs : ℕ
+  pub state : ℕ
+  pub mask : ℕ
+
+-- the arrays of all output values, states and masks
+abbrev pub values : Name
+values = named 118 1
+
+abbrev pub states : Name
+states = named 118 2
+
+abbrev pub masks : Name
+masks = named 118 3
+
+-- t1 to t16
+abbrev pub scratch_name : ℕ → Name
+scratch_name n = named 116 n
+
+abbrev pub input_place : Places → ℕ → ℕ → ℕ
+input_place p k e = slice_index_or p.ins k 0 + e
+
+abbrev pub expression : Places → Term → Exp
+expression p (constant z) = number z
+expression p (input k e) = place values (input_place p k e)
+expression p (state i) = place states (p.state + i)
+expression p mask = place masks p.mask
+expression p (scratch n) = var (scratch_name n)
+expression p (both op a b) = bin op (expression p a) (expression p b)
+
+abbrev pub work_statement : Places → Work → Statement
+work_statement p (assign n t) = set (scalar (scratch_name n)) (expression p t)
+work_statement p (assign_if c n t) = choice (expression p c) (next (set (scalar (scratch_name n)) (expression p t)) done) done
+
+abbrev pub works_text : Places → List Work → Block
+works_text p [] = done
+works_text p (w ∷ ws) = next (work_statement p w) (works_text p ws)
+
+-- the run stops by this word at the block
+abbrev pub stop_text : ℕ → ℕ → Block
+stop_text word b = next (tell (stop (num (pos word)) (num (pos b)) (num (pos 0)))) done
+
+abbrev pub step_statement : Places → Step → Statement
+step_statement p (change w) = work_statement p w
+step_statement p (stop_if c word) = choice (expression p c) (stop_text word p.number) done
+step_statement p (repeat n k ws) = loop (scratch_name n) (bounds.Num (pos k)) (works_text p ws)
+
+abbrev pub steps_text : Places → List Step → Block → Block
+steps_text p [] rest = rest
+steps_text p (x ∷ xs) rest = next (step_statement p x) (steps_text p xs rest)
+
+-- element e of the outputs becomes what the recipe gives
+abbrev pub recipe_text : Places → ℕ → Recipe → Block
+recipe_text p e r = steps_text p r.steps (next (set (cell values (num (pos (p.outs + e)))) (expression p r.value)) done)
+
+-- the next value of the column, or the stop where it has none
+abbrev pub sensor_text : Places → ℤ → Block
+sensor_text p column =
+    next (ask (scalar (scratch_name 1)) (more (num column)))
+    (next (choice (var (scratch_name 1)) (next (ask (cell values (num (pos p.outs))) (next_input (num column))) done) (stop_text 2 p.number)) done)
+
+abbrev pub values_text : Kind → Spec → Places → Block
+values_text Sensor s p = sensor_text p (param s 0)
+values_text c s p = upto (λ e. recipe_text p e (recipe_of c s e)) (total s.outs)
+
+-- the block's values
+abbrev pub body_text : Spec → Places → Block
+body_text s p = values_text s.kind s p
+
+-- the block's next state
+abbrev pub next_text : Spec → Places → Block
+next_text s p = upto (λ i. next (set (cell states (num (pos (p.state + i)))) (expression p (next_term s.kind s i))) done) (state_len_of s.kind s)
+
+abbrev pub delay_expression : Spec → Places → Exp
+delay_expression s p = expression p (delay_term s.kind s)
+
+abbrev pub branch_expression : Spec → Places → Exp
+branch_expression s p = expression p (branch_term s.kind s)
