@@ -48,7 +48,8 @@ values_within : (c : Kind) (s : Spec) (p : Places) → (c ≡ Sensor) ⊎ (c ≢
 values_within c s p (inl e) = subst (λ (c : Kind). block_within (may_values (takes_input c)) (values_text c s p) ≡ true) (sym e) refl
 values_within c s p (inr n) =
     subst (λ (b : Block). block_within (may_values (takes_input c)) b ≡ true) (sym (values_are c s p n))
-    (upto_within (may_values (takes_input c)) (λ e. recipe_text p e (recipe_of c s e)) (total s.outs) (λ e h. recipe_within (takes_input c) p e (recipe_of c s e)))
+    (upto_within (may_values (takes_input c)) (λ e. recipe_text p e (recipe_of c s e)) (total s.outs)
+    (λ e h. recipe_within (takes_input c) p e (recipe_of c s e)))
 
 -- The text of the values assigns scratch and values alone, calls nothing and shows nothing; a SENSOR's alone takes input.
 pub body_within : (s : Spec) (p : Places) → block_within (body_may s) (body_text s p) ≡ true

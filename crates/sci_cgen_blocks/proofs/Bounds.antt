@@ -29,7 +29,7 @@ use Rattle.sci_cgen_blocks.proofs.Sensing.{sensor_values, sensor_column, sensor_
 -- ---- expressions
 
 -- what fits fits where more do
-fits_more : (d d' : ℕ) (e : Exp) → Fits d e → d ≤ d' → Fits d' e
+pub fits_more : (d d' : ℕ) (e : Exp) → Fits d e → d ≤ d' → Fits d' e
 fits_more zero d' e f l = absurd f
 fits_more (suc d) zero e f l = absurd (omega (arith, l))
 fits_more (suc d) (suc d') (num z) f l = f
@@ -92,7 +92,8 @@ module _ (p : Places) (r : Readable) (h : HasBounds p r) where
       (is_exp p r h c f.0, ((number_is_exp word (omega (arith, f.1)), number_is_exp p.number h.number, number_is_exp 0 (omega arith)), tt), tt)
   step_fits d (repeat n k ws) f = (scratch_is_name p r n h f.0.1, omega (arith, f.1), works_fit d ws f.2)
 
-  steps_fit : (d : ℕ) (xs : List Step) (rest : Block) → StepsFit r xs → BlockFits (suc (suc (suc d))) rest → BlockFits (suc (suc (suc d))) (steps_text p xs rest)
+  steps_fit : (d : ℕ) (xs : List Step) (rest : Block) → StepsFit r xs → BlockFits (suc (suc (suc d))) rest
+      → BlockFits (suc (suc (suc d))) (steps_text p xs rest)
   steps_fit d [] rest f q = q
   steps_fit d (x ∷ xs) rest f q = (step_fits d x f.0, steps_fit d xs rest f.1 q)
 
@@ -100,11 +101,11 @@ module _ (p : Places) (r : Readable) (h : HasBounds p r) where
   recipe_fits d e x f q =
       steps_fit d x.steps _ f.0 ((((refl, omega arith), number_is_exp (p.outs + e) q), is_exp p r h x.value f.1), tt)
 
-joined_fits : (d : ℕ) (a b : Block) → BlockFits d a → BlockFits d b → BlockFits d (joined a b)
+pub joined_fits : (d : ℕ) (a b : Block) → BlockFits d a → BlockFits d b → BlockFits d (joined a b)
 joined_fits d done b p q = q
 joined_fits d (next s a) b p q = (p.0, joined_fits d a b p.1 q)
 
-upto_fits : (d : ℕ) (f : ℕ → Block) (n : ℕ) → ((e : ℕ) → e < n → BlockFits d (f e)) → BlockFits d (upto f n)
+pub upto_fits : (d : ℕ) (f : ℕ → Block) (n : ℕ) → ((e : ℕ) → e < n → BlockFits d (f e)) → BlockFits d (upto f n)
 upto_fits d f zero go = tt
 upto_fits d f (suc n) go = joined_fits d (upto f n) (f n) (upto_fits d f n (λ e h. go e (omega (arith, h)))) (go n (omega arith))
 
@@ -166,14 +167,18 @@ module _ (s : Spec) (p : Places) (places : AreInBounds s p) where
 
   pub next_fits : NextReadsLaw → typed s ≡ true → (d : ℕ) → BlockFits (suc d) (next_text s p)
   next_fits reads is_typed d = upto_fits (suc d) _ (state_len_of s.kind s) (λ i l. (
-    (((refl, omega arith), number_is_exp (p.state + i) (omega (arith, l, places.state))), is_exp p (from_value s i) (from_bounds i) (next_term s.kind s i) (reads s is_typed i l)),
+    (
+      ((refl, omega arith), number_is_exp (p.state + i) (omega (arith, l, places.state))),
+      is_exp p (from_value s i) (from_bounds i) (next_term s.kind s i) (reads s is_typed i l),
+    ),
     tt,
   ))
 
   pub values_fit : CellReadsLaw → typed s ≡ true → s.kind ≢ Sensor → (d : ℕ) → BlockFits (suc (suc (suc d))) (body_text s p)
   values_fit reads is_typed other d =
       subst (BlockFits (suc (suc (suc d)))) (sym (values_are s.kind s p other))
-      (upto_fits (suc (suc (suc d))) _ (total s.outs) (λ e l. recipe_fits p (fed s) fed_bounds d e (recipe_of s.kind s e) (reads s is_typed other e l) (omega (arith, l, places.outs))))
+      (upto_fits (suc (suc (suc d))) _ (total s.outs) (λ e l.
+      recipe_fits p (fed s) fed_bounds d e (recipe_of s.kind s e) (reads s is_typed other e l) (omega (arith, l, places.outs))))
 
   pub senses_fit : typed s ≡ true → s.kind ≡ Sensor → (d : ℕ) → BlockFits (suc (suc d)) (body_text s p)
   senses_fit is_typed kind d =
@@ -202,10 +207,14 @@ some_inputs ps =
     let l = listed_at (λ e. pos 0) (total ps) in
     record { enough = l.0; in_range = λ e h. subst (InRange (type_at ps e)) (sym (l.1 e h)) (zero_in_range (type_at ps e)) }
 
+pub delay_reads : (s : Spec) → typed s ≡ true → has_delay s.kind ≡ true → TermFits (inputs s) 32 (delay_term s.kind s)
+delay_reads s is_typed has = (delay_term_law s [] 0 0 (listed (λ e. pos 0) (total s.ins)) is_typed has (some_inputs s.ins) (λ n. pos 0)).1
+
+pub branch_reads : (s : Spec) → typed s ≡ true → is_sync s.kind ≡ true → TermFits (inputs s) 32 (branch_term s.kind s)
+branch_reads s is_typed sync = (branch_term_law s [] 0 (listed (λ e. pos 0) (total s.ins)) is_typed sync (some_inputs s.ins) (λ n. pos 0)).1
+
 pub delay_fits_all : (s : Spec) (p : Places) → typed s ≡ true → has_delay s.kind ≡ true → AreInBounds s p → IsExp (delay_expression s p)
-delay_fits_all s p is_typed has places =
-    delay_fits s p places (delay_term_law s [] 0 0 (listed (λ e. pos 0) (total s.ins)) is_typed has (some_inputs s.ins) (λ n. pos 0)).1
+delay_fits_all s p is_typed has places = delay_fits s p places (delay_reads s is_typed has)
 
 pub branch_fits_all : (s : Spec) (p : Places) → typed s ≡ true → is_sync s.kind ≡ true → AreInBounds s p → IsExp (branch_expression s p)
-branch_fits_all s p is_typed sync places =
-    branch_fits s p places (branch_term_law s [] 0 (listed (λ e. pos 0) (total s.ins)) is_typed sync (some_inputs s.ins) (λ n. pos 0)).1
+branch_fits_all s p is_typed sync places = branch_fits s p places (branch_reads s is_typed sync)

@@ -40,17 +40,20 @@ module _ (env : Around) (p : Places) (r : Readable) (g : Given) (e : ℕ) (w : W
         put_there w' w'' values (p.outs + e) v q,
       ))
 
+  before : (s : Scratch) → ShowsGiven p r g s w → IsWorked p r g (p.outs + e) 1 w s w
+  before s h = record { keeps = keeps_all is_scratch values (p.outs + e) 1 w; shows = h }
+
   -- A recipe that gives a cell: its text does it.
   pub recipe_does : (x : Recipe) (c : Cell) (k : ℕ) (s : Scratch) → RecipeFits r x → ShowsGiven p r g s w → Gives g x s c
       → DoesCell p e w c (run_block env k (recipe_text p e x) w)
   recipe_does x (Value v) k s f h gives =
-      steps_run env p r g (p.outs + e) 1 w (DoesCell p e w (Value v)) x.steps _ k w s f.0 (record { keeps = keeps_all is_scratch values (p.outs + e) 1 w; shows = h })
+      steps_run env p r g (p.outs + e) 1 w (DoesCell p e w (Value v)) x.steps _ k w s f.0 (before s h)
       (subst (After env p r g (p.outs + e) 1 w (DoesCell p e w (Value v)) _) (sym gives.works) (λ k' w' h'. put_leads x k' gives.behind v w' f h' gives.is))
   recipe_does x Overflow k s f h gives =
-      steps_run env p r g (p.outs + e) 1 w (DoesCell p e w Overflow) x.steps _ k w s f.0 (record { keeps = keeps_all is_scratch values (p.outs + e) 1 w; shows = h })
+      steps_run env p r g (p.outs + e) 1 w (DoesCell p e w Overflow) x.steps _ k w s f.0 (before s h)
       (subst (After env p r g (p.outs + e) 1 w (DoesCell p e w Overflow) _) (sym gives) (λ ran q. q))
   recipe_does x Zero k s f h gives =
-      steps_run env p r g (p.outs + e) 1 w (DoesCell p e w Zero) x.steps _ k w s f.0 (record { keeps = keeps_all is_scratch values (p.outs + e) 1 w; shows = h })
+      steps_run env p r g (p.outs + e) 1 w (DoesCell p e w Zero) x.steps _ k w s f.0 (before s h)
       (subst (After env p r g (p.outs + e) 1 w (DoesCell p e w Zero) _) (sym gives) (λ ran q. q))
 
 -- ---- all elements

@@ -24,3 +24,8 @@ pub mod Sensing
 pub mod NextTexts
 pub mod Bounds
 pub mod Assigned
+pub mod Rules
+pub mod TextRules
+pub mod KindBounds
+pub mod Written
+pub mod WholeRules

@@ -40,19 +40,24 @@ module _ (env : Around) (s : Spec) (p : Places) (x : List ℤ) (m : ℕ) (u : Li
     scratch = λ k l r. absurd (omega (arith, l, r));
   }
 
+  abbrev value_at : ℕ → ℤ
+  value_at n = next_of s.kind s x m u n
+
   one_value : (n : ℕ) → n < state_len_of s.kind s → (k : ℕ) (w' : World) → IsPart s p x m u w n w'
       → value_of (expression p (next_term s.kind s n)) w' ≡ Some (next_of s.kind s x m u n)
       → Leads (run_block env k (next (set (cell states (num (pos (p.state + n)))) (expression p (next_term s.kind s n))) done) w') (IsPart s p x m u w (suc n))
   one_value n l k w' h is =
-      cell_runs (λ q. Leads q (IsPart s p x m u w (suc n))) env k states (p.state + n) (expression p (next_term s.kind s n)) done w' (next_of s.kind s x m u n) is
+      cell_runs (λ q. Leads q (IsPart s p x m u w (suc n))) env k states (p.state + n) (expression p (next_term s.kind s n)) done w' (value_at n) is
       (record { holds = at x n; is = h.old n (omega arith) l })
       (λ k' w'' q. done_leads env k' w'' (record {
-        keeps = keeps_then h.keeps (keeps_cell is_scratch states p.state (state_len_of s.kind s) w' w'' (p.state + n) (next_of s.kind s x m u n) (omega arith) (omega (arith, l)) q);
+        keeps = keeps_then h.keeps
+            (keeps_cell is_scratch states p.state (state_len_of s.kind s) w' w'' (p.state + n) (value_at n) (omega arith) (omega (arith, l)) q);
         new = λ i r. elim (cases_lt i n) [
-          | inl b ↦ put_apart w' w'' states (p.state + n) (next_of s.kind s x m u n) states (p.state + i) q (λ e. omega (arith, e, b)) ∙ h.new i b
-          | inr b ↦ let e : i ≡ n = omega (arith, r, b) in rw e (put_there w' w'' states (p.state + n) (next_of s.kind s x m u n) q)
+          | inl b ↦ put_apart w' w'' states (p.state + n) (value_at n) states (p.state + i) q (λ e. omega (arith, e, b)) ∙ h.new i b
+          | inr b ↦ let e : i ≡ n = omega (arith, r, b) in rw e (put_there w' w'' states (p.state + n) (value_at n) q)
         ];
-        old = λ i r b. put_apart w' w'' states (p.state + n) (next_of s.kind s x m u n) states (p.state + i) q (λ e. omega (arith, e, r)) ∙ h.old i (omega (arith, r)) b;
+        old = λ i r b. put_apart w' w'' states (p.state + n) (value_at n) states (p.state + i) q (λ e. omega (arith, e, r))
+            ∙ h.old i (omega (arith, r)) b;
       }))
 
   abbrev text : ℕ → Block
@@ -73,7 +78,8 @@ module _ (env : Around) (s : Spec) (p : Places) (x : List ℤ) (m : ℕ) (u : Li
       partly (suc n) l k =
           joined_leads (λ q. Leads q (IsPart s p x m u w (suc n))) env k (upto text n) (text n) w (partly n (omega (arith, l)) k)
           (λ k' w' h. one_value n (omega (arith, l)) k' w' h
-          (expression_is p (from_value s n) (given s x m u) (scratch_in w') w' (shows_from n w' h) 32 (next_term s.kind s n) (reads s is_typed n (omega (arith, l)))
+          (expression_is p (from_value s n) (given s x m u) (scratch_in w') w' (shows_from n w' h) 32 (next_term s.kind s n)
+          (reads s is_typed n (omega (arith, l)))
           ∙ gives s x m u is_typed st fills n (omega (arith, l)) (scratch_in w')))
 
 -- ---- delays and branches

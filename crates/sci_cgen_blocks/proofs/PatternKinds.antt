@@ -116,7 +116,8 @@ module _ (g : Given) (ty : Ty) (t : Term) (s : Scratch) (z : ℤ) (e : value g s
       let p = pattern_is e ty w in
       let most = mul-le (1 - bit_at (pattern ty z) k) (2 ^ k) 1 2147483648 (omega arith) (pow_at_most k h) in
       let room = small_pattern in
-      let part = times {q = Some (pos (2 ^ k))} (minus {p = Some (pos 1)} refl (bit_is p k (omega (arith, room))) (omega arith) (omega arith)) refl (omega (arith, most)) in
+      let gap = minus {p = Some (pos 1)} refl (bit_is p k (omega (arith, room))) (omega arith) (omega arith) in
+      let part = times {q = Some (pos (2 ^ k))} gap refl (omega (arith, most)) in
       let sum = plus p part (omega (arith, most, room)) ∙ ap (λ (x : ℕ). Some (pos x)) (set_sum (pattern ty z) k) in
       number_gives g ty _ s (set_bit (pattern ty z) k) sum (omega (arith, most, room, set_sum (pattern ty z) k))
 

@@ -34,23 +34,26 @@ takes_keeps w w' o c v vs t =
     (record { same = k.same; there = λ y j h. let g = k.there y j h in record { holds = g.holds; is = g.is } }, put_there w before values o v put)
 
 module _ (env : Around) (p : Places) (c : ℕ) (w : World) (room : Has w values p.outs) (scratch : Has w (scratch_name 1) 0) where
+  abbrev taking : Block
+  taking = next (ask (cell values (num (pos p.outs))) (input (num (pos (suc c))))) done
+
   -- behind the question
   abbrev rest : Block
-  rest = next (choice (var (scratch_name 1)) (next (ask (cell values (num (pos p.outs))) (input (num (pos (suc c))))) done) (stop_text 2 p.number)) done
+  rest = next (choice (var (scratch_name 1)) taking (stop_text 2 p.number)) done
 
   keeps_one : (w' : World) (v : ℤ) → Puts w (scratch_name 1) 0 v w' → KeepsPlaces is_scratch values p.outs 1 w w'
   keeps_one w' v q = keeps_places (keeps_spare is_scratch values p.outs 1 w w' (scratch_name 1) 0 v refl q)
 
   ends : (k : ℕ) (w' : World) → Puts w (scratch_name 1) 0 (pos 0) w' → Stops (run_block env k rest w') Input p.number
   ends k w' q =
-      else_runs (λ r. Stops r Input p.number) env k (var (scratch_name 1)) (next (ask (cell values (num (pos p.outs))) (input (num (pos (suc c))))) done) (stop_text 2 p.number) done w'
+      else_runs (λ r. Stops r Input p.number) env k (var (scratch_name 1)) taking (stop_text 2 p.number) done w'
       (put_there w w' (scratch_name 1) 0 (pos 0) q) (λ a m. then_stops (run_block env a (stop_text 2 p.number) w') (run_block env m done) Input p.number
       (stop_stops env a (num (pos 2)) (num (pos p.number)) (num (pos 0)) done w' (pos 2) Input p.number refl refl refl refl))
 
   takes : (k : ℕ) (w' : World) (v : ℤ) (vs : List ℤ) → slice_get w.left c ≡ Some (v ∷ vs) → Puts w (scratch_name 1) 0 (pos 1) w'
       → TakesFirst p c (v ∷ vs) w (run_block env k rest w')
   takes k w' v vs e q =
-      if_runs (TakesFirst p c (v ∷ vs) w) env k (var (scratch_name 1)) (next (ask (cell values (num (pos p.outs))) (input (num (pos (suc c))))) done) (stop_text 2 p.number) done w'
+      if_runs (TakesFirst p c (v ∷ vs) w) env k (var (scratch_name 1)) taking (stop_text 2 p.number) done w'
       (put_there w w' (scratch_name 1) 0 (pos 1) q) (λ a m.
       input_runs (λ r. TakesFirst p c (v ∷ vs) w (then_run r (run_block env m done))) env a (cell values (num (pos p.outs))) (num (pos (suc c))) done w' values
       p.outs c v vs (refl, refl) refl (ap (λ (l : List (List ℤ)). slice_get l c) q.left ∙ e) (has_puts w w' (scratch_name 1) 0 (pos 1) values p.outs q room)

@@ -44,7 +44,8 @@ stop_is (suc (suc n)) h = absurd (omega (arith, h))
 
 work_spares : (g : Given) (n : ℕ) (x : Work) → nat_eq (changes x) n ≡ false → (s s' : Scratch) → do_work g x s ≡ Some s' → s' n ≡ s n
 work_spares g n (assign k t) d s s' e =
-    let v = bind_some (value g s t) (λ v. Some (with_scratch k v s)) s' e in ap (λ (f : Scratch). f n) (sym (some_scratch (with_scratch k v.0 s) s' v.1.1)) ∙ rw d refl
+    let v = bind_some (value g s t) (λ v. Some (with_scratch k v s)) s' e in
+    ap (λ (f : Scratch). f n) (sym (some_scratch (with_scratch k v.0 s) s' v.1.1)) ∙ rw d refl
 work_spares g n (assign_if c k t) d s s' e =
     let z = bind_some (value g s c) (work_under g s k t) s' e in by_test (is_zero z.0) z.1.1
   where
@@ -62,7 +63,8 @@ works_spare g n (x ∷ ws) d s s' e =
 -- ---- statements
 
 -- Between two turns: these are left, and they come to the scratch numbers s'.
-record IsBetween (p : Places) (r : Readable) (g : Given) (o n : ℕ) (w0 : World) (c : ℕ) (ws : List Work) (turns : ℕ) (s' : Scratch) (i : ℕ) (w : World) : Type 0 where
+record IsBetween (p : Places) (r : Readable) (g : Given) (o n : ℕ) (w0 : World) (c : ℕ) (ws : List Work) (turns : ℕ) (s' : Scratch) (i : ℕ)
+    (w : World) : Type 0 where
   pub left : ℕ
   pub count : i + left ≡ turns
   pub now : Scratch
@@ -144,8 +146,9 @@ module _ (env : Around) (p : Places) (r : Readable) (g : Given) (o n : ℕ) (w0 
           one_more : (i : ℕ) → (pos i +ℤ pos 1) ≡ pos (suc i)
           one_more i = omega (arith, ints)
 
-  repeat_runs : (Q : Ran → Type 0) (c turns : ℕ) (ws : List Work) (rest : Block) (k : ℕ) (w : World) (s s' : Scratch) → StepFits r (repeat c turns ws) → AsWorked s w
-      → do_turns g c ws turns (with_scratch c (pos 0) s) ≡ Some s' → ((k : ℕ) (w' : World) → AsWorked s' w' → Q (run_block env k rest w'))
+  repeat_runs : (Q : Ran → Type 0) (c turns : ℕ) (ws : List Work) (rest : Block) (k : ℕ) (w : World) (s s' : Scratch)
+      → StepFits r (repeat c turns ws) → AsWorked s w → do_turns g c ws turns (with_scratch c (pos 0) s) ≡ Some s'
+      → ((k : ℕ) (w' : World) → AsWorked s' w' → Q (run_block env k rest w'))
       → Q (run_block env k (next (step_statement p (repeat c turns ws)) rest) w)
   repeat_runs Q c turns ws rest k w s s' f h e go =
       for_leads env (scratch_name c) (bounds.Num (pos turns)) turns (works_text p ws) (IsBetween p r g o n w0 c ws turns s') (omega (arith, f.1))
@@ -194,8 +197,8 @@ module _ (env : Around) (p : Places) (r : Readable) (g : Given) (o n : ℕ) (w0 
       by_result None e go = absurd go
 
   -- Where steps are worked, the run goes on behind them; where they stop, it ends by that stop of the block.
-  pub steps_run : (Q : Ran → Type 0) (xs : List Step) (rest : Block) (k : ℕ) (w : World) (s : Scratch) → StepsFit r xs → AsWorked s w → After Q rest (do_steps g xs s)
-      → Q (run_block env k (steps_text p xs rest) w)
+  pub steps_run : (Q : Ran → Type 0) (xs : List Step) (rest : Block) (k : ℕ) (w : World) (s : Scratch) → StepsFit r xs → AsWorked s w
+      → After Q rest (do_steps g xs s) → Q (run_block env k (steps_text p xs rest) w)
   steps_run Q [] rest k w s f h go = go k w h
   steps_run Q (x ∷ xs) rest k w s f h go =
       step_runs Q x (steps_text p xs rest) k w s f.0 h

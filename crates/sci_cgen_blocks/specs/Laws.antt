@@ -1,5 +1,5 @@
 -- The recipes are right: each gives what the table of kinds says, and reads nothing but what the block has. And so are the texts made of them.
-use Rattle.std.specs.Prelude.{◌≡◌, ◌≢◌, ℕ, suc, ◌<◌, ℤ, pos, List, Some, true}
+use Rattle.std.specs.Prelude.{◌≡◌, ◌≢◌, ℕ, suc, ◌<◌, ℤ, pos, List, Some, None, true}
 use Rattle.sci_forms.specs.declared.Kind.TheVariants.{Sensor}
 use Rattle.sci_forms.specs.declared.spec.Spec.{Spec}
 use Rattle.sci_forms.specs.Ports.{total, Fills}
@@ -8,14 +8,19 @@ use Rattle.sci_forms.specs.Forms.{is_sync, has_delay}
 use Rattle.sci_forms.specs.Typed.{typed}
 use Rattle.sci_kinds.specs.Asks.{IsState, IsMask}
 use Rattle.sci_kinds.specs.Table.{cell, out, next_of, delay, branch}
+use Rattle.c_ast.specs.declared.events.Opened.{Opened}
+use Rattle.c_ast.specs.Syntax.{Block}
 use Rattle.c_ast.specs.Bounds.{BlockFits, IsExp}
+use Rattle.c_ast.specs.Events.{block_events}
+use Rattle.c_ast.specs.Rules.{Scope, first_blamed}
 use Rattle.c_mean.specs.Meaning.{World, Around, run_block}
 use Rattle.c_steps.specs.Places.{HasValue, Has}
 use Rattle.c_steps.specs.Texts.{block_within}
 use Rattle.sci_cgen_blocks.specs.Terms.{Scratch, Gives, value, RecipeFits, TermFits}
-use Rattle.sci_cgen_blocks.specs.Recipes.{recipe_of, next_term, delay_term, branch_term, given, fed, from_value, inputs}
-use Rattle.sci_cgen_blocks.specs.Texts.{Places, values, scratch_name, body_text, next_text, delay_expression, branch_expression}
+use Rattle.sci_cgen_blocks.specs.Recipes.{recipe_of, next_term, delay_term, branch_term, scratch_of, given, fed, from_value, inputs}
+use Rattle.sci_cgen_blocks.specs.Texts.{Places, values, states, scratch_name, body_text, next_text, delay_expression, branch_expression}
 use Rattle.sci_cgen_blocks.specs.Meant.{Holds, IsFed, IsAny, IsApart, Answers, NextIs, Senses, AreInBounds, body_may, next_may}
+use Rattle.sci_cgen_blocks.specs.Keeping.{Scene, ReadsWell, MayAssign, BlockKeeps, StandsIn, HasBlockNames, MayWork}
 
 -- each element's recipe gives its cell, whatever scratch holds before
 abbrev pub CellLaw : Type 0
@@ -47,7 +52,8 @@ BranchTermLaw =
 
 -- ---- what the texts do in a memory
 
--- From a memory that holds the block's state, its mask and its inputs with feedthrough, the text of its values leaves what the table of kinds says, or ends the run by the stop.
+-- From a memory that holds the block's state, its mask and its inputs with feedthrough, the text of its values leaves what the table of kinds says, or
+-- ends the run by the stop.
 abbrev pub ValuesLaw : Type 0
 ValuesLaw =
     (env : Around) (s : Spec) (p : Places) (x : List ℤ) (m : ℕ) (u : List ℤ) (n : ℕ) (w : World) → typed s ≡ true → s.kind ≢ Sensor → IsState s x
@@ -89,3 +95,14 @@ pub record BoundsLaw : Type 0 where
   pub next : (s : Spec) (p : Places) → typed s ≡ true → AreInBounds s p → (d : ℕ) → BlockFits (suc d) (next_text s p)
   pub delay : (s : Spec) (p : Places) → typed s ≡ true → has_delay s.kind ≡ true → AreInBounds s p → IsExp (delay_expression s p)
   pub branch : (s : Spec) (p : Places) → typed s ≡ true → is_sync s.kind ≡ true → AreInBounds s p → IsExp (branch_expression s p)
+
+-- A text that keeps the static rules is not blamed; and the texts of a block keep them, wherever its names are declared as what they are and may be assigned.
+pub record RulesLaw : Type 0 where
+  pub text : (c : Scene) (b : Block) (opens : List Opened) (s : Scope) (i : ℕ) → BlockKeeps c opens b → StandsIn c opens s
+      → first_blamed i s (block_events b) ≡ None
+  pub body : (c : Scene) (s : Spec) (p : Places) (opens : List Opened) → typed s ≡ true → HasBlockNames c (scratch_of s.kind s)
+      → MayWork c opens (scratch_of s.kind s) → BlockKeeps c opens (body_text s p)
+  pub next : (c : Scene) (s : Spec) (p : Places) (opens : List Opened) → typed s ≡ true → HasBlockNames c 0 → MayAssign c opens states
+      → BlockKeeps c opens (next_text s p)
+  pub delay : (c : Scene) (s : Spec) (p : Places) → typed s ≡ true → has_delay s.kind ≡ true → HasBlockNames c 0 → ReadsWell c (delay_expression s p)
+  pub branch : (c : Scene) (s : Spec) (p : Places) → typed s ≡ true → is_sync s.kind ≡ true → HasBlockNames c 0 → ReadsWell c (branch_expression s p)

@@ -3,3 +3,4 @@ pub mod Recipes
 pub mod Laws
 pub mod Texts
 pub mod Meant
+pub mod Keeping

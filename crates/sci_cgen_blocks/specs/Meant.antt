@@ -38,13 +38,16 @@ IsApart s p =
 
 -- The run leaves these values at the places of the outputs and changes nothing else but scratch; or it ends by the stop.
 abbrev pub Answers : Spec → Places → World → Answer → Ran → Type 0
-Answers s p w (Values vs) r = Leads r (λ w'. Keeps is_scratch values p.outs (total s.outs) w w' × ((e : ℕ) → e < total s.outs → get w' values (p.outs + e) ≡ Some (at vs e)))
+Answers s p w (Values vs) r =
+    Leads r (λ w'. Keeps is_scratch values p.outs (total s.outs) w w' × ((e : ℕ) → e < total s.outs → get w' values (p.outs + e) ≡ Some (at vs e)))
 Answers s p w NoFit r = Stops r Overflow p.number
 Answers s p w NoQuotient r = Stops r Zero p.number
 
 -- The run leaves these values at the places of the state and changes nothing else but scratch.
 abbrev pub NextIs : Spec → Places → World → (ℕ → ℤ) → Ran → Type 0
-NextIs s p w f r = Leads r (λ w'. Keeps is_scratch states p.state (state_len_of s.kind s) w w' × ((i : ℕ) → i < state_len_of s.kind s → get w' states (p.state + i) ≡ Some (f i)))
+NextIs s p w f r =
+    Leads r (λ w'.
+    Keeps is_scratch states p.state (state_len_of s.kind s) w w' × ((i : ℕ) → i < state_len_of s.kind s → get w' states (p.state + i) ≡ Some (f i)))
 
 -- Its places and its number can be spelled.
 pub record AreInBounds (s : Spec) (p : Places) : Type 0 where
@@ -56,10 +59,11 @@ pub record AreInBounds (s : Spec) (p : Places) : Type 0 where
 
 -- ---- sensors
 
--- The first of these values, which are left of column c, counted from 0, is at the output's place and taken from its column, and nothing else changes but scratch; where none
--- is left, the run ends by the stop.
+-- The first of these values, which are left of column c, counted from 0, is at the output's place and taken from its column, and nothing else changes
+-- but scratch; where none is left, the run ends by the stop.
 abbrev pub TakesFirst : Places → ℕ → List ℤ → World → Ran → Type 0
-TakesFirst p c (v ∷ vs) w r = Leads r (λ w'. KeepsPlaces is_scratch values p.outs 1 w w' × (get w' values p.outs ≡ Some v) × (w'.left ≡ slice_set w.left c vs))
+TakesFirst p c (v ∷ vs) w r =
+    Leads r (λ w'. KeepsPlaces is_scratch values p.outs 1 w w' × (get w' values p.outs ≡ Some v) × (w'.left ≡ slice_set w.left c vs))
 TakesFirst p c [] w r = Stops r Input p.number
 
 -- The run of a SENSOR takes the next value of its column; a column that isn't there has none.

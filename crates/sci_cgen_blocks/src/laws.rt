@@ -1,5 +1,5 @@
 // What the texts of a block do in a memory, and what they are, as promises to a reader.
-ghost use Rattle.sci_cgen_blocks.specs.Laws.{ValuesLaw, SensorLaw, NextStateLaw, DelayLaw, BranchLaw, MayLaw, BoundsLaw};
+ghost use Rattle.sci_cgen_blocks.specs.Laws.{ValuesLaw, SensorLaw, NextStateLaw, DelayLaw, BranchLaw, MayLaw, BoundsLaw, RulesLaw};
 
 /// The statements of `block_body` leave a block's values at the places of its outputs, or stop the run, as the table of kinds says.
 pub fn values_law()
@@ -34,4 +34,9 @@ pub fn may_law()
 /// They are within the bounds of the subset.
 pub fn bounds_law()
     ensures { BoundsLaw }
+{}
+
+/// They keep the static rules wherever their names are declared: values, states and masks as arrays, as many scratch numbers as `scratch_of` says as scalars.
+pub fn rules_law()
+    ensures { RulesLaw }
 {}

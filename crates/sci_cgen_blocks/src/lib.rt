@@ -6,7 +6,7 @@ ghost use Rattle.sci_cgen_blocks.specs.Laws.{CellLaw, CellReadsLaw, NextLaw, Nex
 mod laws;
 
 pub use laws::{
-    bounds_law, branch_law, delay_law, may_law, next_state_law, sensor_law, values_law,
+    bounds_law, branch_law, delay_law, may_law, next_state_law, rules_law, sensor_law, values_law,
 };
 
 /// The recipe of each element of a block's outputs gives what the table of kinds says: its value,

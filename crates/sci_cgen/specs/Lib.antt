@@ -1,0 +1,5 @@
+pub mod Names
+pub mod Program
+pub mod Shows
+pub mod Passes
+pub mod Laws

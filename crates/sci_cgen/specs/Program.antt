@@ -1,0 +1,324 @@
+-- The C program of a net and its schedule.
+use Rattle.std.specs.Prelude.{ℕ, zero, suc, ◌+◌, ◌-◌, ◌^◌, ℤ, pos, negsuc, Bool, true, false, ◌||◌, not, nat_eq, nat_lt, List, [], ◌∷◌, ◌++◌, length, map, max, slice_index_or, if◌then◌else◌, Some, None}
+use Rattle.std.specs.List.{list_any}
+use Rattle.std.specs.Int.{bit_at}
+use Rattle.sci_base.specs.Fit.{int_eq}
+use Rattle.sci_forms.specs.declared.Kind.{Kind}
+use Rattle.sci_forms.specs.declared.Kind.TheVariants.{Select, AndLog}
+use Rattle.sci_forms.specs.declared.ports.Port.{Port as Output}
+use Rattle.sci_forms.specs.declared.spec.Spec.{Spec}
+use Rattle.sci_forms.specs.Ports.{elements}
+use Rattle.sci_forms.specs.Forms.{is_sync, has_state}
+use Rattle.sci_forms.specs.Words.{state_len_of}
+use Rattle.sci_kinds.specs.Table.{first_state, first_held}
+use Rattle.sci_net.specs.declared.Source.{Source}
+use Rattle.sci_net.specs.declared.Source.TheVariants.{Start, Port}
+use Rattle.sci_net.specs.Parts.{Parts, spec_of}
+use Rattle.sci_net.specs.Sources.{sources_of, source_of}
+use Rattle.sci_net.specs.Net.{all_elements}
+use Rattle.sci_reaction.specs.Schedule.{Guard, Entry, blocks_of}
+use Rattle.sci_run.specs.Activity.{is_halt}
+use Rattle.sci_run.specs.Programs.{firing_of}
+use Rattle.sci_places.specs.Flat.{start_of}
+use Rattle.sci_places.specs.Layout.{input_spans}
+use Rattle.sci_places.specs.declared.span.Span.{Span}
+use Rattle.c_ast.specs.declared.Name.{Name}
+use Rattle.c_ast.specs.declared.Bound.TheVariants as bounds
+use Rattle.c_ast.specs.declared.Op.TheVariants.{Add, Sub, Mul, Div, Rem, Lt, Gt, Eq}
+use Rattle.c_ast.specs.Syntax.{Exp, num, var, bin, scalar, cell, until, limit, start, event, value, finish, Statement, set, ask, choice, loop, call, tell, Block, done, next, Declared, Function, Whole}
+use Rattle.c_steps.specs.Texts.{number, place, joined, upto}
+use Rattle.sci_cgen_blocks.specs.Recipes.{scratch_of}
+use Rattle.sci_cgen_blocks.specs.Texts.{Places, values, states, masks, scratch_name, body_text, next_text, delay_expression, branch_expression}
+use Rattle.sci_due.specs.Due.{dates, orders, best as chosen_name, scan as scan_name, now as now_name, last as programmed_name, delay as delay_name}
+use Rattle.sci_due.specs.Texts.{at_best, choose_text as choose_of, take_text, program_text}
+use Rattle.sci_cgen.specs.Names.{actives, branches, limit_name, until_name, fired_name, halt_name, block_name, source_name, clear_name, settle_name, choose_name}
+
+-- ---- words
+
+abbrev pub natural : ℕ → Exp
+natural n = num (pos n)
+
+-- a text of one statement
+abbrev pub one : Statement → Block
+one s = next s done
+
+-- the texts of all of a list
+abbrev pub texts : {A : Type 0} → (A → Block) → List A → Block
+texts f [] = done
+texts f (x ∷ xs) = joined (f x) (texts f xs)
+
+abbrev pub text_where : Bool → Block → Block
+text_where test t = if test then t else done
+
+-- where a test isn't 0
+abbrev pub only_where : Exp → Block → Block
+only_where test t = one (choice test t done)
+
+-- a text for each block, by its number
+abbrev pub each_block : (ℕ → Block) → Parts → Block
+each_block f n = upto (λ k. f (suc k)) (length n.specs)
+
+-- the sources but start, by their places in the net's list
+abbrev pub port_count : Parts → ℕ
+port_count n = length (sources_of n) - 1
+
+abbrev pub each_port : (ℕ → Block) → Parts → Block
+each_port f n = upto (λ k. f (suc k)) (port_count n)
+
+-- ---- where values lie
+
+-- how many values the states of the first k blocks have
+abbrev pub states_before : List Spec → ℕ → ℕ
+states_before ss zero = 0
+states_before [] (suc k) = 0
+states_before (s ∷ ss) (suc k) = state_len_of s.kind s + states_before ss k
+
+abbrev pub places_of : Parts → ℕ → Places
+places_of n b = record {
+  number = b;
+  ins = map (λ (p : Span). p.start) (input_spans n b);
+  outs = start_of n b;
+  state = states_before n.specs (b - 1);
+  mask = b - 1;
+}
+
+-- ---- functions of blocks
+
+-- the schedule has an entry of the block
+abbrev pub is_scheduled : List (List Entry) → ℕ → Bool
+is_scheduled rows b = list_any (λ row. list_any (nat_eq b) (blocks_of row)) rows
+
+abbrev pub block_function : Parts → List (List Entry) → ℕ → Function
+block_function n rows b = record { name = block_name b; body = text_where (is_scheduled rows b) (body_text (spec_of n b) (places_of n b)) }
+
+-- ---- one reaction
+
+-- the kinds whose values depend on which activation inputs are activated
+abbrev pub reads_mask : Kind → Bool
+reads_mask Select = true
+reads_mask AndLog = true
+reads_mask _ = false
+
+abbrev pub is_active : ℕ → Exp
+is_active b = place actives (b - 1)
+
+abbrev pub mark : ℕ → Block
+mark b = one (set (cell actives (natural (b - 1))) (natural 1))
+
+abbrev pub mask_cell : ℕ → Exp
+mask_cell b = place masks (b - 1)
+
+-- bit p of the mask becomes 1
+abbrev pub with_bit : ℕ → ℕ → Block
+with_bit b p =
+    one (set (cell masks (natural (b - 1))) (bin Add (mask_cell b) (bin Mul (bin Sub (natural 1) (bin Rem (bin Div (mask_cell b) (natural (2 ^ p))) (natural 2))) (natural (2 ^ p)))))
+
+-- those of n bits that are 1 in a mask
+abbrev pub with_bits : ℕ → ℕ → ℕ → Block
+with_bits b mask n = upto (λ p. text_where (nat_eq (bit_at mask p) 1) (with_bit b p)) n
+
+-- the guard's block has taken the guard's branch
+abbrev pub is_taken : Guard → Exp
+is_taken g = bin Eq (place branches (g.block - 1)) (natural g.port)
+
+abbrev pub guard_text : Parts → Entry → Guard → Block
+guard_text n e g =
+    only_where (is_taken g)
+    (joined (text_where (not e.always) (mark e.block))
+    (text_where (reads_mask (spec_of n e.block).kind) (with_bits e.block g.mask (spec_of n e.block).evtin)))
+
+-- the block's function, and the branch that a synchronous block takes
+abbrev pub call_text : Parts → ℕ → Block
+call_text n b =
+    next (call (block_name b)) (text_where (is_sync (spec_of n b).kind) (one (set (cell branches (natural (b - 1))) (branch_expression (spec_of n b) (places_of n b)))))
+
+-- Whether the block is active, its mask where its kind reads it, and its values where it is active.
+abbrev pub entry_text : Parts → Entry → Block
+entry_text n e =
+    joined (text_where e.always (mark e.block))
+    (joined (text_where (reads_mask (spec_of n e.block).kind) (one (set (cell masks (natural (e.block - 1))) (natural e.mask))))
+    (joined (text_where (not e.always || reads_mask (spec_of n e.block).kind) (texts (guard_text n e) e.guards))
+    (if e.always then call_text n e.block else only_where (is_active e.block) (call_text n e.block))))
+
+abbrev pub header_text : Source → Block
+header_text Start = one (tell start)
+header_text (Port q) = one (tell (event (var now_name) (natural q.block) (natural q.port)))
+
+abbrev pub row_text : Parts → Source → List Entry → Block
+row_text n s row = joined (header_text s) (texts (entry_text n) row)
+
+abbrev pub source_function : Parts → List (List Entry) → ℕ → Function
+source_function n rows i = record { name = source_name i; body = row_text n (source_of n i) (slice_index_or rows i []) }
+
+-- ---- before a reaction, and behind its values
+
+abbrev pub has_sync : Parts → Bool
+has_sync n = list_any (λ s. is_sync s.kind) n.specs
+
+abbrev pub has_halt : Parts → Bool
+has_halt n = list_any (λ s. is_halt s.kind) n.specs
+
+-- no block is active, and none has taken a branch
+abbrev pub clear_text : Parts → Block
+clear_text n =
+    one (loop scan_name (bounds.Num (pos (length n.specs)))
+    (next (set (cell actives (var scan_name)) (natural 0)) (text_where (has_sync n) (one (set (cell branches (var scan_name)) (natural 0))))))
+
+-- the values of elements e + 1 to e + m of an output, the first of which lies at place o
+abbrev pub elements_shown : (block port element place : ℕ) → ℕ → Block
+elements_shown b p e o zero = done
+elements_shown b p e o (suc m) = next (tell (value (natural b) (natural p) (natural e) (place values o))) (elements_shown b p (e + 1) (o + 1) m)
+
+abbrev pub outputs_shown : (block port place : ℕ) → List Output → Block
+outputs_shown b p o [] = done
+outputs_shown b p o (q ∷ qs) = joined (elements_shown b p 1 o (elements q)) (outputs_shown b (p + 1) (o + elements q) qs)
+
+-- the values of an active block are observed
+abbrev pub values_shown : Parts → ℕ → Block
+values_shown n b = text_where (nat_lt 0 (length (spec_of n b).outs)) (only_where (is_active b) (outputs_shown b 1 (start_of n b) (spec_of n b).outs))
+
+-- source i is programmed anew after a delay of 0 or more, where its block is active
+abbrev pub delay_text : Parts → ℕ → Source → Block
+delay_text n i Start = done
+delay_text n i (Port q) =
+    only_where (is_active q.block) (program_text (i - 1) (delay_expression (spec_of n q.block) (places_of n q.block)) done)
+
+abbrev pub state_text : Parts → ℕ → Block
+state_text n b = text_where (has_state (spec_of n b).kind) (only_where (is_active b) (next_text (spec_of n b) (places_of n b)))
+
+abbrev pub halt_text : Parts → ℕ → Block
+halt_text n b = text_where (is_halt (spec_of n b).kind) (only_where (is_active b) (one (set (scalar halt_name) (natural 1))))
+
+-- what is observed of the active blocks, what they program, their next states, and whether one halts
+abbrev pub settle_text : Parts → Block
+settle_text n =
+    joined (each_block (values_shown n) n) (joined (each_port (λ i. delay_text n i (source_of n i)) n) (joined (each_block (state_text n) n) (each_block (halt_text n) n)))
+
+-- ---- which event fires
+
+-- of all sources the one whose event comes first, -1 where none is pending
+abbrev pub choose_text : Parts → Block
+choose_text n = choose_of (port_count n) done
+
+-- ---- the run
+
+abbrev pub end_where : Exp → ℕ → Block
+end_where test word = only_where test (one (tell (finish (natural word))))
+
+abbrev pub halted_text : Parts → Block
+halted_text n = text_where (has_halt n) (end_where (var halt_name) 0)
+
+-- the chosen event is taken, and its source reacts
+abbrev pub fire_text : Parts → Block
+fire_text n =
+    take_text (next (call clear_name)
+    (joined (each_port (λ i. only_where (bin Eq (var chosen_name) (natural (i - 1))) (one (call (source_name i)))) n) (one (call settle_name))))
+
+abbrev pub event_text : Parts → Block
+event_text n =
+    if nat_lt 0 (port_count n) then next (call choose_name) (joined (end_where (bin Lt (var chosen_name) (natural 0)) 2) (joined (end_where (bin Gt (at_best dates) (var until_name)) 3) (fire_text n)))
+    else one (tell (finish (natural 2)))
+
+abbrev pub turn_text : Parts → Block
+turn_text n = joined (halted_text n) (event_text n)
+
+-- a place becomes a number, where it isn't 0 as all are at the beginning
+abbrev pub begun_text : Name → ℕ → ℤ → Block
+begun_text a k z = text_where (not (int_eq z (pos 0))) (one (set (cell a (natural k)) (number z)))
+
+abbrev pub list_begun : Name → ℕ → List ℤ → Block
+list_begun a k [] = done
+list_begun a k (z ∷ zs) = joined (begun_text a k z) (list_begun a (k + 1) zs)
+
+abbrev pub held_begun : Parts → ℕ → Block
+held_begun n b = list_begun values (start_of n b) (first_held (spec_of n b))
+
+abbrev pub state_begun : Parts → ℕ → Block
+state_begun n b = list_begun states (places_of n b).state (first_state (spec_of n b))
+
+-- whether source k has an event before the run
+abbrev pub firing_at : Parts → Source → ℤ
+firing_at n Start = negsuc 0
+firing_at n (Port q) = firing_of n q
+
+abbrev pub is_programmed : ℤ → Bool
+is_programmed (pos d) = true
+is_programmed (negsuc d) = false
+
+-- how many of the first k sources have one
+abbrev pub programmed_before : Parts → ℕ → ℕ
+programmed_before n zero = 0
+programmed_before n (suc k) = programmed_before n k + (if is_programmed (firing_at n (source_of n k)) then 1 else 0)
+
+-- source i has an event of this date and order before the run, or none
+abbrev pub firing_begun : (i order : ℕ) → ℤ → Block
+firing_begun i order (pos d) = joined (begun_text dates (i - 1) (pos d)) (begun_text orders (i - 1) (pos order))
+firing_begun i order (negsuc d) = one (set (cell dates (natural (i - 1))) (number (negsuc 0)))
+
+abbrev pub source_begun : Parts → ℕ → Block
+source_begun n i = firing_begun i (programmed_before n i) (firing_at n (source_of n i))
+
+abbrev pub outset_text : Parts → Block
+outset_text n =
+    joined (each_block (held_begun n) n) (joined (each_block (state_begun n) n) (joined (each_port (source_begun n) n)
+    (text_where (nat_lt 0 (port_count n)) (next (set (scalar programmed_name) (natural (programmed_before n (length (sources_of n))))) (one (ask (scalar until_name) until))))))
+
+abbrev pub main_text : Parts → Block
+main_text n =
+    joined (outset_text n)
+    (next (ask (scalar limit_name) limit) (next (call (source_name 0)) (next (call settle_name)
+    (next (loop fired_name (bounds.Var limit_name) (turn_text n))
+    (joined (halted_text n) (one (tell (finish (natural 1)))))))))
+
+-- ---- the program
+
+abbrev pub array : Name → ℕ → Declared
+array x size = record { name = x; size = Some (max size 1) }
+
+abbrev pub declared_where : Bool → List Declared → List Declared
+declared_where test ds = if test then ds else []
+
+abbrev pub a_scalar : Name → Declared
+a_scalar x = record { name = x; size = None }
+
+-- how many scratch numbers the blocks that the schedule has take
+abbrev pub scratch_count : Parts → List (List Entry) → ℕ → ℕ
+scratch_count n rows zero = 0
+scratch_count n rows (suc k) = max (scratch_count n rows k) (if is_scheduled rows (suc k) then scratch_of (spec_of n (suc k)).kind (spec_of n (suc k)) else 0)
+
+abbrev pub scratch_declared : ℕ → List Declared
+scratch_declared zero = []
+scratch_declared (suc k) = scratch_declared k ++ a_scalar (scratch_name (suc k)) ∷ []
+
+abbrev pub declarations : Parts → List (List Entry) → List Declared
+declarations n rows =
+    array values (all_elements n.specs) ∷ array states (states_before n.specs (length n.specs)) ∷ array masks (length n.specs) ∷ []
+    ++ declared_where (nat_lt 0 (length n.specs)) (array actives (length n.specs) ∷ [])
+    ++ declared_where (has_sync n) (array branches (length n.specs) ∷ [])
+    ++ declared_where (nat_lt 0 (port_count n)) (array dates (port_count n) ∷ array orders (port_count n) ∷ [])
+    ++ scratch_declared (scratch_count n rows (length n.specs))
+    ++ a_scalar limit_name ∷ a_scalar fired_name ∷ []
+    ++ declared_where (nat_lt 0 (port_count n))
+    (a_scalar until_name ∷ a_scalar now_name ∷ a_scalar programmed_name ∷ a_scalar chosen_name ∷ a_scalar delay_name ∷ a_scalar scan_name ∷ [])
+    ++ declared_where (has_halt n) (a_scalar halt_name ∷ [])
+
+abbrev pub functions_upto : (ℕ → Function) → ℕ → List Function
+functions_upto f zero = []
+functions_upto f (suc k) = functions_upto f k ++ f k ∷ []
+
+abbrev pub functions_where : Bool → List Function → List Function
+functions_where test fs = if test then fs else []
+
+-- what follows each reaction; and where events fire, what comes before each, and the choice of the next
+abbrev pub other_functions : Parts → List Function
+other_functions n =
+    record { name = settle_name; body = settle_text n }
+    ∷ functions_where (nat_lt 0 (port_count n)) (record { name = clear_name; body = clear_text n } ∷ record { name = choose_name; body = choose_text n } ∷ [])
+
+abbrev pub functions : Parts → List (List Entry) → List Function
+functions n rows =
+    functions_upto (λ k. block_function n rows (suc k)) (length n.specs) ++ other_functions n ++ functions_upto (source_function n rows) (length (sources_of n))
+
+-- the program of a net with its schedule's rows, one for each source
+abbrev pub program : Parts → List (List Entry) → Whole
+program n rows = record { decls = declarations n rows; funcs = functions n rows; main = main_text n }

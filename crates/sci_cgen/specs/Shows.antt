@@ -1,0 +1,86 @@
+-- What the memory of the generated program shows of a net's run: between two reactions, and in the midst of one.
+use Rattle.std.specs.Prelude.{◌≡◌, ℕ, ◌+◌, ◌-◌, ◌<◌, ◌≤◌, ℤ, pos, ◌||◌, List, [], drop, Bool, true, false, Some, if◌then◌else◌}
+use Rattle.sci_base.specs.Lists.{at}
+use Rattle.sci_forms.specs.Ports.{total}
+use Rattle.sci_forms.specs.Forms.{is_sync}
+use Rattle.sci_forms.specs.Words.{state_len_of}
+use Rattle.sci_net.specs.Parts.{Parts, IsBlock, IsSensor, numbered, spec_of, column_of}
+use Rattle.sci_reaction.specs.Memory.{Columns}
+use Rattle.sci_reaction.specs.Equations.{Signals, input_in, branch_on}
+use Rattle.sci_reaction.specs.Pass.{Progress}
+use Rattle.sci_run.specs.Activity.{Activity, halts}
+use Rattle.sci_run.specs.Run.{State}
+use Rattle.sci_places.specs.Flat.{start_of}
+use Rattle.c_ast.specs.declared.Name.{Name}
+use Rattle.c_mean.specs.Meaning.{World, same_name, truth}
+use Rattle.c_steps.specs.Places.{get, Has, is_scratch}
+use Rattle.sci_cgen_blocks.specs.Texts.{values, states, masks, scratch_name}
+use Rattle.sci_due.specs.Due.{best as chosen_name, scan as scan_name, now as now_name, delay as delay_name}
+use Rattle.sci_due.specs.Laws.{ShowsPending}
+use Rattle.sci_cgen.specs.Names.{actives, branches, limit_name, until_name, halt_name}
+use Rattle.sci_cgen.specs.Program.{places_of, has_sync, has_halt, port_count, reads_mask}
+
+-- the values of all outputs
+pub record ShowsValues (n : Parts) (y : Signals) (w : World) : Type 0 where
+  pub each : (b e : ℕ) → IsBlock n b → e < total (spec_of n b).outs → get w values (start_of n b + e) ≡ Some (at (y b) e)
+
+-- the states of all blocks
+pub record ShowsStates (n : Parts) (x : ℕ → List ℤ) (w : World) : Type 0 where
+  pub each : (b i : ℕ) → IsBlock n b → i < state_len_of (spec_of n b).kind (spec_of n b) → get w states ((places_of n b).state + i) ≡ Some (at (x b) i)
+
+-- of each sensor's column what its cursor leaves; a column that isn't there is empty
+pub record ShowsColumns (n : Parts) (i : Columns) (cursor : ℕ → ℕ) (w : World) : Type 0 where
+  pub each : (b : ℕ) → IsSensor n b → numbered [] w.left (column_of (spec_of n b)) ≡ drop (cursor b) (numbered [] i (column_of (spec_of n b)))
+
+-- which blocks are active
+pub record ShowsActive (n : Parts) (active : Activity) (w : World) : Type 0 where
+  pub each : (b : ℕ) → IsBlock n b → get w actives (b - 1) ≡ Some (truth (active b))
+
+-- the branch that a synchronous block has taken in a pass so far, 0 where its entry didn't apply
+abbrev pub branch_so_far : Parts → Progress → ℕ → ℕ
+branch_so_far n g b = if g.applied b then branch_on (spec_of n b) (input_in n g.values b) else 0
+
+pub record ShowsBranches (n : Parts) (g : Progress) (w : World) : Type 0 where
+  pub each : (b : ℕ) → IsBlock n b → is_sync (spec_of n b).kind ≡ true → get w branches (b - 1) ≡ Some (pos (branch_so_far n g b))
+
+-- The places that each reaction writes before it reads them: masks and scratch, branches where there are synchronous blocks, and three scalars where there are sources
+-- beside start. Masks of blocks that don't read theirs are never written, and stay 0.
+pub record HasRoom (n : Parts) (scratch : ℕ) (w : World) : Type 0 where
+  pub unread : (b : ℕ) → IsBlock n b → reads_mask (spec_of n b).kind ≡ false → get w masks (b - 1) ≡ Some (pos 0)
+  pub masks : (b : ℕ) → IsBlock n b → Has w masks (b - 1)
+  pub scratch_names : (k : ℕ) → 1 ≤ k → k ≤ scratch → Has w (scratch_name k) 0
+  pub actives : (b : ℕ) → IsBlock n b → Has w actives (b - 1)
+  pub branches : has_sync n ≡ true → (b : ℕ) → IsBlock n b → Has w branches (b - 1)
+  pub scan : 1 ≤ port_count n → Has w scan_name 0
+  pub chosen : 1 ≤ port_count n → Has w chosen_name 0
+  pub delay : 1 ≤ port_count n → Has w delay_name 0
+
+-- the bounds of the run
+pub record ShowsBounds (n : Parts) (until limit : ℕ) (w : World) : Type 0 where
+  pub events : get w limit_name 0 ≡ Some (pos limit)
+  pub time : 1 ≤ port_count n → get w until_name 0 ≡ Some (pos until)
+
+-- Between two reactions: the memory of the net, the pending events, the date, and whether the last reaction halts the run.
+pub record ShowsState (n : Parts) (scratch : ℕ) (i : Columns) (until limit : ℕ) (st : State) (w : World) : Type 0 where
+  pub held : ShowsValues n st.memory.held w
+  pub states : ShowsStates n st.memory.state w
+  pub columns : ShowsColumns n i st.memory.cursor w
+  pub pending : 1 ≤ port_count n → ShowsPending (port_count n) st.pending w
+  pub now : 1 ≤ port_count n → get w now_name 0 ≡ Some (pos st.now)
+  pub halt : has_halt n ≡ true → get w halt_name 0 ≡ Some (truth (halts n st.active))
+  pub bounds : ShowsBounds n until limit w
+  pub room : HasRoom n scratch w
+
+-- the names that a pass assigns
+abbrev pub is_worked : Name → Bool
+is_worked x = is_scratch x || (same_name values x || (same_name masks x || (same_name actives x || same_name branches x)))
+
+-- In the midst of the pass over a source's row: what it has found, and how far sensors have come; what a reaction leaves alone until its values are known is as it
+-- was in the memory before.
+pub record ShowsPass (n : Parts) (scratch : ℕ) (i : Columns) (cursor : ℕ → ℕ) (g : Progress) (before w : World) : Type 0 where
+  pub values : ShowsValues n g.values w
+  pub active : ShowsActive n g.applied w
+  pub branches : ShowsBranches n g w
+  pub columns : ShowsColumns n i cursor w
+  pub room : HasRoom n scratch w
+  pub kept : (x : Name) (k : ℕ) → is_worked x ≡ false → get w x k ≡ get before x k

@@ -1,0 +1,6 @@
+//! The C program of a net: its blocks, its schedule, its pending events and its run.
+#![tactic(auto)]
+
+mod laws;
+
+pub use laws::program_law;

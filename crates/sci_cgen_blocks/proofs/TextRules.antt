@@ -1,0 +1,129 @@
+-- The texts of a block keep the static rules, wherever its names are declared.
+use Rattle.std.proofs.Common.{◌≡◌, ℕ, zero, suc, ◌<◌, ◌≤◌, ◌⊎◌, inl, inr, List, [], ◌∷◌, ◌++◌, true, false, refl, sym, ◌∙◌, subst, arith, ℤ, pos, negsuc}
+use Rattle.std.specs.Prelude.{◌≢◌}
+use Rattle.std.proofs.lemmas.List.Folds.{list_any-append}
+use Rattle.sci_forms.specs.declared.Kind.{Kind}
+use Rattle.sci_forms.specs.declared.Kind.TheVariants.{Sensor}
+use Rattle.sci_forms.specs.declared.spec.Spec.{Spec}
+use Rattle.sci_forms.specs.Ports.{total}
+use Rattle.sci_forms.specs.Words.{param, state_len_of}
+use Rattle.sci_forms.specs.Forms.{is_sync, has_delay}
+use Rattle.sci_forms.specs.Typed.{typed}
+use Rattle.c_ast.specs.declared.Name.{Name}
+use Rattle.c_ast.specs.declared.Bound.TheVariants as bounds
+use Rattle.c_ast.specs.declared.events.Opened.{Opened}
+use Rattle.c_ast.specs.declared.events.Opened.TheVariants.{Branch, Turn}
+use Rattle.c_ast.specs.Syntax.{Block, done, next}
+use Rattle.c_ast.specs.Rules.{same_name, is_hit, is_guarded}
+use Rattle.c_steps.specs.Texts.{joined, upto}
+use Rattle.sci_cgen_blocks.specs.Terms.{Term, constant, input, state, mask, scratch, both, Work, assign, assign_if, changes, Step, change, stop_if, repeat, Recipe, Readable, TermFits, WorkFits, WorksFit, Spares, StepFits, StepsFit, RecipeFits}
+use Rattle.sci_cgen_blocks.specs.Recipes.{recipe_of, next_term, delay_term, branch_term, scratch_of, fed, from_value, inputs}
+use Rattle.sci_cgen_blocks.specs.Texts.{Places, values, states, scratch_name, expression, work_statement, works_text, step_statement, steps_text, recipe_text, sensor_text, body_text, next_text, delay_expression, branch_expression}
+use Rattle.sci_cgen_blocks.specs.Keeping.{Scene, ReadsWell, MayAssign, StatementKeeps, BlockKeeps, HasBlockNames, MayWork}
+use Rattle.sci_cgen_blocks.proofs.Bodies.{values_are}
+use Rattle.sci_cgen_blocks.proofs.Sensing.{sensor_values, is_kind}
+use Rattle.sci_cgen_blocks.proofs.Bounds.{delay_reads, branch_reads}
+use Rattle.sci_cgen_blocks.proofs.KindLaws.{cell_reads_law}
+use Rattle.sci_cgen_blocks.proofs.NextStates.{next_reads_law}
+
+-- ---- one more open block
+
+guarded_more : (opens : List Opened) (b : Opened) (x : Name) → is_guarded opens x ≡ false → is_hit (same_name x) b ≡ false
+    → is_guarded (opens ++ b ∷ []) x ≡ false
+guarded_more opens b x h k = list_any-append (is_hit (same_name x)) opens (b ∷ []) ∙ rw (h, k) refl
+
+branch_more : (c : Scene) (opens : List Opened) (x : Name) → MayAssign c opens x → MayAssign c (opens ++ Branch ∷ []) x
+branch_more c opens x h = (h.0, guarded_more opens Branch x h.1 refl)
+
+-- in a loop whose counter is another
+turn_more : (c : Scene) (opens : List Opened) (x y : Name) (z : ℤ) → MayAssign c opens x → same_name x y ≡ false
+    → MayAssign c (opens ++ Turn y (bounds.Num z) ∷ []) x
+turn_more c opens x y z h d = (h.0, guarded_more opens (Turn y (bounds.Num z)) x h.1 (rw d refl))
+
+-- ---- recipes
+
+module _ (c : Scene) (p : Places) (r : Readable) (names : HasBlockNames c r.scratch) where
+  reads_well : (d : ℕ) (t : Term) → TermFits r d t → ReadsWell c (expression p t)
+  reads_well zero t f = absurd f
+  reads_well (suc d) (constant (pos n)) f = tt
+  reads_well (suc d) (constant (negsuc n)) f = tt
+  reads_well (suc d) (input k e) f = (names.values, tt)
+  reads_well (suc d) (state i) f = (names.states, tt)
+  reads_well (suc d) mask f = (names.masks, tt)
+  reads_well (suc d) (scratch n) f = names.scratch n f.0 f.1
+  reads_well (suc d) (both op a b) f = (reads_well d a f.0, reads_well d b f.1)
+
+  work_keeps : (opens : List Opened) (x : Work) → WorkFits r x → MayAssign c opens (scratch_name (changes x)) → StatementKeeps c opens (work_statement p x)
+  work_keeps opens (assign n t) f may = ((names.scratch n f.0.0 f.0.1, may), reads_well 32 t f.1)
+  work_keeps opens (assign_if e n t) f may =
+      (reads_well 32 e f.1, (((names.scratch n f.0.0 f.0.1, branch_more c opens (scratch_name n) may), reads_well 32 t f.2), tt), tt)
+
+  is_scratch_work : (x : Work) → WorkFits r x → (1 ≤ changes x) × (changes x ≤ r.scratch)
+  is_scratch_work (assign n t) f = f.0
+  is_scratch_work (assign_if e n t) f = f.0
+
+  -- in a loop that spares its counter
+  works_keep : (opens : List Opened) (n : ℕ) (z : ℤ) (ws : List Work) → MayWork c opens r.scratch → WorksFit r ws → Spares n ws
+      → BlockKeeps c (opens ++ Turn (scratch_name n) (bounds.Num z) ∷ []) (works_text p ws)
+  works_keep opens n z [] may f spares = tt
+  works_keep opens n z (x ∷ ws) may f spares =
+      let is = is_scratch_work x f.0 in (
+        work_keeps (opens ++ Turn (scratch_name n) (bounds.Num z) ∷ []) x f.0
+            (turn_more c opens (scratch_name (changes x)) (scratch_name n) z (may.scratch (changes x) is.0 is.1) spares.0),
+        works_keep opens n z ws may f.1 spares.1,
+      )
+
+  step_keeps : (opens : List Opened) (x : Step) → MayWork c opens r.scratch → StepFits r x → StatementKeeps c opens (step_statement p x)
+  step_keeps opens (change x) may f = let is = is_scratch_work x f in work_keeps opens x f (may.scratch (changes x) is.0 is.1)
+  step_keeps opens (stop_if e word) may f = (reads_well 32 e f.0, ((tt, tt, tt), tt), tt)
+  step_keeps opens (repeat n k ws) may f =
+      (names.scratch n f.0.0 f.0.1, may.scratch n f.0.0 f.0.1, tt, works_keep opens n (pos k) ws may f.2 f.3)
+
+  steps_keep : (opens : List Opened) (xs : List Step) (rest : Block) → MayWork c opens r.scratch → StepsFit r xs → BlockKeeps c opens rest
+      → BlockKeeps c opens (steps_text p xs rest)
+  steps_keep opens [] rest may f h = h
+  steps_keep opens (x ∷ xs) rest may f h = (step_keeps opens x may f.0, steps_keep opens xs rest may f.1 h)
+
+  recipe_keeps : (opens : List Opened) (e : ℕ) (x : Recipe) → MayWork c opens r.scratch → RecipeFits r x → BlockKeeps c opens (recipe_text p e x)
+  recipe_keeps opens e x may f = steps_keep opens x.steps _ may f.0 (((names.values, may.values, tt), reads_well 32 x.value f.1), tt)
+
+-- ---- blocks
+
+pub joined_keep : (c : Scene) (opens : List Opened) (a b : Block) → BlockKeeps c opens a → BlockKeeps c opens b → BlockKeeps c opens (joined a b)
+joined_keep c opens done b p q = q
+joined_keep c opens (next s a) b p q = (p.0, joined_keep c opens a b p.1 q)
+
+pub upto_keeps : (c : Scene) (opens : List Opened) (f : ℕ → Block) (n : ℕ) → ((e : ℕ) → e < n → BlockKeeps c opens (f e)) → BlockKeeps c opens (upto f n)
+upto_keeps c opens f zero go = tt
+upto_keeps c opens f (suc n) go =
+    joined_keep c opens (upto f n) (f n) (upto_keeps c opens f n (λ e h. go e (omega (arith, h)))) (go n (omega arith))
+
+module _ (c : Scene) (s : Spec) (p : Places) (is_typed : typed s ≡ true) (names : HasBlockNames c (scratch_of s.kind s)) where
+  sensor_keeps : (opens : List Opened) (z : ℤ) → s.kind ≡ Sensor → MayWork c opens (scratch_of s.kind s) → BlockKeeps c opens (sensor_text p z)
+  sensor_keeps opens z kind may =
+      let one : 1 ≤ scratch_of s.kind s = subst (λ (k : Kind). 1 ≤ scratch_of k s) (sym kind) (omega arith) in
+      let t = names.scratch 1 (omega arith) one in
+      let m = may.scratch 1 (omega arith) one in
+      (((t, m), tt), ((t, (((names.values, branch_more c opens values may.values, tt), tt), tt), ((tt, tt, tt), tt)), tt))
+
+  -- The text of the values.
+  pub body_keeps : (opens : List Opened) → MayWork c opens (scratch_of s.kind s) → BlockKeeps c opens (body_text s p)
+  body_keeps opens may = by_kind (is_kind s.kind)
+    where
+      by_kind : ((s.kind ≡ Sensor) ⊎ (s.kind ≢ Sensor)) → BlockKeeps c opens (body_text s p)
+      by_kind (inl e) = subst (BlockKeeps c opens) (sym (sensor_values s.kind s p e)) (sensor_keeps opens (param s 0) e may)
+      by_kind (inr n) =
+          subst (BlockKeeps c opens) (sym (values_are s.kind s p n)) (upto_keeps c opens (λ e. recipe_text p e (recipe_of s.kind s e)) (total s.outs) (λ e l.
+          recipe_keeps c p (fed s) names opens e (recipe_of s.kind s e) may (cell_reads_law s is_typed n e l)))
+
+module _ (c : Scene) (s : Spec) (p : Places) (is_typed : typed s ≡ true) (names : HasBlockNames c 0) where
+  pub next_keeps : (opens : List Opened) → MayAssign c opens states → BlockKeeps c opens (next_text s p)
+  next_keeps opens may =
+      upto_keeps c opens _ (state_len_of s.kind s) (λ i l.
+      (((names.states, may, tt), reads_well c p (from_value s i) names 32 (next_term s.kind s i) (next_reads_law s is_typed i l)), tt))
+
+  pub delay_keeps : has_delay s.kind ≡ true → ReadsWell c (delay_expression s p)
+  delay_keeps has = reads_well c p (inputs s) names 32 (delay_term s.kind s) (delay_reads s is_typed has)
+
+  pub branch_keeps : is_sync s.kind ≡ true → ReadsWell c (branch_expression s p)
+  branch_keeps sync = reads_well c p (inputs s) names 32 (branch_term s.kind s) (branch_reads s is_typed sync)

@@ -1,0 +1,58 @@
+-- Statements in memory, put together.
+use Rattle.std.proofs.Common.{arith, ◌≡◌, ℕ, zero, suc, ◌+◌, ◌<◌, ◌≤◌, pos, length, drop, get_or, List, [], ◌∷◌, ◌++◌, refl, sym, ap, ◌∙◌}
+use Rattle.std.proofs.lemmas.List.{drop_more}
+use Rattle.c_ast.specs.declared.Stmt.{Stmt}
+use Rattle.c_ast.specs.Syntax.{Statement, Block, done, next, num, set, cell}
+use Rattle.c_ast.specs.View.{statement_of, statements_of}
+use Rattle.c_steps.specs.Texts.{joined}
+use Rattle.sci_cgen_blocks.specs.Terms.{Step, Recipe}
+use Rattle.sci_cgen_blocks.specs.Texts.{Places, values, expression, step_statement, steps_text, recipe_text}
+
+pub joined_assoc : (a b c : Block) → joined (joined a b) c ≡ joined a (joined b c)
+joined_assoc done b c = refl
+joined_assoc (next s a) b c = ap (next s) (joined_assoc a b c)
+
+pub joined_done : (a : Block) → joined a done ≡ a
+joined_done done = refl
+joined_done (next s a) = ap (next s) (joined_done a)
+
+-- one list behind another
+pub statements_behind : (xs ys : List Stmt) → statements_of (xs ++ ys) ≡ joined (statements_of xs) (statements_of ys)
+statements_behind [] ys = refl
+statements_behind (x ∷ xs) ys = ap (next (statement_of x)) (statements_behind xs ys)
+
+-- a statement was pushed
+pub pushed : (xs ys : List Stmt) (s : Stmt) (first : Statement) → ys ≡ xs ++ s ∷ [] → statement_of s ≡ first → statements_of ys ≡ joined (statements_of xs) (next first done)
+pushed xs ys s first e is = ap statements_of e ∙ statements_behind xs (s ∷ []) ∙ ap (λ f. joined (statements_of xs) (next f done)) is
+
+-- A statement was pushed, the first of those to come.
+pub statement_done : (xs ys : List Stmt) (s : Stmt) (first : Statement) (come rest all : Block)
+    → ys ≡ xs ++ s ∷ [] → statement_of s ≡ first → come ≡ next first rest → joined (statements_of xs) come ≡ all → joined (statements_of ys) rest ≡ all
+statement_done xs ys s first come rest all e is cut so_far =
+    ap (λ b. joined b rest) (pushed xs ys s first e is) ∙ joined_assoc (statements_of xs) (next first done) rest ∙ ap (joined (statements_of xs)) (sym cut) ∙ so_far
+
+-- ---- lists that are gone through
+
+pub drop_item : {A : Type 0} → (l : List A) (i : ℕ) (d : A) → i < length l → d ≡ get_or l i d → drop i l ≡ d ∷ drop (i + 1) l
+drop_item l i d within is = drop_more l i d within ∙ ap (λ u. u ∷ drop (i + 1) l) (sym is)
+
+pub all_dropped : {A : Type 0} → (l : List A) (i : ℕ) → length l ≤ i → drop i l ≡ []
+all_dropped [] zero h = refl
+all_dropped [] (suc i) h = refl
+all_dropped (x ∷ l) zero h = absurd (omega arith)
+all_dropped (x ∷ l) (suc i) h = let less : length l ≤ i = omega arith in all_dropped l i less
+
+-- ---- a recipe
+
+pub steps_then : (p : Places) (xs : List Step) (b : Block) → joined (steps_text p xs done) b ≡ steps_text p xs b
+steps_then p [] b = refl
+steps_then p (x ∷ xs) b = ap (next (step_statement p x)) (steps_then p xs b)
+
+-- the steps of a recipe, and behind them the element's assignment
+pub recipe_done : (p : Places) (e : ℕ) (r : Recipe) (old mid new : List Stmt) (s : Stmt)
+    → statements_of mid ≡ joined (statements_of old) (steps_text p r.steps done) → new ≡ mid ++ s ∷ []
+    → statement_of s ≡ set (cell values (num (pos (p.outs + e)))) (expression p r.value) → statements_of new ≡ joined (statements_of old) (recipe_text p e r)
+recipe_done p e r old mid new s so_far push is =
+    let last : Block = next (set (cell values (num (pos (p.outs + e)))) (expression p r.value)) done in
+    pushed mid new s _ push is ∙ ap (λ b. joined b last) so_far ∙ joined_assoc (statements_of old) (steps_text p r.steps done) last
+    ∙ ap (joined (statements_of old)) (steps_then p r.steps last)
