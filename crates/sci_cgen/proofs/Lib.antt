@@ -28,3 +28,8 @@ pub mod Leaving
 pub mod Bodies
 pub mod Reacting
 pub mod Run
+pub mod Parted
+pub mod Sizes
+pub mod Blocks
+pub mod Bounded
+pub mod Declared

@@ -1,7 +1,8 @@
 -- The numbers of a typed block are small.
-use Rattle.std.proofs.Common.{arith, lit≤, ◌≡◌, ◌≤◌, ◌<◌, ◌≤ℤ◌, ℕ, pos, true, length, unsigned_abs, subst}
+use Rattle.std.proofs.Common.{arith, lit≤, ◌≡◌, ◌≤◌, ◌<◌, ◌≤ℤ◌, ◌^◌, ◌-◌, ◌+◌, ℕ, ℤ, pos, true, length, unsigned_abs, subst}
+use Rattle.std.proofs.lemmas.Int.{ints}
 use Rattle.sci_forms.specs.declared.Kind.{Kind}
-use Rattle.sci_forms.specs.declared.Kind.TheVariants.{Const, Extractor, Shift, BitSet, BitClear, ExtractBits, Select, Logic}
+use Rattle.sci_forms.specs.declared.Kind.TheVariants.{Const, Extractor, Shift, BitSet, BitClear, ExtractBits, Select, Logic, ModuloCount}
 use Rattle.sci_forms.specs.declared.spec.Spec.{Spec}
 use Rattle.sci_forms.specs.Forms.{counts_of}
 use Rattle.sci_forms.specs.Ports.{port_at, elements, total}
@@ -61,3 +62,6 @@ few_columns s h is = subst (λ c. length s.outs ≤ (counts_of c (length s.ins))
 pub names_element : (s : Spec) → typed s ≡ true → s.kind ≡ Extractor → (e : ℕ) → e < total s.outs
     → (pos 1 ≤ℤ param s e) × (unsigned_abs (param s e) ≤ elements (port_at s.ins 0))
 names_element s h is e l = let a = asks_as Extractor s h is in a.4 e (omega (arith, total_one s.outs (out_type s) (size s) a.0.outs_alike a.0.one, a.3))
+
+pub count_base : (s : Spec) → typed s ≡ true → s.kind ≡ ModuloCount → unsigned_abs (param s 0) ≤ 4294967296
+count_base s h is = let a = asks_as ModuloCount s h is in omega (arith, ints, a.2, a.3)

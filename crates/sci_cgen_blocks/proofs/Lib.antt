@@ -25,7 +25,10 @@ pub mod NextTexts
 pub mod Bounds
 pub mod Assigned
 pub mod Rules
+pub mod Kept
 pub mod TextRules
 pub mod KindBounds
 pub mod Written
+pub mod KindParts
 pub mod WholeRules
+pub mod KindSpelled

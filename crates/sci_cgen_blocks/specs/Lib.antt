@@ -4,3 +4,4 @@ pub mod Laws
 pub mod Texts
 pub mod Meant
 pub mod Keeping
+pub mod Plain

@@ -3,8 +3,24 @@
 
 ghost use Rattle.sci_cgen_blocks.specs.Laws.{CellLaw, CellReadsLaw, NextLaw, NextReadsLaw, DelayTermLaw, BranchTermLaw};
 
+mod arithmetic_kinds;
+pub mod array_names;
+mod bit_kinds;
+mod block_layout;
+mod block_texts;
+mod fit_terms;
+mod kind_recipes;
+mod kind_terms;
 mod laws;
+mod logical_kinds;
+mod product_terms;
+mod recipe_parts;
+mod spec_words;
+pub mod writing;
 
+pub use block_layout::Layout;
+pub use block_texts::{block_body, block_branch, block_delay, block_next};
+pub use kind_terms::scratch_of;
 pub use laws::{
     bounds_law, branch_law, delay_law, may_law, next_state_law, rules_law, sensor_law, values_law,
 };

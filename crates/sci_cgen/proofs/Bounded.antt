@@ -1,0 +1,598 @@
+-- The generated program keeps the bounds of the subset.
+use Rattle.std.proofs.Common.{◌≡◌, ℕ, zero, suc, ◌+◌, ◌-◌, ◌^◌, ◌<◌, ◌≤◌, ◌≤ℤ◌, List, [], ◌∷◌, ◌++◌, append_assoc, length, max, slice_index_or, Contains, All, Option, Some, None, Bool, true, false, ◌||◌, not, nat_eq, nat_lt, if◌then◌else◌, refl, sym, ap, ◌∙◌, subst, arith, ℤ, pos, negsuc}
+use Rattle.std.specs.Int.{bit_at}
+use Rattle.std.proofs.lemmas.Int.{ints}
+use Rattle.std.proofs.lemmas.List.Elements.{All-nil, All-cons, All-head, All-tail, All-contains, Contains-get_or}
+use Rattle.sci_base.specs.Fit.{int_eq}
+use Rattle.sci_base.specs.Lists.{at}
+use Rattle.sci_forms.specs.declared.ports.Port.{Port as Output}
+use Rattle.sci_forms.specs.declared.spec.Spec.{Spec}
+use Rattle.sci_forms.specs.Ports.{elements, total, type_at}
+use Rattle.sci_forms.specs.Forms.{is_sync, has_state}
+use Rattle.sci_forms.specs.Typed.{typed}
+use Rattle.sci_forms.specs.Words.{out_type, state_len_of}
+use Rattle.sci_kinds.specs.Table.{first_state, first_held}
+use Rattle.sci_kinds.proofs.LawProofs.{first_held_law}
+use Rattle.sci_net.specs.declared.Feed.{Feed}
+use Rattle.sci_net.specs.declared.Source.{Source}
+use Rattle.sci_net.specs.declared.Source.TheVariants.{Start, Port}
+use Rattle.sci_net.specs.Parts.{Parts, IsBlock, IsActivationOutput, spec_of}
+use Rattle.sci_net.specs.Sources.{sources_of, source_of}
+use Rattle.sci_net.specs.Net.{IsNet, all_elements}
+use Rattle.sci_places.specs.Flat.{start_of}
+use Rattle.sci_places.proofs.Outputs.{block_within}
+use Rattle.sci_reaction.specs.Active.{seeded, passed, Reaches}
+use Rattle.sci_reaction.specs.Depends.{IsLoopFree}
+use Rattle.sci_reaction.specs.Links.{IsSource}
+use Rattle.sci_reaction.specs.Schedule.{Guard, Entry, IsSchedule, IsRow, IsEntry, blocks_of, branch_of}
+use Rattle.sci_reaction.proofs.Rows.{Contains-mid}
+use Rattle.sci_reaction.proofs.Sources.{sources_are}
+use Rattle.sci_run.specs.Activity.{is_halt}
+use Rattle.sci_run.specs.Programs.{firing_of}
+use Rattle.sci_run.specs.Laws.{AreLoopFree}
+use Rattle.sci_run.proofs.Ordered.{typed_firing}
+use Rattle.c_ast.specs.declared.Name.{Name}
+use Rattle.c_ast.specs.declared.Bound.TheVariants as bounds
+use Rattle.c_ast.specs.declared.Op.TheVariants.{Add, Sub, Mul, Div, Rem, Lt, Gt, Ge, Eq}
+use Rattle.c_ast.specs.Syntax.{Exp, var, element, bin, scalar, cell, until, limit, set, ask, loop, call, tell, finish, Block, done, next, Declared, Function}
+use Rattle.c_ast.specs.Bounds.{is_letter, IsName, IsExp, BlockFits, IsBody, IsDeclared, IsFunction, IsWhole}
+use Rattle.c_steps.specs.Places.{named}
+use Rattle.c_steps.specs.Texts.{number, place, joined, upto}
+use Rattle.sci_cgen_blocks.specs.Texts.{values, states, masks, scratch_name, body_text, next_text, delay_expression, branch_expression}
+use Rattle.sci_cgen_blocks.specs.Meant.{AreInBounds}
+use Rattle.sci_cgen_blocks.proofs.Bounds.{joined_fits, upto_fits, body_fits, next_fits, delay_fits_all, branch_fits_all}
+use Rattle.sci_cgen_blocks.proofs.KindBounds.{few_outs}
+use Rattle.sci_cgen_blocks.proofs.KindLaws.{cell_reads_law}
+use Rattle.sci_cgen_blocks.proofs.NextStates.{next_reads_law}
+use Rattle.sci_due.specs.Due.{dates, orders, best as chosen_name, scan as scan_name, now as now_name, last as programmed_name, delay as delay_name}
+use Rattle.sci_due.specs.Texts.{at_scan, at_best, better_exp, program_text}
+use Rattle.sci_cgen.specs.Names.{actives, branches, limit_name, until_name, fired_name, halt_name, block_name, source_name, clear_name, settle_name, choose_name}
+use Rattle.sci_cgen.specs.Program.{natural, one, texts, text_where, only_where, each_block, each_port, port_count, places_of, states_before, is_scheduled, block_function, reads_mask, is_active, mark, mask_cell, with_bit, with_bits, is_taken, guard_text, call_text, entry_text, header_text, row_text, source_function, has_sync, has_halt, clear_text, choose_text, elements_shown, outputs_shown, values_shown, delay_text, state_text, halt_text, settle_text, end_where, halted_text, fire_text, event_text, turn_text, begun_text, list_begun, held_begun, state_begun, firing_at, is_programmed, programmed_before, firing_begun, source_begun, outset_text, main_text, array, declared_where, a_scalar, scratch_count, scratch_declared, declarations, functions_upto, functions_where, other_functions, functions, program}
+use Rattle.sci_cgen.proofs.Parted.{value_arrays, active_array, branch_array, due_arrays, limit_scalars, event_scalars, halt_scalar, reads, masked, guarded, called, all_shown, all_delays, all_states, all_halts, all_held, first_states, all_begun, until_asked, where_ports, fires_source, running, blocks, sources, settle_function, clear_function, choose_function, before}
+use Rattle.sci_cgen.proofs.Marks.{few_small}
+use Rattle.sci_cgen.proofs.Entries.{few_inputs, block_here, mask_few, guarding}
+use Rattle.sci_cgen.proofs.Sizes.{few_outputs, port_is, port_has_delay, few_ports, few_all_states, state_within, in_bounds, scratch_few, is_spelled}
+
+-- ---- numbers and names
+
+zero_small : 0 < 2 ^ 63
+zero_small = omega arith
+
+one_small : 1 < 2 ^ 63
+one_small = omega arith
+
+two_small : 2 < 2 ^ 63
+two_small = omega arith
+
+mask_name : IsName masks
+mask_name = (refl, omega arith)
+
+date_name : IsName dates
+date_name = (refl, omega arith)
+
+order_name : IsName orders
+order_name = (refl, omega arith)
+
+chosen_is_name : IsName chosen_name
+chosen_is_name = (refl, omega arith)
+
+scan_is_name : IsName scan_name
+scan_is_name = (refl, omega arith)
+
+-- ---- expressions
+
+is_small : (k : ℕ) → k < 2 ^ 63 → IsExp (natural k)
+unfolding IsExp
+is_small k h = h
+
+is_var : (x : Name) → IsName x → IsExp (var x)
+unfolding IsExp
+is_var x h = h
+
+is_place : (x : Name) (k : ℕ) → IsName x → k < 2 ^ 63 → IsExp (place x k)
+unfolding IsExp
+is_place x k h l = (h, l)
+
+is_number : (z : ℤ) → negsuc 4294967295 ≤ℤ z → z ≤ℤ pos 4294967295 → IsExp (number z)
+unfolding IsExp
+is_number (pos n) l h = omega (arith, ints, h)
+is_number (negsuc n) l h = omega (arith, ints, l)
+
+is_bit : (b p : ℕ) → b - 1 < 2 ^ 63 → 2 ^ p < 2 ^ 63
+    → IsExp (bin Add (mask_cell b) (bin Mul (bin Sub (natural 1) (bin Rem (bin Div (mask_cell b) (natural (2 ^ p))) (natural 2))) (natural (2 ^ p))))
+unfolding IsExp
+is_bit b p h l = ((mask_name, h), ((one_small, (((mask_name, h), l), two_small)), l))
+
+is_branch : (g : Guard) → g.block - 1 < 2 ^ 63 → g.port < 2 ^ 63 → IsExp (is_taken g)
+unfolding IsExp
+is_branch g h l = (((refl, omega arith), h), l)
+
+is_chosen : (k : ℕ) → k < 2 ^ 63 → IsExp (bin Eq (var chosen_name) (natural k))
+unfolding IsExp
+is_chosen k h = ((refl, omega arith), h)
+
+none_chosen : IsExp (bin Lt (var chosen_name) (natural 0))
+unfolding IsExp
+none_chosen = (chosen_is_name, zero_small)
+
+too_late : IsExp (bin Gt (at_best dates) (var until_name))
+unfolding IsExp
+too_late = (((refl, omega arith), (refl, omega arith)), (refl, omega arith))
+
+is_date : IsExp (at_best dates)
+unfolding IsExp
+is_date = ((refl, omega arith), (refl, omega arith))
+
+is_better : IsExp better_exp
+unfolding IsExp
+is_better = (
+  ((date_name, scan_is_name), zero_small),
+  (
+    (chosen_is_name, zero_small),
+    (
+      ((date_name, scan_is_name), (date_name, chosen_is_name)),
+      (((date_name, scan_is_name), (date_name, chosen_is_name)), ((order_name, scan_is_name), (order_name, chosen_is_name))),
+    ),
+  ),
+)
+
+-- ---- texts
+
+where_fits : (d : ℕ) (test : Bool) (t : Block) → (test ≡ true → BlockFits d t) → BlockFits d (text_where test t)
+where_fits d true t h = h refl
+where_fits d false t h = tt
+
+only_fits : (d : ℕ) (e : Exp) (t : Block) → IsExp e → BlockFits d t → BlockFits (suc d) (only_where e t)
+only_fits d e t x h = ((x, h, tt), tt)
+
+texts_fit : {A : Type 0} (d : ℕ) (t : A → Block) (xs : List A) → ((x : A) → Contains xs x → BlockFits d (t x)) → BlockFits d (texts t xs)
+texts_fit d t [] h = tt
+texts_fit d t (x ∷ xs) h =
+    joined_fits d (t x) (texts t xs) (h x (0, omega arith, refl)) (texts_fit d t xs (λ y c. h y (suc c.0, omega (arith, c.1), c.2)))
+
+-- by how a list is split
+texts_split : {A : Type 0} (d : ℕ) (t : A → Block) (all pre xs : List A) → all ≡ pre ++ xs
+    → ((pre post : List A) (x : A) → all ≡ pre ++ x ∷ post → BlockFits d (t x)) → BlockFits d (texts t xs)
+texts_split d t all pre [] e h = tt
+texts_split d t all pre (x ∷ xs) e h =
+    joined_fits d (t x) (texts t xs) (h pre xs x e) (texts_split d t all (pre ++ x ∷ []) xs (e ∙ sym (append_assoc pre (x ∷ []) xs)) h)
+
+end_fits : (d : ℕ) (e : Exp) (word : ℕ) → IsExp e → word < 2 ^ 63 → BlockFits (suc (suc d)) (end_where e word)
+end_fits d e word x l = ((x, (is_small word l, tt), tt), tt)
+
+set_fits : (d : ℕ) (x : Name) (k : ℕ) (e : Exp) → IsName x → k < 2 ^ 63 → IsExp e → BlockFits (suc d) (one (set (cell x (natural k)) e))
+set_fits d x k e h l q = (((h, is_small k l), q), tt)
+
+is_due : IsExp (bin Add (var now_name) (var delay_name))
+unfolding IsExp
+is_due = ((refl, omega arith), (refl, omega arith))
+
+is_late : IsExp (bin Ge (var delay_name) (natural 0))
+unfolding IsExp
+is_late = ((refl, omega arith), zero_small)
+
+is_next : IsExp (bin Add (var programmed_name) (natural 1))
+unfolding IsExp
+is_next = ((refl, omega arith), one_small)
+
+program_fits : (k : ℕ) (e : Exp) → k < 2 ^ 63 → IsExp e → BlockFits 15 (program_text k e done)
+program_fits k e h x = (
+  ((refl, omega arith), x),
+  (
+    (
+      is_late,
+      (
+        (((refl, omega arith), is_small k h), is_due),
+        ((((refl, omega arith), is_small k h), is_var programmed_name (refl, omega arith)), (((refl, omega arith), is_next), tt)),
+      ),
+      tt,
+    ),
+    tt,
+  ),
+)
+
+-- ---- a source's row
+
+-- what reaches a block is an activation output
+is_output : (n : Parts) (net : IsNet n) (q : Feed) {b : ℕ} → Reaches n q b → IsActivationOutput n q.block q.port
+is_output n net q (seeded b f) = net.wired.feeds_lead b f.input q f.within f.fed
+is_output n net q (passed a b r i u) = is_output n net q r
+
+module _ (n : Parts) (net : IsNet n) where
+  is_typed : (b : ℕ) → IsBlock n b → typed (spec_of n b) ≡ true
+  is_typed b is = net.typed_specs b is
+
+  place_small : (b : ℕ) → IsBlock n b → b - 1 < 2 ^ 63
+  place_small b is = omega (arith, is.most, net.wired.few)
+
+  number_small : (b : ℕ) → IsBlock n b → b < 2 ^ 63
+  number_small b is = omega (arith, is.most, net.wired.few)
+
+  active_fits : (b : ℕ) → IsBlock n b → IsExp (is_active b)
+  active_fits b is = is_place actives (b - 1) (refl, omega arith) (place_small b is)
+
+  power_small : (p k : ℕ) → p < k → k ≤ 8 → 2 ^ p < 2 ^ 63
+  power_small p k l m = let h = few_small p (omega (arith, l, m)) in omega (arith, h)
+
+  mark_fits : (d b : ℕ) → IsBlock n b → BlockFits (suc d) (mark b)
+  mark_fits d b is = set_fits d actives (b - 1) (natural 1) (refl, omega arith) (place_small b is) (is_small 1 (omega arith))
+
+  bits_fit : (d b m : ℕ) → IsBlock n b → reads_mask (spec_of n b).kind ≡ true → BlockFits (suc d) (with_bits b m (spec_of n b).evtin)
+  bits_fit d b m is reads = upto_fits (suc d) (λ p. text_where (nat_eq (bit_at m p) 1) (with_bit b p)) (spec_of n b).evtin (λ p l.
+      where_fits (suc d) (nat_eq (bit_at m p) 1) (with_bit b p) (λ e.
+      set_fits d masks (b - 1) _ (refl, omega arith) (place_small b is)
+      (is_bit b p (place_small b is) (power_small p (spec_of n b).evtin l (few_inputs (spec_of n b) (is_typed b is) reads)))))
+
+  guard_fits : (d : ℕ) (e : Entry) (g : Guard) → IsBlock n e.block → IsActivationOutput n g.block g.port → BlockFits (suc (suc d)) (guard_text n e g)
+  guard_fits d e g is out =
+      let bits = with_bits e.block g.mask (spec_of n e.block).evtin in
+      let few = few_outputs (spec_of n g.block) (is_typed g.block out.block) in (
+        (
+          is_branch g (place_small g.block out.block) (omega (arith, few, out.most)),
+          joined_fits (suc d) (text_where (not e.always) (mark e.block)) (text_where (reads n e) bits)
+              (where_fits (suc d) (not e.always) (mark e.block) (λ q. mark_fits d e.block is))
+              (where_fits (suc d) (reads n e) bits (λ q. bits_fit d e.block g.mask is q)),
+          tt,
+        ),
+        tt,
+      )
+
+  call_fits : (d b : ℕ) → IsBlock n b → BlockFits (suc d) (call_text n b)
+  call_fits d b is = (
+    (refl, omega (arith, is.most, net.wired.few)),
+    where_fits (suc d) (is_sync (spec_of n b).kind) (one (set (cell branches (natural (b - 1))) (branch_expression (spec_of n b) (places_of n b)))) (λ q.
+        set_fits d branches (b - 1) (branch_expression (spec_of n b) (places_of n b)) (refl, omega arith) (place_small b is)
+        (branch_fits_all (spec_of n b) (places_of n b) (is_typed b is) q (in_bounds n net b is))),
+  )
+
+  either_fits : (d : ℕ) (test : Bool) (e : Exp) (t : Block) → IsExp e → ((d : ℕ) → BlockFits (suc d) t)
+      → BlockFits (suc (suc d)) (if test then t else only_where e t)
+  either_fits d true e t x h = h (suc d)
+  either_fits d false e t x h = ((x, h d, tt), tt)
+
+  module _ (s : Source) (free : IsLoopFree n s) (row : List Entry) (is : IsRow n s row) where
+    entry_fits : (pre post : List Entry) (e : Entry) → row ≡ pre ++ e ∷ post → BlockFits 16 (entry_text n e)
+    entry_fits pre post e split =
+        let block : IsBlock n e.block = block_here n s net free row is pre post e split in
+        let mask : e.mask < 2 ^ (spec_of n e.block).evtin = mask_few n s net free row is pre post e split in
+        let entry : IsEntry n s e = entry_is pre post e split in
+        let few : (reads n e) ≡ true → e.mask < 2 ^ 63 = λ q.
+        (let most = few_small (spec_of n e.block).evtin (few_inputs (spec_of n e.block) (is_typed e.block block) q) in omega (arith, most, mask)) in
+        joined_fits 16 (text_where e.always (mark e.block)) (joined (masked n e) (joined (guarded n e) (called n e)))
+        (where_fits 16 e.always (mark e.block) (λ q. mark_fits 15 e.block block))
+        (joined_fits 16 (masked n e) (joined (guarded n e) (called n e))
+        (where_fits 16 (reads n e) (one (set (cell masks (natural (e.block - 1))) (natural e.mask))) (λ q.
+        set_fits 15 masks (e.block - 1) (natural e.mask) (refl, omega arith) (place_small e.block block) (is_small e.mask (few q))))
+        (joined_fits 16 (guarded n e) (called n e)
+        (where_fits 16 (not e.always || (reads n e)) (texts (guard_text n e) e.guards) (λ q.
+        texts_fit 16 (guard_text n e) e.guards (λ g c. guard_fits 14 e g block (is_output n net (branch_of g) ((entry.guards_are g).0 c).reaches))))
+        (either_fits 14 e.always (is_active e.block) (call_text n e.block) (active_fits e.block block) (λ d. call_fits d e.block block))))
+      where
+        entry_is : (pre post : List Entry) (e : Entry) → row ≡ pre ++ e ∷ post → IsEntry n s e
+        entry_is pre post e split = All-contains (IsEntry n s) row e is.entries (subst (λ es. Contains es e) (sym split) (Contains-mid pre post e))
+
+    row_fits : BlockFits 16 (texts (entry_text n) row)
+    row_fits = texts_split 16 (entry_text n) row [] row refl entry_fits
+
+  header_fits : (s : Source) → IsSource n s → BlockFits 16 (header_text s)
+  header_fits Start is = (tt, tt)
+  header_fits (Port q) is =
+      let few = few_outputs (spec_of n q.block) (is_typed q.block is.0.block) in
+      ((is_var now_name (refl, omega arith), is_small q.block (number_small q.block is.0.block), is_small q.port (omega (arith, few, is.0.most))), tt)
+
+  source_is : (i : ℕ) → i < length (sources_of n) → IsSource n (source_of n i)
+  source_is i l = (sources_are n (source_of n i)).0 (Contains-get_or (sources_of n) i Start l)
+
+  source_fits : (rows : List (List Entry)) → AreLoopFree n → IsSchedule n rows → (i : ℕ) → i < length (sources_of n)
+      → BlockFits 16 (source_function n rows i).body
+  source_fits rows free schedule i l =
+      joined_fits 16 (header_text (source_of n i)) (texts (entry_text n) (slice_index_or rows i [])) (header_fits (source_of n i) (source_is i l))
+      (row_fits (source_of n i) (free i l) (slice_index_or rows i []) (schedule.each i (omega (arith, l, schedule.enough))))
+
+  -- ---- the other functions
+
+  elements_fit : (d b p e o m : ℕ) → b < 2 ^ 63 → p < 2 ^ 63 → e + m < 2 ^ 63 → o + m < 2 ^ 63 → BlockFits (suc d) (elements_shown b p e o m)
+  elements_fit d b p e o zero hb hp he ho = tt
+  elements_fit d b p e o (suc m) hb hp he ho = (
+    (is_small b hb, is_small p hp, is_small e (omega (arith, he)), is_place values o (refl, omega arith) (omega (arith, ho))),
+    elements_fit d b p (e + 1) (o + 1) m hb hp (omega (arith, he)) (omega (arith, ho)),
+  )
+
+  outputs_fit : (d b p o : ℕ) (qs : List Output) → b < 2 ^ 63 → p + length qs < 2 ^ 63 → o + total qs < 2 ^ 62 → BlockFits (suc d) (outputs_shown b p o qs)
+  outputs_fit d b p o [] hb hp ho = tt
+  outputs_fit d b p o (q ∷ qs) hb hp ho =
+      joined_fits (suc d) (elements_shown b p 1 o (elements q)) (outputs_shown b (p + 1) (o + elements q) qs) (elements_fit d b p 1 o (elements q) hb (omega (arith, hp)) (omega (arith, ho)) (omega (arith, ho)))
+      (outputs_fit d b (p + 1) (o + elements q) qs hb (omega (arith, hp)) (omega (arith, ho)))
+
+  values_fit : (b : ℕ) → IsBlock n b → BlockFits 16 (values_shown n b)
+  values_fit b is =
+      let outs = few_outs (spec_of n b) (is_typed b is) in
+      let within = block_within n b is in
+      let shown = outputs_shown b 1 (start_of n b) (spec_of n b).outs in
+      where_fits 16 (nat_lt 0 (length (spec_of n b).outs)) (only_where (is_active b) shown) (λ q.
+      ((active_fits b is, outputs_fit 14 b 1 (start_of n b) (spec_of n b).outs (number_small b is) (omega (arith, outs)) (omega (arith, within, net.small)), tt), tt))
+
+  delay_fits : (i : ℕ) → i ≤ 4096 → (s : Source) → IsSource n s → BlockFits 16 (delay_text n i s)
+  delay_fits i l Start is = tt
+  delay_fits i l (Port q) is =
+      let block = is.0.block in
+      let e = delay_expression (spec_of n q.block) (places_of n q.block) in
+      let x = delay_fits_all (spec_of n q.block) (places_of n q.block) (is_typed q.block block) (port_has_delay n net q is) (in_bounds n net q.block block) in
+      ((active_fits q.block block, program_fits (i - 1) e (omega (arith, l)) x, tt), tt)
+
+  state_fits : (b : ℕ) → IsBlock n b → BlockFits 16 (state_text n b)
+  state_fits b is =
+      let t = next_text (spec_of n b) (places_of n b) in
+      where_fits 16 (has_state (spec_of n b).kind) (only_where (is_active b) t) (λ q.
+      ((active_fits b is, next_fits (spec_of n b) (places_of n b) (in_bounds n net b is) next_reads_law (is_typed b is) 14, tt), tt))
+
+  halt_fits : (b : ℕ) → IsBlock n b → BlockFits 16 (halt_text n b)
+  halt_fits b is =
+      where_fits 16 (is_halt (spec_of n b).kind) (only_where (is_active b) (one (set (scalar halt_name) (natural 1)))) (λ q.
+      ((active_fits b is, (((refl, omega arith), is_small 1 (omega arith)), tt), tt), tt))
+
+  inside : (k : ℕ) → k < length n.specs → IsBlock n (suc k)
+  inside k l = record { least = omega arith; most = omega (arith, l) }
+
+  settle_fits : BlockFits 16 (settle_text n)
+  settle_fits =
+      let few = few_ports n net in
+      joined_fits 16 (all_shown n) (joined (all_delays n) (joined (all_states n) (all_halts n)))
+      (upto_fits 16 (λ k. values_shown n (suc k)) (length n.specs) (λ k l. values_fit (suc k) (inside k l)))
+      (joined_fits 16 (all_delays n) (joined (all_states n) (all_halts n))
+      (upto_fits 16 (λ k. delay_text n (suc k) (source_of n (suc k))) (port_count n) (λ k l.
+      delay_fits (suc k) (omega (arith, l, few)) (source_of n (suc k)) (source_is (suc k) (omega (arith, l)))))
+      (joined_fits 16 (all_states n) (all_halts n) (upto_fits 16 (λ k. state_text n (suc k)) (length n.specs) (λ k l. state_fits (suc k) (inside k l)))
+      (upto_fits 16 (λ k. halt_text n (suc k)) (length n.specs) (λ k l. halt_fits (suc k) (inside k l)))))
+
+  cell_fits : (d : ℕ) (x : Name) → IsName x → BlockFits (suc d) (one (set (cell x (var scan_name)) (natural 0)))
+  cell_fits d x h = (((h, is_var scan_name (refl, omega arith)), is_small 0 (omega arith)), tt)
+
+  clear_fits : BlockFits 16 (clear_text n)
+  clear_fits = (
+    (
+      (refl, omega arith),
+      omega (arith, net.wired.few),
+      ((cell_fits 14 actives (refl, omega arith)).0, where_fits 15 (has_sync n) (one (set (cell branches (var scan_name)) (natural 0))) (λ q. cell_fits 14 branches (refl, omega arith))),
+    ),
+    tt,
+  )
+
+  minus_one : IsExp (number (negsuc 0))
+  minus_one = is_number (negsuc 0) (omega (arith, ints)) (omega (arith, ints))
+
+  choose_fits : BlockFits 16 (choose_text n)
+  choose_fits = (
+    ((refl, omega arith), minus_one),
+    (
+      (
+        (refl, omega arith),
+        (let few = few_ports n net in omega (arith, few)),
+        ((is_better, ((((refl, omega arith), is_var scan_name (refl, omega arith)), tt)), tt), tt),
+      ),
+      tt,
+    ),
+  )
+
+  -- ---- sci_main
+
+  halted_fits : (d : ℕ) → BlockFits (suc (suc d)) (halted_text n)
+  halted_fits d = where_fits (suc (suc d)) (has_halt n) (end_where (var halt_name) 0) (λ q. end_fits d (var halt_name) 0 (is_var halt_name (refl, omega arith)) (omega arith))
+
+  fire_fits : BlockFits 15 (fire_text n)
+  fire_fits = (
+    ((refl, omega arith), is_date),
+    (
+      (((refl, omega arith), is_var chosen_name (refl, omega arith)), minus_one),
+      (
+        (refl, omega arith),
+        joined_fits 15 (upto fires_source (port_count n)) (one (call settle_name)) (upto_fits 15 fires_source (port_count n) (λ k l.
+            let few = few_ports n net in
+            ((is_chosen (suc k - 1) (omega (arith, l, few)), ((refl, omega (arith, l, few)), tt), tt), tt)))
+            ((refl, omega arith), tt),
+      ),
+    ),
+  )
+
+  event_fits : BlockFits 15 (event_text n)
+  event_fits = by_ports (nat_lt 0 (port_count n))
+    where
+      by_ports : (t : Bool) → BlockFits 15 (if t then next (call choose_name) (joined (end_where (bin Lt (var chosen_name) (natural 0)) 2)
+          (joined (end_where (bin Gt (at_best dates) (var until_name)) 3) (fire_text n)))
+          else one (tell (finish (natural 2))))
+      by_ports true = (
+        (refl, omega arith),
+        ((none_chosen, (is_small 2 (omega arith), tt), tt), ((too_late, (is_small 3 (omega arith), tt), tt), fire_fits)),
+      )
+      by_ports false = (is_small 2 (omega arith), tt)
+
+  begun_fits : (a : Name) (k : ℕ) (z : ℤ) → IsName a → k < 2 ^ 63 → negsuc 4294967295 ≤ℤ z → z ≤ℤ pos 4294967295 → BlockFits 16 (begun_text a k z)
+  begun_fits a k z h l lo hi = where_fits 16 (not (int_eq z (pos 0))) (one (set (cell a (natural k)) (number z))) (λ q. set_fits 15 a k (number z) h l (is_number z lo hi))
+
+  list_fits : (a : Name) (k : ℕ) (zs : List ℤ) → IsName a → k + length zs < 2 ^ 63
+      → ((j : ℕ) → j < length zs → (negsuc 4294967295 ≤ℤ at zs j) × (at zs j ≤ℤ pos 4294967295)) → BlockFits 16 (list_begun a k zs)
+  list_fits a k [] h l r = tt
+  list_fits a k (z ∷ zs) h l r =
+      let first = r 0 (omega arith) in
+      joined_fits 16 (begun_text a k z) (list_begun a (k + 1) zs) (begun_fits a k z h (omega (arith, l)) first.0 first.1)
+      (list_fits a (k + 1) zs h (omega (arith, l)) (λ j q. r (suc j) (omega (arith, q))))
+
+  held_fits : (b : ℕ) → IsBlock n b → BlockFits 16 (held_begun n b)
+  held_fits b is =
+      let law = (first_held_law (spec_of n b) (is_typed b is)).1 in
+      let within = block_within n b is in
+      list_fits values (start_of n b) (first_held (spec_of n b)) (refl, omega arith) (omega (arith, within, net.small, law.enough))
+      (λ j l. is_spelled (type_at (spec_of n b).outs j) (at (first_held (spec_of n b)) j) (law.in_range j (omega (arith, l, law.enough))))
+
+  first_fits : (b : ℕ) → IsBlock n b → BlockFits 16 (state_begun n b)
+  first_fits b is =
+      let law = (first_held_law (spec_of n b) (is_typed b is)).0 in
+      let within = state_within n net b is in
+      let few = few_all_states n net in
+      list_fits states (places_of n b).state (first_state (spec_of n b)) (refl, omega arith) (omega (arith, within, few, law.enough))
+      (λ j l. is_spelled (out_type (spec_of n b)) (at (first_state (spec_of n b)) j) (law.in_range j (omega (arith, l, law.enough))))
+
+  programmed_few : (k : ℕ) → programmed_before n k ≤ k
+  programmed_few zero = omega arith
+  programmed_few (suc k) = let rest = programmed_few k in by_test (is_programmed (firing_at n (source_of n k))) rest
+    where
+      by_test : (t : Bool) → programmed_before n k ≤ k → programmed_before n k + (if t then 1 else 0) ≤ suc k
+      by_test true h = omega (arith, h)
+      by_test false h = omega (arith, h)
+
+  firing_fits : (i o : ℕ) (z : ℤ) → i ≤ 4096 → o ≤ 4096 → z ≤ℤ pos 2147483647 → BlockFits 16 (firing_begun i o z)
+  firing_fits i o (pos d) hi ho hz =
+      joined_fits 16 (begun_text dates (i - 1) (pos d)) (begun_text orders (i - 1) (pos o)) (begun_fits dates (i - 1) (pos d) (refl, omega arith) (omega (arith, hi)) (omega (arith, ints)) (omega (arith, ints, hz)))
+      (begun_fits orders (i - 1) (pos o) (refl, omega arith) (omega (arith, hi)) (omega (arith, ints)) (omega (arith, ints, ho)))
+  firing_fits i o (negsuc d) hi ho hz = set_fits 15 dates (i - 1) (number (negsuc 0)) (refl, omega arith) (omega (arith, hi)) minus_one
+
+  firing_soon : (s : Source) → IsSource n s → firing_at n s ≤ℤ pos 2147483647
+  firing_soon Start is = omega (arith, ints)
+  firing_soon (Port q) is = typed_firing (spec_of n q.block) q.port (is_typed q.block is.0.block)
+
+  begun_source_fits : (k : ℕ) → k < port_count n → BlockFits 16 (source_begun n (suc k))
+  begun_source_fits k l =
+      let few = few_ports n net in
+      let programmed = programmed_few (suc k) in
+      firing_fits (suc k) (programmed_before n (suc k)) (firing_at n (source_of n (suc k))) (omega (arith, l, few)) (omega (arith, programmed, l, few))
+      (firing_soon (source_of n (suc k)) (source_is (suc k) (omega (arith, l))))
+
+  outset_fits : BlockFits 16 (outset_text n)
+  outset_fits =
+      let few = few_ports n net in
+      let programmed = programmed_few (length (sources_of n)) in
+      joined_fits 16 (all_held n) (joined (first_states n) (joined (all_begun n) (where_ports n))) (upto_fits 16 (λ k. held_begun n (suc k)) (length n.specs) (λ k l. held_fits (suc k) (inside k l)))
+      (joined_fits 16 (first_states n) (joined (all_begun n) (where_ports n)) (upto_fits 16 (λ k. state_begun n (suc k)) (length n.specs) (λ k l. first_fits (suc k) (inside k l)))
+      (joined_fits 16 (all_begun n) (where_ports n) (upto_fits 16 (λ k. source_begun n (suc k)) (port_count n) begun_source_fits)
+      (where_fits 16 (nat_lt 0 (port_count n)) (until_asked n) (λ q.
+      (((refl, omega arith), is_small (programmed_before n (length (sources_of n))) (omega (arith, programmed, few))), (((refl, omega arith), tt), tt))))))
+
+  main_fits : BlockFits 16 (main_text n)
+  main_fits =
+      joined_fits 16 (outset_text n) (running n) outset_fits (
+        ((refl, omega arith), tt),
+        (
+          (refl, omega arith),
+          (
+            (refl, omega arith),
+            (
+              ((refl, omega arith), (refl, omega arith), joined_fits 15 (halted_text n) (event_text n) (halted_fits 13) event_fits),
+              joined_fits 16 (halted_text n) (one (tell (finish (natural 1)))) (halted_fits 14) (is_small 1 (omega arith), tt),
+            ),
+          ),
+        ),
+      )
+
+  -- ---- the program
+
+  is_body : (b : Block) → BlockFits 16 b → IsBody b
+  unfolding IsBody
+  is_body b h = h
+
+  all_both : {A : Type 0} (P : A → Type 0) (xs ys : List A) → All P xs → All P ys → All P (xs ++ ys)
+  all_both P [] ys p q = q
+  all_both P (x ∷ xs) ys p q = All-cons P x (xs ++ ys) (All-head P x xs p) (all_both P xs ys (All-tail P x xs p) q)
+
+  all_where : (test : Bool) (ds : List Declared) → All IsDeclared ds → All IsDeclared (declared_where test ds)
+  all_where true ds h = h
+  all_where false ds h = All-nil IsDeclared
+
+  functions_fit : (test : Bool) (fs : List Function) → All IsFunction fs → All IsFunction (functions_where test fs)
+  functions_fit true fs h = h
+  functions_fit false fs h = All-nil IsFunction
+
+  upto_functions_fit : (f : ℕ → Function) (m : ℕ) → ((k : ℕ) → k < m → IsFunction (f k)) → All IsFunction (functions_upto f m)
+  upto_functions_fit f zero h = All-nil IsFunction
+  upto_functions_fit f (suc m) h =
+      all_both IsFunction (functions_upto f m) (f m ∷ []) (upto_functions_fit f m (λ k l. h k (omega (arith, l))))
+      (All-cons IsFunction (f m) [] (h m (omega arith)) (All-nil IsFunction))
+
+  is_array_declared : (x : Name) (k : ℕ) → IsName x → k ≤ 1048576 → IsDeclared (array x k)
+  is_array_declared x k h l = (h, (omega arith, omega (arith, l)))
+
+  array_then : (x : Name) (k : ℕ) (ds : List Declared) → IsName x → k ≤ 1048576 → All IsDeclared ds → All IsDeclared (array x k ∷ ds)
+  array_then x k ds h l r = All-cons IsDeclared (array x k) ds (is_array_declared x k h l) r
+
+  scalar_then : (x : Name) (ds : List Declared) → IsName x → All IsDeclared ds → All IsDeclared (a_scalar x ∷ ds)
+  scalar_then x ds h r = All-cons IsDeclared (a_scalar x) ds (h, tt) r
+
+  scratch_fit : (k : ℕ) → k ≤ 4 → All IsDeclared (scratch_declared k)
+  scratch_fit zero l = All-nil IsDeclared
+  scratch_fit (suc k) l =
+      all_both IsDeclared (scratch_declared k) _ (scratch_fit k (omega (arith, l)))
+      (scalar_then (scratch_name (suc k)) [] (refl, omega (arith, l)) (All-nil IsDeclared))
+
+  events_fit : All IsDeclared event_scalars
+  events_fit =
+      scalar_then until_name (a_scalar now_name ∷ a_scalar programmed_name ∷ a_scalar chosen_name ∷ a_scalar delay_name ∷ a_scalar scan_name ∷ [])
+      (refl, omega arith)
+      (scalar_then now_name (a_scalar programmed_name ∷ a_scalar chosen_name ∷ a_scalar delay_name ∷ a_scalar scan_name ∷ []) (refl, omega arith)
+      (scalar_then programmed_name (a_scalar chosen_name ∷ a_scalar delay_name ∷ a_scalar scan_name ∷ []) (refl, omega arith)
+      (scalar_then chosen_name (a_scalar delay_name ∷ a_scalar scan_name ∷ []) (refl, omega arith)
+      (scalar_then delay_name (a_scalar scan_name ∷ []) (refl, omega arith)
+      (scalar_then scan_name [] (refl, omega arith) (All-nil IsDeclared))))))
+
+  declarations_fit : (rows : List (List Entry)) → All IsDeclared (declarations n rows)
+  declarations_fit rows =
+      let e : All IsDeclared [] = All-nil IsDeclared in
+      let blocks : length n.specs ≤ 1048576 = omega (arith, net.wired.few) in
+      let ports : port_count n ≤ 1048576 = (let few = few_ports n net in omega (arith, few)) in
+      let size : states_before n.specs (length n.specs) ≤ 1048576 = (let few = few_all_states n net in omega (arith, few)) in
+      let d1 : All IsDeclared (value_arrays n) =
+      array_then values (all_elements n.specs) (array states (states_before n.specs (length n.specs)) ∷ array masks (length n.specs) ∷ [])
+      (refl, omega arith) (omega (arith, net.small))
+      (array_then states (states_before n.specs (length n.specs)) (array masks (length n.specs) ∷ []) (refl, omega arith) size
+      (array_then masks (length n.specs) [] (refl, omega arith) blocks e)) in
+      let d2 = all_where (nat_lt 0 (length n.specs)) (active_array n) (array_then actives (length n.specs) [] (refl, omega arith) blocks e) in
+      let d3 = all_where (has_sync n) (branch_array n) (array_then branches (length n.specs) [] (refl, omega arith) blocks e) in
+      let d4 = all_where (nat_lt 0 (port_count n)) (due_arrays n)
+      (array_then dates (port_count n) (array orders (port_count n) ∷ []) (refl, omega arith) ports
+      (array_then orders (port_count n) [] (refl, omega arith) ports e)) in
+      let d5 = scratch_fit (scratch_count n rows (length n.specs)) (scratch_few n rows (length n.specs)) in
+      let d6 : All IsDeclared limit_scalars = scalar_then limit_name (a_scalar fired_name ∷ []) (refl, omega arith) (scalar_then fired_name [] (refl, omega arith) e) in
+      let d7 = all_where (nat_lt 0 (port_count n)) event_scalars events_fit in
+      let d8 = all_where (has_halt n) halt_scalar (scalar_then halt_name [] (refl, omega arith) e) in
+      let p2 = value_arrays n ++ declared_where (nat_lt 0 (length n.specs)) (active_array n) in
+      let p3 = p2 ++ declared_where (has_sync n) (branch_array n) in
+      let p4 = p3 ++ declared_where (nat_lt 0 (port_count n)) (due_arrays n) in
+      let p5 = p4 ++ scratch_declared (scratch_count n rows (length n.specs)) in
+      let p6 = p5 ++ limit_scalars in
+      let p7 = p6 ++ declared_where (nat_lt 0 (port_count n)) event_scalars in
+      all_both IsDeclared p7 (declared_where (has_halt n) halt_scalar)
+      (all_both IsDeclared p6 (declared_where (nat_lt 0 (port_count n)) event_scalars)
+      (all_both IsDeclared p5 limit_scalars
+      (all_both IsDeclared p4 (scratch_declared (scratch_count n rows (length n.specs)))
+      (all_both IsDeclared p3 (declared_where (nat_lt 0 (port_count n)) (due_arrays n))
+      (all_both IsDeclared p2 (declared_where (has_sync n) (branch_array n))
+      (all_both IsDeclared (value_arrays n) (declared_where (nat_lt 0 (length n.specs)) (active_array n)) d1 d2)
+      d3)
+      d4)
+      d5)
+      d6)
+      d7)
+      d8
+
+  block_function_fits : (rows : List (List Entry)) (k : ℕ) → k < length n.specs → IsFunction (block_function n rows (suc k))
+  block_function_fits rows k l =
+      let is = inside k l in (
+        (refl, omega (arith, l, net.wired.few)),
+        is_body (block_function n rows (suc k)).body (where_fits 16 (is_scheduled rows (suc k)) (body_text (spec_of n (suc k)) (places_of n (suc k))) (λ q. body_fits (spec_of n (suc k)) (places_of n (suc k)) (in_bounds n net (suc k) is) cell_reads_law (is_typed (suc k) is) 13)),
+      )
+
+  other_functions_fit : All IsFunction (other_functions n)
+  other_functions_fit =
+      All-cons IsFunction (settle_function n) (functions_where (nat_lt 0 (port_count n)) (before n))
+      ((refl, omega arith), is_body (settle_text n) settle_fits) (functions_fit (nat_lt 0 (port_count n)) (before n)
+      (All-cons IsFunction (clear_function n) (choose_function n ∷ []) ((refl, omega arith), is_body (clear_text n) clear_fits)
+      (All-cons IsFunction (choose_function n) [] ((refl, omega arith), is_body (choose_text n) choose_fits) (All-nil IsFunction))))
+
+  pub is_whole : (rows : List (List Entry)) → AreLoopFree n → IsSchedule n rows → IsWhole (program n rows)
+  is_whole rows free schedule = record {
+    decls = declarations_fit rows;
+    funcs = all_both IsFunction (blocks n rows ++ other_functions n) (sources n rows)
+        (all_both IsFunction (blocks n rows) (other_functions n)
+        (upto_functions_fit (λ k. block_function n rows (suc k)) (length n.specs) (block_function_fits rows)) other_functions_fit)
+        (upto_functions_fit (source_function n rows) (length (sources_of n)) (λ i l.
+        ((refl, (let few = few_ports n net in omega (arith, l, few))), is_body (source_function n rows i).body (source_fits rows free schedule i l))));
+    main = is_body (main_text n) main_fits;
+  }

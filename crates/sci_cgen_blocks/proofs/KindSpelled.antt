@@ -1,0 +1,69 @@
+-- All numbers in the terms of a typed block are spelled, and its places are small.
+use Rattle.std.proofs.Common.{arith, ◌≡◌, ◌≢◌, ◌<◌, ◌≤◌, ◌+◌, ◌^◌, ℕ, suc, ℤ, inl, inr, pos, negsuc, true, length, refl, ap, ◌∙◌}
+use Rattle.std.proofs.lemmas.Int.{ints}
+use Rattle.std.proofs.lemmas.Bool.{cases_lt}
+use Rattle.c_ast.specs.Syntax.{Block}
+use Rattle.c_steps.specs.Texts.{joined, upto}
+use Rattle.sci_forms.specs.declared.Kind.{Kind}
+use Rattle.sci_forms.specs.declared.Kind.TheVariants.{Sensor, EvtDly, EvtVarDly, IfThEl, ESelect}
+use Rattle.sci_forms.specs.declared.spec.Spec.{Spec}
+use Rattle.sci_forms.specs.Ports.{port_at, elements, total}
+use Rattle.sci_forms.specs.Typed.{typed}
+use Rattle.sci_forms.specs.Words.{state_len_of}
+use Rattle.sci_kinds.specs.Asks.{Asks}
+use Rattle.sci_kinds.proofs.LawProofs.{asks}
+use Rattle.sci_cgen_blocks.specs.Terms.{IsSpelled}
+use Rattle.sci_cgen_blocks.specs.Recipes.{recipe_of, next_term, delay_term, branch_term, fed, from_value}
+use Rattle.sci_cgen_blocks.specs.Texts.{Places, values_text, recipe_text}
+use Rattle.sci_cgen_blocks.specs.Plain.{AreSpelled, IsRecipeSpelled, AreFew}
+use Rattle.sci_cgen_blocks.proofs.KindLaws.{cell_reads_law}
+use Rattle.sci_cgen_blocks.proofs.NextStates.{next_reads_law}
+use Rattle.sci_cgen_blocks.proofs.KindParts.{fits_spelled, recipe_spelled}
+
+pub cell_spelled : (s : Spec) → typed s ≡ true → s.kind ≢ Sensor → (e : ℕ) → e < total s.outs → IsRecipeSpelled (recipe_of s.kind s e)
+cell_spelled s h n e l = recipe_spelled (fed s) (recipe_of s.kind s e) (cell_reads_law s h n e l)
+
+pub next_spelled : (s : Spec) → typed s ≡ true → (i : ℕ) → i < state_len_of s.kind s → AreSpelled (next_term s.kind s i)
+next_spelled s h i l = fits_spelled (from_value s i) 32 (next_term s.kind s i) (next_reads_law s h i l)
+
+natural_spelled : (n : ℕ) → n ≤ 4294967296 → IsSpelled (pos n)
+natural_spelled n h = (omega (arith, ints), omega (arith, ints, h))
+
+delay_by_kind : (k : Kind) (s : Spec) → Asks k s → AreSpelled (delay_term k s)
+delay_by_kind EvtDly s a = (omega (arith, ints, a.2), omega (arith, ints, a.3))
+delay_by_kind EvtVarDly s a = (
+  (
+    (tt, natural_spelled 0 (omega arith)),
+    (((tt, natural_spelled 2147483647 (omega arith)), tt), ((tt, natural_spelled 2147483647 (omega arith)), natural_spelled 2147483647 (omega arith))),
+  ),
+  (tt, natural_spelled 0 (omega arith)),
+)
+delay_by_kind _ s a = (omega (arith, ints), omega (arith, ints))
+
+pub delay_spelled : (s : Spec) → typed s ≡ true → AreSpelled (delay_term s.kind s)
+delay_spelled s h = delay_by_kind s.kind s (asks s h)
+
+branch_by_kind : (k : Kind) (s : Spec) → Asks k s → AreSpelled (branch_term k s)
+branch_by_kind IfThEl s a = (natural_spelled 2 (omega arith), (tt, natural_spelled 0 (omega arith)))
+branch_by_kind ESelect s a =
+    let few : s.evtout ≤ 4294967296 = omega (arith, a.3) in (
+      ((tt, natural_spelled 1 (omega arith)), (((tt, natural_spelled s.evtout few), tt), ((tt, natural_spelled s.evtout few), natural_spelled s.evtout few))),
+      (tt, natural_spelled 1 (omega arith)),
+    )
+branch_by_kind _ s a = natural_spelled 1 (omega arith)
+
+pub branch_spelled : (s : Spec) → typed s ≡ true → AreSpelled (branch_term s.kind s)
+branch_spelled s h = branch_by_kind s.kind s (asks s h)
+
+-- ---- texts element by element
+
+pub upto_more : (f : ℕ → Block) (k : ℕ) (a b : Block) → a ≡ joined b (f k) → b ≡ upto f k → a ≡ upto f (k + 1)
+upto_more f k a b e so_far = let next : suc k ≡ k + 1 = omega arith in e ∙ ap (λ x. joined x (f k)) so_far ∙ ap (upto f) next
+
+pub values_of_other : (k : Kind) (s : Spec) (p : Places) → k ≢ Sensor → values_text k s p ≡ upto (λ e. recipe_text p e (recipe_of k s e)) (total s.outs)
+values_of_other Sensor s p n = absurd (n refl)
+values_of_other _ s p n = refl
+
+-- an input's elements have places, so they are few
+pub few_elements : (s : Spec) (p : Places) → AreFew s p → (k : ℕ) → k < length s.ins → elements (port_at s.ins k) ≤ 2 ^ 20
+few_elements s p f k l = elim (cases_lt (2 ^ 20) (elements (port_at s.ins k))) [ inl h ↦ absurd (omega (arith, f.ins k (2 ^ 20) l h)) | inr h ↦ h ]

@@ -1,0 +1,144 @@
+// The texts of a block.
+ghost use Rattle.std.specs.Prelude.{◌≡◌, ◌≢◌, ◌<◌, ◌≤◌, ◌+◌, ◌^◌, ℕ, true, pos, length, IfOk, OnOk};
+ghost use Rattle.sci_forms.specs.Typed.{typed};
+ghost use Rattle.sci_forms.specs.Ports.{total};
+ghost use Rattle.sci_forms.specs.Words.{state_len_of};
+ghost use Rattle.sci_forms.specs.Forms.{is_sync, has_delay};
+ghost use Rattle.c_ast.specs.View.{exp_of, statement_of, statements_of};
+ghost use Rattle.c_steps.specs.Texts.{joined, upto};
+ghost use Rattle.c_ast.specs.Syntax.{num, set as assign, cell};
+ghost use Rattle.sci_forms.specs.declared.Kind.TheVariants as kinds;
+ghost use Rattle.sci_cgen_blocks.specs.Recipes.{recipe_of, next_term as next_by_kind};
+ghost use Rattle.sci_cgen_blocks.specs.Texts.{recipe_text, states as states_name, expression as expression_text, sensor_text, body_text, next_text, delay_expression, branch_expression};
+ghost use Rattle.sci_cgen_blocks.specs.Plain.{plain_places, AreFew};
+
+use crate::Layout;
+use crate::array_names::{scratch, states, values};
+use crate::kind_recipes::recipe;
+use crate::kind_terms::{branch_term, delay_term, next_term, state_len};
+use crate::spec_words::param;
+use crate::writing::{either, expression, push_recipe};
+use c_ast::{Ask, Expr, Stmt, Target, Tell};
+use sci_base::NoMemory;
+use sci_forms::{Kind, Ports, Spec};
+use std::alloc::Global;
+
+/// How many elements some ports have.
+#[tactic(auto, using(crate::proofs::KindParts::total_step, crate::proofs::KindParts::total_end))]
+fn total(ports: &Ports) -> u32
+    requires { total ports.now < 2 ^ 32 }
+    ensures { result ≡ total ports.now }
+{
+    let mut count = 0;
+    for port in 0..ports.len() {
+        count += ports.port(port).elements() as u32;
+    }
+    count
+}
+
+/// The next value of a column, or the stop where it has none.
+fn sensor(alloc: Global, at: &Layout, column: i64) -> Result<Vec<Stmt>, NoMemory>
+    ensures { IfOk result (λ v. statements_of v.items ≡ sensor_text (plain_places at.now) column) }
+{
+    let more = Stmt::Ask(Target::Var(scratch(1)), Ask::More(Expr::Num(column)));
+    let take = Stmt::Ask(
+        Target::At(values(), Expr::Num(at.outs as i64)),
+        Ask::Input(Expr::Num(column)),
+    );
+    let stop = Stmt::Tell(Tell::Stop(Expr::Num(2), Expr::Num(at.number as i64), Expr::Num(0)));
+    let choice = either(
+        Expr::Var(scratch(1)),
+        vec![in alloc; take]?,
+        vec![in alloc; stop]?,
+    );
+    Ok(vec![in alloc; more, choice]?)
+}
+
+/// Element `e` of the outputs, of a block that isn't a sensor.
+fn push_element(
+    alloc: Global,
+    out: &mut Vec<Stmt>,
+    s: &Spec,
+    at: &Layout,
+    e: u32,
+) -> Result<(), NoMemory>
+    requires is_typed { typed s.now ≡ true }
+    requires few { AreFew s.now (plain_places at.now) }
+    requires own { s.now.kind ≢ kinds.Sensor }
+    requires element { e < total s.now.outs }
+    ensures { OnOk result (statements_of out.new.items ≡ joined (statements_of out.old.items) (recipe_text (plain_places at.now) e (recipe_of s.now.kind s.now e))) }
+{
+    push_recipe(alloc, out, at, e, &recipe(alloc, s, e)?)
+}
+
+/// The values of a block that isn't a sensor.
+fn elements(alloc: Global, s: &Spec, at: &Layout) -> Result<Vec<Stmt>, NoMemory>
+    requires is_typed { typed s.now ≡ true }
+    requires few { AreFew s.now (plain_places at.now) }
+    requires own { s.now.kind ≢ kinds.Sensor }
+    ensures { IfOk result (λ v. statements_of v.items ≡ upto (λ e. recipe_text (plain_places at.now) e (recipe_of s.now.kind s.now e)) (total s.now.outs)) }
+{
+    let mut out = Vec::new(alloc);
+    for e in 0..total(&s.outs) {
+        push_element(alloc, &mut out, s, at, e)?;
+    }
+    Ok(out)
+}
+
+/// The statements that work out a block's values from its inputs, its state and its mask, and leave them at the places of its outputs; a
+/// block that has no value stops the run.
+#[tactic(auto, using(crate::proofs::KindSpelled::values_of_other))]
+pub fn block_body(alloc: Global, s: &Spec, at: &Layout) -> Result<Vec<Stmt>, NoMemory>
+    requires is_typed { typed s.now ≡ true }
+    requires few { AreFew s.now (plain_places at.now) }
+    ensures { IfOk result (λ v. statements_of v.items ≡ body_text s.now (plain_places at.now)) }
+{
+    if let Kind::Sensor = s.kind {
+        sensor(alloc, at, param(s, 0))
+    } else {
+        elements(alloc, s, at)
+    }
+}
+
+/// Value `i` of the state becomes that of the next state.
+fn next_value(alloc: Global, s: &Spec, at: &Layout, i: u32) -> Result<Stmt, NoMemory>
+    requires is_typed { typed s.now ≡ true }
+    requires value { i < state_len_of s.now.kind s.now }
+    requires small { i < 2 ^ 31 }
+    ensures { IfOk result (λ x. statement_of x ≡ assign (cell states_name (num (pos (at.now.state + i)))) (expression_text (plain_places at.now) (next_by_kind s.now.kind s.now i))) }
+{
+    let value = expression(alloc, at, &next_term(alloc, s, i)?)?;
+    let place = Target::At(states(), Expr::Num(at.state as i64 + i as i64));
+    Ok(Stmt::Set(place, value))
+}
+
+/// The statements that leave a block's next state at its place.
+pub fn block_next(alloc: Global, s: &Spec, at: &Layout) -> Result<Vec<Stmt>, NoMemory>
+    requires is_typed { typed s.now ≡ true }
+    requires few { AreFew s.now (plain_places at.now) }
+    ensures { IfOk result (λ v. statements_of v.items ≡ next_text s.now (plain_places at.now)) }
+{
+    let mut out = Vec::new(alloc);
+    for i in 0..state_len(s) {
+        out.push(next_value(alloc, s, at, i)?)?;
+    }
+    Ok(out)
+}
+
+/// The delay of a block's activation output as an expression. All activation outputs of a block have one delay.
+pub fn block_delay(alloc: Global, s: &Spec, at: &Layout, _port: u32) -> Result<Expr, NoMemory>
+    requires is_typed { typed s.now ≡ true }
+    requires delays { has_delay s.now.kind ≡ true }
+    ensures { IfOk result (λ e. exp_of e ≡ delay_expression s.now (plain_places at.now)) }
+{
+    expression(alloc, at, &delay_term(alloc, s)?)
+}
+
+/// The branch that a synchronous block takes as an expression.
+pub fn block_branch(alloc: Global, s: &Spec, at: &Layout) -> Result<Expr, NoMemory>
+    requires is_typed { typed s.now ≡ true }
+    requires sync { is_sync s.now.kind ≡ true }
+    ensures { IfOk result (λ e. exp_of e ≡ branch_expression s.now (plain_places at.now)) }
+{
+    expression(alloc, at, &branch_term(alloc, s)?)
+}
