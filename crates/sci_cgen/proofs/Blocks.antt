@@ -1,37 +1,34 @@
 -- Each block has one function, which is called as often as the schedule has entries of the block.
-use Rattle.std.proofs.Common.{◌≡◌, ℕ, zero, suc, ◌+◌, ◌-◌, ◌<◌, ◌≤◌, inl, inr, List, [], ◌∷◌, ◌++◌, length, length-append, take, slice_index_or, Contains, Bool, true, false, ◌&&◌, ◌||◌, not, nat_eq, nat_lt, if◌then◌else◌, refl, sym, ap, ◌∙◌, subst, arith, ℤ, pos, negsuc, eq-eqb, ne_eqb}
+use Rattle.std.proofs.Common.{◌≡◌, ℕ, zero, suc, ◌+◌, ◌-◌, ◌<◌, ◌≤◌, inl, inr, List, [], ◌∷◌, ◌++◌, length, take, slice_index_or, Contains, Bool, true, false, ◌||◌, not, nat_eq, nat_lt, if◌then◌else◌, refl, sym, ap, ◌∙◌, subst, arith, ℤ, pos, negsuc, eq-eqb, ne_eqb}
 use Rattle.std.specs.Int.{bit_at}
-use Rattle.std.proofs.lemmas.Bool.{cases_eq, cases_lt, cond-true, cond-false}
+use Rattle.std.proofs.lemmas.Bool.{cases_eq, cond-false}
 use Rattle.sci_base.specs.Fit.{int_eq}
 use Rattle.sci_forms.specs.declared.ports.Port.{Port as Output}
 use Rattle.sci_forms.specs.Ports.{elements}
 use Rattle.sci_forms.specs.Forms.{is_sync, has_state}
-use Rattle.sci_forms.specs.Words.{state_len_of}
 use Rattle.sci_kinds.specs.Table.{first_state, first_held}
 use Rattle.sci_places.specs.Flat.{start_of}
 use Rattle.sci_net.specs.declared.Source.{Source}
 use Rattle.sci_net.specs.declared.Source.TheVariants.{Start, Port}
 use Rattle.sci_net.specs.Parts.{Parts, IsBlock, spec_of}
 use Rattle.sci_net.specs.Sources.{sources_of, source_of}
-use Rattle.sci_net.specs.Net.{IsNet}
-use Rattle.sci_reaction.specs.Schedule.{Guard, Entry, IsSchedule, blocks_of}
+use Rattle.sci_reaction.specs.Schedule.{Guard, Entry, blocks_of}
 use Rattle.sci_run.specs.Activity.{is_halt}
 use Rattle.c_ast.specs.declared.Name.{Name}
-use Rattle.c_ast.specs.declared.Bound.TheVariants as bounds
-use Rattle.c_ast.specs.declared.Op.TheVariants.{Lt, Gt, Eq}
-use Rattle.c_ast.specs.Syntax.{Exp, bin, var, scalar, cell, until, limit, finish, Statement, set, ask, choice, loop, call, tell, Block, done, next, Function}
+use Rattle.c_ast.specs.declared.Op.TheVariants.{Lt, Gt}
+use Rattle.c_ast.specs.Syntax.{Exp, bin, var, scalar, cell, finish, Statement, set, ask, choice, loop, call, tell, Block, done, next, Function}
 use Rattle.c_mean.specs.Meaning.{same_name}
 use Rattle.c_steps.specs.Texts.{May, number, joined, upto, statement_within, block_within}
 use Rattle.c_steps.proofs.Memory.{and_left, and_right, other_name}
 use Rattle.sci_cgen_blocks.specs.Texts.{values, states, masks, body_text, next_text, branch_expression}
 use Rattle.sci_cgen_blocks.specs.Meant.{body_may, next_may}
 use Rattle.sci_cgen_blocks.proofs.Assigned.{body_within, next_within}
-use Rattle.sci_due.specs.Due.{dates, orders, best as chosen_name, scan as scan_name, last as programmed_name}
+use Rattle.sci_due.specs.Due.{dates, orders, best as chosen_name, scan as scan_name}
 use Rattle.sci_due.specs.Texts.{at_best}
-use Rattle.sci_cgen.specs.Names.{branches, limit_name, until_name, fired_name, halt_name, block_name, source_name, clear_name, settle_name, choose_name}
-use Rattle.sci_cgen.specs.Program.{natural, one, is_active, mark, is_taken, end_where, has_halt, choose_text, texts, text_where, only_where, each_block, each_port, port_count, places_of, is_scheduled, block_function, reads_mask, with_bit, with_bits, guard_text, call_text, entry_text, header_text, row_text, source_function, clear_text, has_sync, elements_shown, outputs_shown, values_shown, delay_text, state_text, halt_text, settle_text, halted_text, fire_text, event_text, turn_text, begun_text, list_begun, held_begun, state_begun, firing_at, programmed_before, firing_begun, source_begun, outset_text, main_text, functions_upto, functions_where, other_functions, functions, program}
+use Rattle.sci_cgen.specs.Names.{branches, until_name, halt_name, block_name, settle_name, choose_name}
+use Rattle.sci_cgen.specs.Program.{natural, one, is_active, mark, is_taken, end_where, has_halt, texts, text_where, only_where, port_count, places_of, is_scheduled, block_function, with_bit, with_bits, guard_text, call_text, entry_text, header_text, source_function, clear_text, has_sync, elements_shown, outputs_shown, values_shown, delay_text, state_text, halt_text, settle_text, halted_text, fire_text, event_text, turn_text, begun_text, list_begun, held_begun, state_begun, firing_at, programmed_before, firing_begun, source_begun, outset_text, main_text, functions_upto, functions_where, other_functions, functions}
 use Rattle.sci_cgen.proofs.Parted.{reads, masked, guarded, called, all_shown, all_delays, all_states, all_halts, all_held, first_states, all_begun, until_asked, where_ports, fires_source, running, own, blocks, sources, before}
-use Rattle.sci_cgen.specs.Laws.{calls_in_statement, calls_in, calls_in_functions, named_so, count_of, entries_of, HasBlockFunctions, ProgramHasBlockFunctions}
+use Rattle.sci_cgen.specs.Laws.{calls_in_statement, calls_in, calls_in_functions, named_so, count_of, entries_of, ProgramHasBlockFunctions}
 
 -- ---- calls in texts
 
@@ -82,7 +79,8 @@ module _ (f : Name) where
   -- ---- a reaction
 
   bits_none : (b mask n : ℕ) → calls_in f (with_bits b mask n) ≡ 0
-  bits_none b mask n = upto_none (λ p. text_where (nat_eq (bit_at mask p) 1) (with_bit b p)) n (λ p. where_none (nat_eq (bit_at mask p) 1) (with_bit b p) refl)
+  bits_none b mask n = upto_none (λ p. text_where (nat_eq (bit_at mask p) 1) (with_bit b p)) n
+      (λ p. where_none (nat_eq (bit_at mask p) 1) (with_bit b p) refl)
 
   guard_none : (n : Parts) (e : Entry) (g : Guard) → calls_in f (guard_text n e g) ≡ 0
   guard_none n e g =
@@ -97,7 +95,11 @@ module _ (f : Name) where
 
   call_calls : (n : Parts) (b : ℕ) → calls_in f (call_text n b) ≡ (if same_name (block_name b) f then 1 else 0)
   call_calls n b =
-      omega (arith, where_none (is_sync (spec_of n b).kind) (one (set (cell branches (natural (b - 1))) (branch_expression (spec_of n b) (places_of n b)))) refl)
+      omega (
+        arith,
+        where_none (is_sync (spec_of n b).kind) (one (set (cell branches (natural (b - 1))) (branch_expression (spec_of n b) (places_of n b))))
+            refl,
+      )
 
   either_calls : (test : Bool) (e : Exp) (t : Block) → calls_in f (if test then t else only_where e t) ≡ calls_in f t
   either_calls true e t = refl
@@ -202,7 +204,11 @@ module _ (n : Parts) (rows : List (List Entry)) (b : ℕ) where
 
   fire_none : calls_in name (fire_text n) ≡ 0
   fire_none =
-      omega (arith, joined_none name (upto fires_source (port_count n)) (one (call settle_name)) (upto_none name fires_source (port_count n) (λ k. refl)) refl)
+      omega (
+        arith,
+        joined_none name (upto fires_source (port_count n)) (one (call settle_name)) (upto_none name fires_source (port_count n) (λ k. refl))
+            refl,
+      )
 
   abbrev early : Block
   early = end_where (bin Lt (var chosen_name) (natural 0)) 2
@@ -313,7 +319,8 @@ module _ (n : Parts) (rows : List (List Entry)) (b : ℕ) where
   named_both (x ∷ xs) ys = by_name (same_name x.name name) (named_both xs ys)
     where
       by_name : (t : Bool) → named_so name (xs ++ ys) ≡ named_so name xs ++ named_so name ys
-          → (if t then x ∷ named_so name (xs ++ ys) else named_so name (xs ++ ys)) ≡ (if t then x ∷ named_so name xs else named_so name xs) ++ named_so name ys
+          → (if t then x ∷ named_so name (xs ++ ys) else named_so name (xs ++ ys))
+          ≡ (if t then x ∷ named_so name xs else named_so name xs) ++ named_so name ys
       by_name true h = ap (λ (l : List Function). x ∷ l) h
       by_name false h = h
 

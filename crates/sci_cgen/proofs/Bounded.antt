@@ -1,16 +1,15 @@
 -- The generated program keeps the bounds of the subset.
-use Rattle.std.proofs.Common.{◌≡◌, ℕ, zero, suc, ◌+◌, ◌-◌, ◌^◌, ◌<◌, ◌≤◌, ◌≤ℤ◌, List, [], ◌∷◌, ◌++◌, append_assoc, length, max, slice_index_or, Contains, All, Option, Some, None, Bool, true, false, ◌||◌, not, nat_eq, nat_lt, if◌then◌else◌, refl, sym, ap, ◌∙◌, subst, arith, ℤ, pos, negsuc}
+use Rattle.std.proofs.Common.{◌≡◌, ℕ, zero, suc, ◌+◌, ◌-◌, ◌^◌, ◌<◌, ◌≤◌, ◌≤ℤ◌, List, [], ◌∷◌, ◌++◌, append_assoc, length, slice_index_or, Contains, All, Bool, true, false, ◌||◌, not, nat_eq, nat_lt, if◌then◌else◌, refl, sym, ◌∙◌, subst, arith, ℤ, pos, negsuc}
 use Rattle.std.specs.Int.{bit_at}
 use Rattle.std.proofs.lemmas.Int.{ints}
 use Rattle.std.proofs.lemmas.List.Elements.{All-nil, All-cons, All-head, All-tail, All-contains, Contains-get_or}
 use Rattle.sci_base.specs.Fit.{int_eq}
 use Rattle.sci_base.specs.Lists.{at}
 use Rattle.sci_forms.specs.declared.ports.Port.{Port as Output}
-use Rattle.sci_forms.specs.declared.spec.Spec.{Spec}
 use Rattle.sci_forms.specs.Ports.{elements, total, type_at}
 use Rattle.sci_forms.specs.Forms.{is_sync, has_state}
 use Rattle.sci_forms.specs.Typed.{typed}
-use Rattle.sci_forms.specs.Words.{out_type, state_len_of}
+use Rattle.sci_forms.specs.Words.{out_type}
 use Rattle.sci_kinds.specs.Table.{first_state, first_held}
 use Rattle.sci_kinds.proofs.LawProofs.{first_held_law}
 use Rattle.sci_net.specs.declared.Feed.{Feed}
@@ -24,34 +23,30 @@ use Rattle.sci_places.proofs.Outputs.{block_within}
 use Rattle.sci_reaction.specs.Active.{seeded, passed, Reaches}
 use Rattle.sci_reaction.specs.Depends.{IsLoopFree}
 use Rattle.sci_reaction.specs.Links.{IsSource}
-use Rattle.sci_reaction.specs.Schedule.{Guard, Entry, IsSchedule, IsRow, IsEntry, blocks_of, branch_of}
+use Rattle.sci_reaction.specs.Schedule.{Guard, Entry, IsSchedule, IsRow, IsEntry, branch_of}
 use Rattle.sci_reaction.proofs.Rows.{Contains-mid}
 use Rattle.sci_reaction.proofs.Sources.{sources_are}
 use Rattle.sci_run.specs.Activity.{is_halt}
-use Rattle.sci_run.specs.Programs.{firing_of}
 use Rattle.sci_run.specs.Laws.{AreLoopFree}
 use Rattle.sci_run.proofs.Ordered.{typed_firing}
 use Rattle.c_ast.specs.declared.Name.{Name}
-use Rattle.c_ast.specs.declared.Bound.TheVariants as bounds
 use Rattle.c_ast.specs.declared.Op.TheVariants.{Add, Sub, Mul, Div, Rem, Lt, Gt, Ge, Eq}
-use Rattle.c_ast.specs.Syntax.{Exp, var, element, bin, scalar, cell, until, limit, set, ask, loop, call, tell, finish, Block, done, next, Declared, Function}
-use Rattle.c_ast.specs.Bounds.{is_letter, IsName, IsExp, BlockFits, IsBody, IsDeclared, IsFunction, IsWhole}
-use Rattle.c_steps.specs.Places.{named}
+use Rattle.c_ast.specs.Syntax.{Exp, var, bin, scalar, cell, set, call, tell, finish, Block, done, next, Declared, Function}
+use Rattle.c_ast.specs.Bounds.{IsName, IsExp, BlockFits, IsBody, IsDeclared, IsFunction, IsWhole}
 use Rattle.c_steps.specs.Texts.{number, place, joined, upto}
 use Rattle.sci_cgen_blocks.specs.Texts.{values, states, masks, scratch_name, body_text, next_text, delay_expression, branch_expression}
-use Rattle.sci_cgen_blocks.specs.Meant.{AreInBounds}
 use Rattle.sci_cgen_blocks.proofs.Bounds.{joined_fits, upto_fits, body_fits, next_fits, delay_fits_all, branch_fits_all}
 use Rattle.sci_cgen_blocks.proofs.KindBounds.{few_outs}
 use Rattle.sci_cgen_blocks.proofs.KindLaws.{cell_reads_law}
 use Rattle.sci_cgen_blocks.proofs.NextStates.{next_reads_law}
 use Rattle.sci_due.specs.Due.{dates, orders, best as chosen_name, scan as scan_name, now as now_name, last as programmed_name, delay as delay_name}
-use Rattle.sci_due.specs.Texts.{at_scan, at_best, better_exp, program_text}
-use Rattle.sci_cgen.specs.Names.{actives, branches, limit_name, until_name, fired_name, halt_name, block_name, source_name, clear_name, settle_name, choose_name}
-use Rattle.sci_cgen.specs.Program.{natural, one, texts, text_where, only_where, each_block, each_port, port_count, places_of, states_before, is_scheduled, block_function, reads_mask, is_active, mark, mask_cell, with_bit, with_bits, is_taken, guard_text, call_text, entry_text, header_text, row_text, source_function, has_sync, has_halt, clear_text, choose_text, elements_shown, outputs_shown, values_shown, delay_text, state_text, halt_text, settle_text, end_where, halted_text, fire_text, event_text, turn_text, begun_text, list_begun, held_begun, state_begun, firing_at, is_programmed, programmed_before, firing_begun, source_begun, outset_text, main_text, array, declared_where, a_scalar, scratch_count, scratch_declared, declarations, functions_upto, functions_where, other_functions, functions, program}
+use Rattle.sci_due.specs.Texts.{at_best, better_exp, program_text}
+use Rattle.sci_cgen.specs.Names.{actives, branches, limit_name, until_name, fired_name, halt_name, settle_name, choose_name}
+use Rattle.sci_cgen.specs.Program.{natural, one, texts, text_where, only_where, port_count, places_of, states_before, is_scheduled, block_function, reads_mask, is_active, mark, mask_cell, with_bit, with_bits, is_taken, guard_text, call_text, entry_text, header_text, source_function, has_sync, has_halt, clear_text, choose_text, elements_shown, outputs_shown, values_shown, delay_text, state_text, halt_text, settle_text, end_where, halted_text, fire_text, event_text, begun_text, list_begun, held_begun, state_begun, firing_at, is_programmed, programmed_before, firing_begun, source_begun, outset_text, main_text, array, declared_where, a_scalar, scratch_count, scratch_declared, declarations, functions_upto, functions_where, other_functions, program}
 use Rattle.sci_cgen.proofs.Parted.{value_arrays, active_array, branch_array, due_arrays, limit_scalars, event_scalars, halt_scalar, reads, masked, guarded, called, all_shown, all_delays, all_states, all_halts, all_held, first_states, all_begun, until_asked, where_ports, fires_source, running, blocks, sources, settle_function, clear_function, choose_function, before}
 use Rattle.sci_cgen.proofs.Marks.{few_small}
-use Rattle.sci_cgen.proofs.Entries.{few_inputs, block_here, mask_few, guarding}
-use Rattle.sci_cgen.proofs.Sizes.{few_outputs, port_is, port_has_delay, few_ports, few_all_states, state_within, in_bounds, scratch_few, is_spelled}
+use Rattle.sci_cgen.proofs.Entries.{few_inputs, block_here, mask_few}
+use Rattle.sci_cgen.proofs.Sizes.{few_outputs, port_has_delay, few_ports, few_all_states, state_within, in_bounds, scratch_few, is_spelled}
 
 -- ---- numbers and names
 
@@ -301,7 +296,8 @@ module _ (n : Parts) (net : IsNet n) where
   outputs_fit : (d b p o : ℕ) (qs : List Output) → b < 2 ^ 63 → p + length qs < 2 ^ 63 → o + total qs < 2 ^ 62 → BlockFits (suc d) (outputs_shown b p o qs)
   outputs_fit d b p o [] hb hp ho = tt
   outputs_fit d b p o (q ∷ qs) hb hp ho =
-      joined_fits (suc d) (elements_shown b p 1 o (elements q)) (outputs_shown b (p + 1) (o + elements q) qs) (elements_fit d b p 1 o (elements q) hb (omega (arith, hp)) (omega (arith, ho)) (omega (arith, ho)))
+      joined_fits (suc d) (elements_shown b p 1 o (elements q)) (outputs_shown b (p + 1) (o + elements q) qs)
+      (elements_fit d b p 1 o (elements q) hb (omega (arith, hp)) (omega (arith, ho)) (omega (arith, ho)))
       (outputs_fit d b (p + 1) (o + elements q) qs hb (omega (arith, hp)) (omega (arith, ho)))
 
   values_fit : (b : ℕ) → IsBlock n b → BlockFits 16 (values_shown n b)
@@ -309,8 +305,14 @@ module _ (n : Parts) (net : IsNet n) where
       let outs = few_outs (spec_of n b) (is_typed b is) in
       let within = block_within n b is in
       let shown = outputs_shown b 1 (start_of n b) (spec_of n b).outs in
-      where_fits 16 (nat_lt 0 (length (spec_of n b).outs)) (only_where (is_active b) shown) (λ q.
-      ((active_fits b is, outputs_fit 14 b 1 (start_of n b) (spec_of n b).outs (number_small b is) (omega (arith, outs)) (omega (arith, within, net.small)), tt), tt))
+      where_fits 16 (nat_lt 0 (length (spec_of n b).outs)) (only_where (is_active b) shown) (λ q. (
+        (
+          active_fits b is,
+          outputs_fit 14 b 1 (start_of n b) (spec_of n b).outs (number_small b is) (omega (arith, outs)) (omega (arith, within, net.small)),
+          tt,
+        ),
+        tt,
+      ))
 
   delay_fits : (i : ℕ) → i ≤ 4096 → (s : Source) → IsSource n s → BlockFits 16 (delay_text n i s)
   delay_fits i l Start is = tt
@@ -353,7 +355,11 @@ module _ (n : Parts) (net : IsNet n) where
     (
       (refl, omega arith),
       omega (arith, net.wired.few),
-      ((cell_fits 14 actives (refl, omega arith)).0, where_fits 15 (has_sync n) (one (set (cell branches (var scan_name)) (natural 0))) (λ q. cell_fits 14 branches (refl, omega arith))),
+      (
+        (cell_fits 14 actives (refl, omega arith)).0,
+        where_fits 15 (has_sync n) (one (set (cell branches (var scan_name)) (natural 0)))
+            (λ q. cell_fits 14 branches (refl, omega arith)),
+      ),
     ),
     tt,
   )
@@ -377,7 +383,8 @@ module _ (n : Parts) (net : IsNet n) where
   -- ---- sci_main
 
   halted_fits : (d : ℕ) → BlockFits (suc (suc d)) (halted_text n)
-  halted_fits d = where_fits (suc (suc d)) (has_halt n) (end_where (var halt_name) 0) (λ q. end_fits d (var halt_name) 0 (is_var halt_name (refl, omega arith)) (omega arith))
+  halted_fits d = where_fits (suc (suc d)) (has_halt n) (end_where (var halt_name) 0)
+      (λ q. end_fits d (var halt_name) 0 (is_var halt_name (refl, omega arith)) (omega arith))
 
   fire_fits : BlockFits 15 (fire_text n)
   fire_fits = (
@@ -407,7 +414,8 @@ module _ (n : Parts) (net : IsNet n) where
       by_ports false = (is_small 2 (omega arith), tt)
 
   begun_fits : (a : Name) (k : ℕ) (z : ℤ) → IsName a → k < 2 ^ 63 → negsuc 4294967295 ≤ℤ z → z ≤ℤ pos 4294967295 → BlockFits 16 (begun_text a k z)
-  begun_fits a k z h l lo hi = where_fits 16 (not (int_eq z (pos 0))) (one (set (cell a (natural k)) (number z))) (λ q. set_fits 15 a k (number z) h l (is_number z lo hi))
+  begun_fits a k z h l lo hi = where_fits 16 (not (int_eq z (pos 0))) (one (set (cell a (natural k)) (number z)))
+      (λ q. set_fits 15 a k (number z) h l (is_number z lo hi))
 
   list_fits : (a : Name) (k : ℕ) (zs : List ℤ) → IsName a → k + length zs < 2 ^ 63
       → ((j : ℕ) → j < length zs → (negsuc 4294967295 ≤ℤ at zs j) × (at zs j ≤ℤ pos 4294967295)) → BlockFits 16 (list_begun a k zs)
@@ -442,7 +450,8 @@ module _ (n : Parts) (net : IsNet n) where
 
   firing_fits : (i o : ℕ) (z : ℤ) → i ≤ 4096 → o ≤ 4096 → z ≤ℤ pos 2147483647 → BlockFits 16 (firing_begun i o z)
   firing_fits i o (pos d) hi ho hz =
-      joined_fits 16 (begun_text dates (i - 1) (pos d)) (begun_text orders (i - 1) (pos o)) (begun_fits dates (i - 1) (pos d) (refl, omega arith) (omega (arith, hi)) (omega (arith, ints)) (omega (arith, ints, hz)))
+      joined_fits 16 (begun_text dates (i - 1) (pos d)) (begun_text orders (i - 1) (pos o))
+      (begun_fits dates (i - 1) (pos d) (refl, omega arith) (omega (arith, hi)) (omega (arith, ints)) (omega (arith, ints, hz)))
       (begun_fits orders (i - 1) (pos o) (refl, omega arith) (omega (arith, hi)) (omega (arith, ints)) (omega (arith, ints, ho)))
   firing_fits i o (negsuc d) hi ho hz = set_fits 15 dates (i - 1) (number (negsuc 0)) (refl, omega arith) (omega (arith, hi)) minus_one
 
@@ -461,8 +470,10 @@ module _ (n : Parts) (net : IsNet n) where
   outset_fits =
       let few = few_ports n net in
       let programmed = programmed_few (length (sources_of n)) in
-      joined_fits 16 (all_held n) (joined (first_states n) (joined (all_begun n) (where_ports n))) (upto_fits 16 (λ k. held_begun n (suc k)) (length n.specs) (λ k l. held_fits (suc k) (inside k l)))
-      (joined_fits 16 (first_states n) (joined (all_begun n) (where_ports n)) (upto_fits 16 (λ k. state_begun n (suc k)) (length n.specs) (λ k l. first_fits (suc k) (inside k l)))
+      joined_fits 16 (all_held n) (joined (first_states n) (joined (all_begun n) (where_ports n)))
+      (upto_fits 16 (λ k. held_begun n (suc k)) (length n.specs) (λ k l. held_fits (suc k) (inside k l)))
+      (joined_fits 16 (first_states n) (joined (all_begun n) (where_ports n))
+      (upto_fits 16 (λ k. state_begun n (suc k)) (length n.specs) (λ k l. first_fits (suc k) (inside k l)))
       (joined_fits 16 (all_begun n) (where_ports n) (upto_fits 16 (λ k. source_begun n (suc k)) (port_count n) begun_source_fits)
       (where_fits 16 (nat_lt 0 (port_count n)) (until_asked n) (λ q.
       (((refl, omega arith), is_small (programmed_before n (length (sources_of n))) (omega (arith, programmed, few))), (((refl, omega arith), tt), tt))))))
@@ -549,7 +560,8 @@ module _ (n : Parts) (net : IsNet n) where
       (array_then dates (port_count n) (array orders (port_count n) ∷ []) (refl, omega arith) ports
       (array_then orders (port_count n) [] (refl, omega arith) ports e)) in
       let d5 = scratch_fit (scratch_count n rows (length n.specs)) (scratch_few n rows (length n.specs)) in
-      let d6 : All IsDeclared limit_scalars = scalar_then limit_name (a_scalar fired_name ∷ []) (refl, omega arith) (scalar_then fired_name [] (refl, omega arith) e) in
+      let d6 : All IsDeclared limit_scalars = scalar_then limit_name (a_scalar fired_name ∷ []) (refl, omega arith)
+      (scalar_then fired_name [] (refl, omega arith) e) in
       let d7 = all_where (nat_lt 0 (port_count n)) event_scalars events_fit in
       let d8 = all_where (has_halt n) halt_scalar (scalar_then halt_name [] (refl, omega arith) e) in
       let p2 = value_arrays n ++ declared_where (nat_lt 0 (length n.specs)) (active_array n) in
@@ -576,7 +588,8 @@ module _ (n : Parts) (net : IsNet n) where
   block_function_fits rows k l =
       let is = inside k l in (
         (refl, omega (arith, l, net.wired.few)),
-        is_body (block_function n rows (suc k)).body (where_fits 16 (is_scheduled rows (suc k)) (body_text (spec_of n (suc k)) (places_of n (suc k))) (λ q. body_fits (spec_of n (suc k)) (places_of n (suc k)) (in_bounds n net (suc k) is) cell_reads_law (is_typed (suc k) is) 13)),
+        is_body (block_function n rows (suc k)).body (where_fits 16 (is_scheduled rows (suc k)) (body_text (spec_of n (suc k)) (places_of n (suc k)))
+            (λ q. body_fits (spec_of n (suc k)) (places_of n (suc k)) (in_bounds n net (suc k) is) cell_reads_law (is_typed (suc k) is) 13)),
       )
 
   other_functions_fit : All IsFunction (other_functions n)

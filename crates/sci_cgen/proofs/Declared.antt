@@ -1,6 +1,6 @@
 -- The variables and the functions of a generated program have different names, and its arrays are small.
-use Rattle.std.proofs.Common.{◌≡◌, ℕ, zero, suc, ◌+◌, ◌-◌, ◌<◌, ◌≤◌, ◌⊎◌, inl, inr, List, [], ◌∷◌, ◌++◌, length, max, Option, Some, None, Bool, true, false, nat_eq, nat_lt, if◌then◌else◌, refl, sym, ap, ◌∙◌, subst, arith, true≢false}
-use Rattle.std.proofs.lemmas.Bool.{cases_eq, cases_lt, cond-false}
+use Rattle.std.proofs.Common.{◌≡◌, ℕ, zero, suc, ◌+◌, ◌<◌, ◌≤◌, inl, inr, List, [], ◌∷◌, ◌++◌, length, max, Some, None, Bool, true, false, nat_eq, nat_lt, if◌then◌else◌, refl, ◌∙◌, subst, arith}
+use Rattle.std.proofs.lemmas.Bool.{cases_eq, cond-false}
 use Rattle.sci_net.specs.Parts.{Parts}
 use Rattle.sci_net.specs.Sources.{sources_of}
 use Rattle.sci_net.specs.Net.{IsNet, all_elements}
@@ -9,13 +9,12 @@ use Rattle.c_ast.specs.declared.Name.{Name}
 use Rattle.c_ast.specs.declared.events.Kind.{Kind}
 use Rattle.c_ast.specs.declared.events.Kind.TheVariants as kinds
 use Rattle.c_ast.specs.Syntax.{Declared, Function}
-use Rattle.c_ast.specs.Rules.{same_name, kind_in, kind_of, elements_of}
-use Rattle.c_steps.proofs.Memory.{name_eq, name_same, other_name, other_number, not_same}
-use Rattle.sci_cgen_blocks.specs.Texts.{values, states, masks, scratch_name}
+use Rattle.c_ast.specs.Rules.{same_name, kind_in, kind_of}
+use Rattle.c_steps.proofs.Memory.{other_name, other_number, not_same}
+use Rattle.sci_cgen_blocks.specs.Texts.{scratch_name}
 use Rattle.sci_cgen_blocks.proofs.WholeRules.{declaring, AreNew, sizes, AreNewFunctions, declaring_functions}
-use Rattle.sci_due.specs.Due.{dates, orders, best as chosen_name, scan as scan_name, now as now_name, last as programmed_name, delay as delay_name}
-use Rattle.sci_cgen.specs.Names.{actives, branches, limit_name, until_name, fired_name, halt_name, block_name, source_name}
-use Rattle.sci_cgen.specs.Program.{has_sync, has_halt, port_count, states_before, array, a_scalar, declared_where, scratch_declared, scratch_count, declarations, functions_upto, functions_where, other_functions, source_function}
+use Rattle.sci_cgen.specs.Names.{block_name, source_name}
+use Rattle.sci_cgen.specs.Program.{has_sync, has_halt, port_count, states_before, a_scalar, declared_where, scratch_declared, scratch_count, declarations, functions_upto, functions_where, other_functions, source_function}
 use Rattle.sci_cgen.proofs.Parted.{value_arrays, active_array, branch_array, due_arrays, limit_scalars, event_scalars, halt_scalar, own, blocks, sources, before}
 use Rattle.sci_cgen.proofs.Sizes.{few_ports, few_all_states, scratch_few}
 
@@ -50,7 +49,8 @@ skip_last d (keep x ds es f) = keep x _ _ (skip_last d f)
 skip_last d (skip x ds es f) = skip x _ _ (skip_last d f)
 
 scratch_of_more : (k m : ℕ) → k ≤ m → Fewer (scratch_declared k) (scratch_declared m)
-scratch_of_more k zero l = subst (λ (j : ℕ). Fewer (scratch_declared k) (scratch_declared j)) (let e : k ≡ 0 = omega (arith, l) in e) (all_of (scratch_declared k))
+scratch_of_more k zero l = subst (λ (j : ℕ). Fewer (scratch_declared k) (scratch_declared j)) (let e : k ≡ 0 = omega (arith, l) in e)
+    (all_of (scratch_declared k))
 scratch_of_more k (suc m) l = elim (cases_eq k (suc m)) [
   | inl e ↦ subst (λ (j : ℕ). Fewer (scratch_declared k) (scratch_declared j)) e (all_of (scratch_declared k))
   | inr q ↦ skip_last (a_scalar (scratch_name (suc m))) (scratch_of_more k m (omega (arith, l, q)))
@@ -62,7 +62,8 @@ behind_one : (x y : Name) (k : Kind) (ks ls : List (Name × Kind)) → (kind_in 
     → kind_in ((x, k) ∷ ls) y ≡ None → kind_in ((x, k) ∷ ks) y ≡ None
 behind_one x y k ks ls h = by_name (same_name x y) h
   where
-    by_name : (t : Bool) → (kind_in ls y ≡ None → kind_in ks y ≡ None) → (if t then Some k else kind_in ls y) ≡ None → (if t then Some k else kind_in ks y) ≡ None
+    by_name : (t : Bool) → (kind_in ls y ≡ None → kind_in ks y ≡ None) → (if t then Some k else kind_in ls y) ≡ None
+        → (if t then Some k else kind_in ks y) ≡ None
     by_name true h e = e
     by_name false h e = h e
 
@@ -79,8 +80,11 @@ without_one x y k ls = by_name (same_name x y)
 fewer_new : {ds es : List Declared} → Fewer ds es → (ks ls : List (Name × Kind)) → ((x : Name) → kind_in ls x ≡ None → kind_in ks x ≡ None)
     → AreNew es ls → AreNew ds ks
 fewer_new nothing ks ls h new = tt
-fewer_new (keep d ds es f) ks ls h new =
-    (h d.name new.0, fewer_new f ((d.name, kind_of d.size) ∷ ks) ((d.name, kind_of d.size) ∷ ls) (λ x. behind_one d.name x (kind_of d.size) ks ls (h x)) new.1)
+fewer_new (keep d ds es f) ks ls h new = (
+  h d.name new.0,
+  fewer_new f ((d.name, kind_of d.size) ∷ ks) ((d.name, kind_of d.size) ∷ ls) (λ x. behind_one d.name x (kind_of d.size) ks ls (h x))
+      new.1,
+)
 fewer_new (skip d ds es f) ks ls h new =
     fewer_new f ks ((d.name, kind_of d.size) ∷ ls) (λ x e. h x (without_one d.name x (kind_of d.size) ls e)) new.1
 
@@ -92,7 +96,25 @@ module _ (n : Parts) where
       value_arrays n ++ active_array n ++ branch_array n ++ due_arrays n ++ scratch_declared 4 ++ limit_scalars ++ event_scalars ++ halt_scalar
 
   most_new : AreNew most []
-  most_new = (refl, (refl, (refl, (refl, (refl, (refl, (refl, (refl, (refl, (refl, (refl, (refl, (refl, (refl, (refl, (refl, (refl, (refl, (refl, (refl, tt))))))))))))))))))))
+  most_new = (
+    refl,
+    (
+      refl,
+      (
+        refl,
+        (
+          refl,
+          (
+            refl,
+            (
+              refl,
+              (refl, (refl, (refl, (refl, (refl, (refl, (refl, (refl, (refl, (refl, (refl, (refl, (refl, (refl, tt)))))))))))))),
+            ),
+          ),
+        ),
+      ),
+    ),
+  )
 
   fewer_declared : (rows : List (List Entry)) → Fewer (declarations n rows) most
   fewer_declared rows =
@@ -160,7 +182,8 @@ declaring_both : (fs gs : List Function) (ks : List (Name × Kind)) → declarin
 declaring_both [] gs ks = refl
 declaring_both (f ∷ fs) gs ks = declaring_both fs gs ((f.name, kinds.Function) ∷ ks)
 
-new_both : (fs gs : List Function) (ks : List (Name × Kind)) → AreNewFunctions fs ks → AreNewFunctions gs (declaring_functions fs ks) → AreNewFunctions (fs ++ gs) ks
+new_both : (fs gs : List Function) (ks : List (Name × Kind)) → AreNewFunctions fs ks → AreNewFunctions gs (declaring_functions fs ks)
+    → AreNewFunctions (fs ++ gs) ks
 new_both [] gs ks p q = q
 new_both (f ∷ fs) gs ks p q = (p.0, new_both fs gs ((f.name, kinds.Function) ∷ ks) p.1 q)
 
@@ -195,7 +218,22 @@ not_declared (d ∷ ds) ks x h v e =
 
 module _ (n : Parts) (rows : List (List Entry)) where
   most_variables : AreVariables (most n)
-  most_variables = (refl, (refl, (refl, (refl, (refl, (refl, (refl, (refl, (refl, (refl, (refl, (refl, (refl, (refl, (refl, (refl, (refl, (refl, (refl, (refl, tt))))))))))))))))))))
+  most_variables = (
+    refl,
+    (
+      refl,
+      (
+        refl,
+        (
+          refl,
+          (
+            refl,
+            (refl, (refl, (refl, (refl, (refl, (refl, (refl, (refl, (refl, (refl, (refl, (refl, (refl, (refl, (refl, tt))))))))))))))),
+          ),
+        ),
+      ),
+    ),
+  )
 
   no_variable : (x : Name) → is_function x ≡ true → kind_in (declaring (declarations n rows) []) x ≡ None
   no_variable x h = not_declared (declarations n rows) [] x h (fewer_variables (fewer_declared n rows) most_variables) refl
@@ -217,14 +255,16 @@ module _ (n : Parts) (rows : List (List Entry)) where
       (λ i j l. other_number 102 (suc i) (suc j) (λ e. omega (arith, e, l))))
       (others_new (declaring_functions (blocks n rows) variables) (λ k.
       none_behind (blocks n rows) variables (record { letter = 103; number = k })
-      (other_upto (record { letter = 103; number = k }) (own n rows) (length n.specs) (λ j l. refl)) (no_variable (record { letter = 103; number = k }) refl)))
+      (other_upto (record { letter = 103; number = k }) (own n rows) (length n.specs) (λ j l. refl))
+      (no_variable (record { letter = 103; number = k }) refl)))
 
   pub second_new : AreNewFunctions (sources n rows) (declaring_functions (blocks n rows ++ other_functions n) variables)
   second_new =
       new_upto (source_function n rows) (length (sources_of n)) (declaring_functions (blocks n rows ++ other_functions n) variables) (λ j.
       none_behind (blocks n rows ++ other_functions n) variables (source_name j)
       (other_both (source_name j) (blocks n rows) (other_functions n)
-      (other_upto (source_name j) (own n rows) (length n.specs) (λ i l. refl)) (refl, by_test (nat_lt 0 (port_count n)) j)) (no_variable (source_name j) refl))
+      (other_upto (source_name j) (own n rows) (length n.specs) (λ i l. refl)) (refl, by_test (nat_lt 0 (port_count n)) j))
+      (no_variable (source_name j) refl))
       (λ i j l. other_number 115 i j (λ e. omega (arith, e, l)))
     where
       by_test : (t : Bool) (j : ℕ) → AreOther (source_name j) (functions_where t (before n))

@@ -33,3 +33,5 @@ pub mod Sizes
 pub mod Blocks
 pub mod Bounded
 pub mod Declared
+pub mod Ruled
+pub mod Whole

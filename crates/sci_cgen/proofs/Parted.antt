@@ -1,12 +1,12 @@
 -- The texts of a program, by their parts.
-use Rattle.std.specs.Prelude.{ℕ, suc, ◌-◌, Bool, not, ◌||◌, nat_lt, List, [], ◌∷◌, ◌++◌, length, if◌then◌else◌}
+use Rattle.std.specs.Prelude.{ℕ, suc, ◌-◌, Bool, not, ◌||◌, nat_lt, List, [], ◌∷◌, length, if◌then◌else◌}
 use Rattle.sci_net.specs.Parts.{Parts, spec_of}
 use Rattle.sci_net.specs.Sources.{sources_of, source_of}
 use Rattle.sci_net.specs.Net.{all_elements}
 use Rattle.sci_reaction.specs.Schedule.{Entry}
 use Rattle.c_ast.specs.declared.Bound.TheVariants as bounds
 use Rattle.c_ast.specs.declared.Op.TheVariants.{Eq}
-use Rattle.c_ast.specs.Syntax.{var, bin, scalar, cell, until, limit, finish, set, ask, loop, call, tell, Block, done, next, Declared, Function}
+use Rattle.c_ast.specs.Syntax.{var, bin, scalar, cell, until, limit, finish, set, ask, loop, call, tell, Block, next, Declared, Function}
 use Rattle.c_steps.specs.Texts.{joined}
 use Rattle.sci_cgen_blocks.specs.Texts.{values, states, masks}
 use Rattle.sci_due.specs.Due.{dates, orders, best as chosen_name, scan as scan_name, now as now_name, last as programmed_name, delay as delay_name}

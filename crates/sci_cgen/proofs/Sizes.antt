@@ -1,5 +1,5 @@
 -- How large a program's arrays and numbers are.
-use Rattle.std.proofs.Common.{◌≡◌, ℕ, zero, suc, ◌+◌, ◌-◌, ◌*◌, ◌^◌, ◌<◌, ◌≤◌, List, [], ◌∷◌, length, map, max, slice_index_or, Bool, true, false, ◌&&◌, nat_le, if◌then◌else◌, refl, sym, ap, ◌∙◌, subst, arith, ℤ, pos, negsuc, true≢false, Contains, inl, inr, ◌≤ℤ◌}
+use Rattle.std.proofs.Common.{◌≡◌, ℕ, zero, suc, ◌+◌, ◌-◌, ◌*◌, ◌<◌, ◌≤◌, List, [], ◌∷◌, length, map, max, slice_index_or, Bool, true, false, ◌&&◌, nat_le, if◌then◌else◌, refl, sym, ap, ◌∙◌, subst, arith, ℤ, pos, negsuc, true≢false, Contains, inl, inr, ◌≤ℤ◌}
 use Rattle.std.proofs.lemmas.Bool.{cases_eq}
 use Rattle.std.proofs.lemmas.Bool.Decides.{nat_tests}
 use Rattle.std.proofs.lemmas.Int.{ints}
@@ -8,12 +8,11 @@ use Rattle.std.proofs.lemmas.List.Elements.{Contains-get_or}
 use Rattle.sci_base.specs.declared.Ty.{Ty}
 use Rattle.sci_base.specs.declared.Ty.TheVariants.{I32, I16, I8, U32, U16, U8}
 use Rattle.sci_base.specs.Fit.{InRange}
-use Rattle.sci_base.specs.Lists.{at}
 use Rattle.sci_forms.specs.declared.Kind.{Kind}
 use Rattle.sci_forms.specs.declared.Kind.TheVariants.{Const, Dollar, GatedDelay, Register, ModuloCount, EvtDly, EvtVarDly, IfThEl, ESelect, LogicalOp, Shift}
 use Rattle.sci_forms.specs.declared.spec.Spec.{Spec}
 use Rattle.sci_forms.specs.Ports.{total, elements, port_at}
-use Rattle.sci_forms.specs.Forms.{counts_of, is_sync, has_delay, state_len_ok}
+use Rattle.sci_forms.specs.Forms.{counts_of, is_sync, has_delay}
 use Rattle.sci_forms.specs.Typed.{typed}
 use Rattle.sci_forms.specs.Words.{out_type, size, state_len_of}
 use Rattle.sci_kinds.specs.Asks.{Asks}
@@ -21,14 +20,12 @@ use Rattle.sci_kinds.proofs.Elements.{total_one}
 use Rattle.sci_kinds.proofs.LawProofs.{asks}
 use Rattle.sci_kinds.proofs.TypedLemmas.{Tests, tests}
 use Rattle.sci_net.specs.declared.Feed.{Feed}
-use Rattle.sci_net.specs.declared.Source.{Source}
 use Rattle.sci_net.specs.declared.Source.TheVariants.{Start, Port}
 use Rattle.sci_net.specs.Parts.{Parts, IsBlock, IsInput, numbered, spec_of, wire_of, output_of, no_spec, no_wire}
 use Rattle.sci_net.specs.Net.{IsNet, all_elements}
 use Rattle.sci_net.specs.Sources.{sources_of, source_of}
 use Rattle.sci_net.proofs.TypedSpecs.{all_typed, sources_few}
-use Rattle.sci_places.specs.Flat.{start_of}
-use Rattle.sci_places.specs.Layout.{input_spans, output_span, no_span}
+use Rattle.sci_places.specs.Layout.{output_span, no_span}
 use Rattle.sci_places.specs.declared.span.Span.{Span}
 use Rattle.sci_places.proofs.Inputs.{output_within}
 use Rattle.sci_places.proofs.Outputs.{block_within}

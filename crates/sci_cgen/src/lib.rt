@@ -3,4 +3,4 @@
 
 mod laws;
 
-pub use laws::{block_functions_law, program_law};
+pub use laws::{block_functions_law, program_law, whole_law};

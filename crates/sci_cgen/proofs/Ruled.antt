@@ -1,0 +1,347 @@
+-- The texts of a generated program keep the static rules.
+use Rattle.std.proofs.Common.{◌≡◌, ℕ, zero, suc, ◌+◌, ◌-◌, ◌<◌, ◌≤◌, List, [], ◌∷◌, ◌++◌, append_assoc, length, slice_index_or, Contains, Option, Bool, true, false, ◌||◌, not, nat_eq, nat_lt, if◌then◌else◌, refl, sym, ◌∙◌, arith, pos}
+use Rattle.std.specs.Int.{bit_at}
+use Rattle.std.specs.List.{list_any}
+use Rattle.std.proofs.lemmas.List.Elements.{Contains-get_or}
+use Rattle.sci_forms.specs.declared.ports.Port.{Port as Output}
+use Rattle.sci_forms.specs.declared.spec.Spec.{Spec}
+use Rattle.sci_forms.specs.Ports.{elements}
+use Rattle.sci_forms.specs.Forms.{is_sync, has_state}
+use Rattle.sci_net.specs.declared.Source.{Source}
+use Rattle.sci_net.specs.declared.Source.TheVariants.{Start, Port}
+use Rattle.sci_net.specs.Parts.{Parts, IsBlock, spec_of, no_spec}
+use Rattle.sci_net.specs.Sources.{sources_of, source_of}
+use Rattle.sci_net.specs.Net.{IsNet}
+use Rattle.sci_places.specs.Flat.{start_of}
+use Rattle.sci_reaction.specs.Depends.{IsLoopFree}
+use Rattle.sci_reaction.specs.Links.{IsSource}
+use Rattle.sci_reaction.proofs.Sources.{sources_are}
+use Rattle.sci_reaction.specs.Schedule.{Guard, Entry, IsSchedule, IsRow}
+use Rattle.sci_run.specs.Activity.{is_halt}
+use Rattle.sci_run.specs.Laws.{AreLoopFree}
+use Rattle.c_ast.specs.declared.Name.{Name}
+use Rattle.c_ast.specs.declared.Bound.TheVariants as bounds
+use Rattle.c_ast.specs.declared.events.Kind.{Kind}
+use Rattle.c_ast.specs.declared.events.Opened.{Opened}
+use Rattle.c_ast.specs.declared.events.Opened.TheVariants.{Branch, Turn}
+use Rattle.c_ast.specs.Syntax.{var, scalar, cell, set, Block, Function}
+use Rattle.c_ast.specs.Rules.{Routine, same_name, is_guarded, is_hit}
+use Rattle.c_steps.specs.Texts.{joined}
+use Rattle.sci_cgen_blocks.specs.Recipes.{scratch_of}
+use Rattle.sci_cgen_blocks.specs.Texts.{values, states, masks, scratch_name, body_text, next_text, branch_expression}
+use Rattle.sci_cgen_blocks.specs.Keeping.{Scene, IsScalar, IsArray, ReadsWell, BlockKeeps, HasBlockNames}
+use Rattle.sci_cgen_blocks.proofs.TextRules.{joined_keep, upto_keeps, body_keeps, next_keeps, delay_keeps, branch_keeps}
+use Rattle.sci_cgen_blocks.proofs.WholeRules.{IsKnown, AreKnown, calls_well}
+use Rattle.sci_due.specs.Due.{dates, orders, best as chosen_name, scan as scan_name, now as now_name, last as programmed_name, delay as delay_name}
+use Rattle.sci_cgen.specs.Names.{actives, branches, limit_name, until_name, fired_name, halt_name, block_name}
+use Rattle.sci_cgen.specs.Program.{natural, one, texts, text_where, only_where, port_count, places_of, is_scheduled, block_function, source_function, is_active, mark, with_bit, with_bits, guard_text, call_text, entry_text, header_text, has_sync, has_halt, clear_text, choose_text, elements_shown, outputs_shown, values_shown, delay_text, state_text, halt_text, settle_text}
+use Rattle.sci_cgen.proofs.Parted.{reads, masked, guarded, called, all_shown, all_delays, all_states, all_halts}
+use Rattle.sci_cgen.proofs.Marks.{IsGuarding}
+use Rattle.sci_cgen.proofs.Entries.{block_here, guarding}
+use Rattle.sci_cgen.proofs.Sizes.{port_has_delay}
+
+-- what the program's texts find declared
+pub record Finds (n : Parts) (scratch : ℕ) (c : Scene) : Type 0 where
+  pub values : IsArray c values
+  pub states : IsArray c states
+  pub masks : IsArray c masks
+  pub actives : 1 ≤ length n.specs → IsArray c actives
+  pub branches : has_sync n ≡ true → IsArray c branches
+  pub dates : 1 ≤ port_count n → IsArray c dates
+  pub orders : 1 ≤ port_count n → IsArray c orders
+  pub scratch_names : (k : ℕ) → 1 ≤ k → k ≤ scratch → IsScalar c (scratch_name k)
+  pub limit : IsScalar c limit_name
+  pub fired : IsScalar c fired_name
+  pub until : 1 ≤ port_count n → IsScalar c until_name
+  pub now : 1 ≤ port_count n → IsScalar c now_name
+  pub programmed : 1 ≤ port_count n → IsScalar c programmed_name
+  pub chosen : 1 ≤ port_count n → IsScalar c chosen_name
+  pub delay : 1 ≤ port_count n → IsScalar c delay_name
+  pub scan : 1 ≤ port_count n → IsScalar c scan_name
+  pub halt : has_halt n ≡ true → IsScalar c halt_name
+
+-- functions assign neither how many events have fired nor how many may
+abbrev pub may_assign : Name → Bool
+may_assign x = not (same_name fired_name x || same_name limit_name x)
+
+-- what a function's body finds
+abbrev pub in_functions : (Name → Option Kind) → (Name → Option Routine) → ℕ → Scene
+in_functions kinds routines depth = record { kinds = kinds; routines = routines; may = may_assign; depth = depth }
+
+-- ---- texts
+
+pub where_keeps : (c : Scene) (opens : List Opened) (test : Bool) (t : Block) → (test ≡ true → BlockKeeps c opens t) → BlockKeeps c opens (text_where test t)
+where_keeps c opens true t h = h refl
+where_keeps c opens false t h = tt
+
+texts_keep : {A : Type 0} (c : Scene) (opens : List Opened) (t : A → Block) (xs : List A) → ((x : A) → Contains xs x → BlockKeeps c opens (t x))
+    → BlockKeeps c opens (texts t xs)
+texts_keep c opens t [] h = tt
+texts_keep c opens t (x ∷ xs) h =
+    joined_keep c opens (t x) (texts t xs) (h x (0, omega arith, refl))
+    (texts_keep c opens t xs (λ y i. h y (suc i.0, omega (arith, i.1), i.2)))
+
+texts_split : {A : Type 0} (c : Scene) (opens : List Opened) (t : A → Block) (all pre xs : List A) → all ≡ pre ++ xs
+    → ((pre post : List A) (x : A) → all ≡ pre ++ x ∷ post → BlockKeeps c opens (t x)) → BlockKeeps c opens (texts t xs)
+texts_split c opens t all pre [] e h = tt
+texts_split c opens t all pre (x ∷ xs) e h =
+    joined_keep c opens (t x) (texts t xs) (h pre xs x e)
+    (texts_split c opens t all (pre ++ x ∷ []) xs (e ∙ sym (append_assoc pre (x ∷ []) xs)) h)
+
+-- one of a list passes a test
+any_at : {A : Type 0} (test : A → Bool) (d : A) (xs : List A) (k : ℕ) → k < length xs → test (slice_index_or xs k d) ≡ true → list_any test xs ≡ true
+any_at test d [] k l h = absurd (omega (arith, l))
+any_at test d (x ∷ xs) zero l h = rw h refl
+any_at test d (x ∷ xs) (suc k) l h = later (test x) (any_at test d xs k (omega (arith, l)) h)
+  where
+    later : (t : Bool) → list_any test xs ≡ true → t || list_any test xs ≡ true
+    later true e = refl
+    later false e = e
+
+some_block : (n : Parts) (test : Spec → Bool) (b : ℕ) → IsBlock n b → test (spec_of n b) ≡ true → list_any test n.specs ≡ true
+some_block n test zero is h = absurd (omega (arith, is.least))
+some_block n test (suc k) is h = any_at test no_spec n.specs k (omega (arith, is.most)) h
+
+-- ---- functions
+
+known_left : (may : Name → Bool) (d : ℕ) (routines : Name → Option Routine) (xs ys : List Function) → AreKnown may d routines (xs ++ ys)
+    → AreKnown may d routines xs × AreKnown may d routines ys
+known_left may d routines [] ys h = (tt, h)
+known_left may d routines (x ∷ xs) ys h = let r = known_left may d routines xs ys h.1 in ((h.0, r.0), r.1)
+
+abbrev one_open : List Opened
+one_open = Branch ∷ []
+
+abbrev two_open : List Opened
+two_open = Branch ∷ Branch ∷ []
+
+module _ (n : Parts) (net : IsNet n) (scratch : ℕ) (kinds : Name → Option Kind) (routines : Name → Option Routine) (depth : ℕ) where
+  abbrev c : Scene
+  c = in_functions kinds routines depth
+
+  module _ (finds : Finds n scratch c) where
+    some : (b : ℕ) → IsBlock n b → 1 ≤ length n.specs
+    some b is = omega (arith, is.least, is.most)
+
+    names : (k : ℕ) → k ≤ scratch → HasBlockNames c k
+    names k l = record {
+      values = finds.values;
+      states = finds.states;
+      masks = finds.masks;
+      scratch = λ j lo hi. finds.scratch_names j lo (omega (arith, hi, l));
+    }
+
+    pub block_keeps : (rows : List (List Entry)) (b : ℕ) → IsBlock n b
+        → (is_scheduled rows b ≡ true → scratch_of (spec_of n b).kind (spec_of n b) ≤ scratch) → BlockKeeps c one_open (block_function n rows b).body
+    block_keeps rows b is enough =
+        where_keeps c one_open (is_scheduled rows b) (body_text (spec_of n b) (places_of n b)) (λ q.
+        body_keeps c (spec_of n b) (places_of n b) (net.typed_specs b is) (names (scratch_of (spec_of n b).kind (spec_of n b)) (enough q)) one_open
+        (record { values = (refl, refl); scratch = λ j lo hi. (refl, refl) }))
+
+    -- ---- behind a reaction
+
+    elements_keep : (opens : List Opened) (b p e o m : ℕ) → BlockKeeps c opens (elements_shown b p e o m)
+    elements_keep opens b p e o zero = tt
+    elements_keep opens b p e o (suc m) = ((tt, tt, tt, (finds.values, tt)), elements_keep opens b p (e + 1) (o + 1) m)
+
+    outputs_keep : (opens : List Opened) (b p o : ℕ) (qs : List Output) → BlockKeeps c opens (outputs_shown b p o qs)
+    outputs_keep opens b p o [] = tt
+    outputs_keep opens b p o (q ∷ qs) =
+        joined_keep c opens (elements_shown b p 1 o (elements q)) (outputs_shown b (p + 1) (o + elements q) qs) (elements_keep opens b p 1 o (elements q))
+        (outputs_keep opens b (p + 1) (o + elements q) qs)
+
+    active_reads : (b : ℕ) → IsBlock n b → ReadsWell c (is_active b)
+    active_reads b is = (finds.actives (some b is), tt)
+
+    values_keep : (b : ℕ) → IsBlock n b → BlockKeeps c one_open (values_shown n b)
+    values_keep b is =
+        let shown = outputs_shown b 1 (start_of n b) (spec_of n b).outs in
+        where_keeps c one_open (nat_lt 0 (length (spec_of n b).outs)) (only_where (is_active b) shown) (λ q.
+        ((active_reads b is, outputs_keep two_open b 1 (start_of n b) (spec_of n b).outs, tt), tt))
+
+    delay_text_keeps : (i : ℕ) (s : Source) → 1 ≤ port_count n → IsSource n s → BlockKeeps c one_open (delay_text n i s)
+    delay_text_keeps i Start l is = tt
+    delay_text_keeps i (Port q) l is =
+        let block = is.0.block in
+        let reads = delay_keeps c (spec_of n q.block) (places_of n q.block) (net.typed_specs q.block block) (names 0 (omega arith))
+        (port_has_delay n net q is) in (
+          (
+            active_reads q.block block,
+            (
+              ((finds.delay l, (refl, refl)), reads),
+              (
+                (
+                  (finds.delay l, tt),
+                  (
+                    ((finds.dates l, (refl, refl), tt), (finds.now l, finds.delay l)),
+                    (
+                      ((finds.orders l, (refl, refl), tt), finds.programmed l),
+                      (((finds.programmed l, (refl, refl)), (finds.programmed l, tt)), tt),
+                    ),
+                  ),
+                  tt,
+                ),
+                tt,
+              ),
+            ),
+            tt,
+          ),
+          tt,
+        )
+
+    state_keeps : (b : ℕ) → IsBlock n b → BlockKeeps c one_open (state_text n b)
+    state_keeps b is =
+        let t = next_text (spec_of n b) (places_of n b) in
+        where_keeps c one_open (has_state (spec_of n b).kind) (only_where (is_active b) t) (λ q. (
+          (
+            active_reads b is,
+            next_keeps c (spec_of n b) (places_of n b) (net.typed_specs b is) (names 0 (omega arith)) two_open (refl, refl),
+            tt,
+          ),
+          tt,
+        ))
+
+    halt_keeps : (b : ℕ) → IsBlock n b → BlockKeeps c one_open (halt_text n b)
+    halt_keeps b is =
+        where_keeps c one_open (is_halt (spec_of n b).kind) (only_where (is_active b) (one (set (scalar halt_name) (natural 1)))) (λ q. (
+          (active_reads b is, (((finds.halt (some_block n (λ s. is_halt s.kind) b is q), (refl, refl)), tt), tt), tt),
+          tt,
+        ))
+
+    inside : (k : ℕ) → k < length n.specs → IsBlock n (suc k)
+    inside k l = record { least = omega arith; most = omega (arith, l) }
+
+    source_is : (i : ℕ) → i < length (sources_of n) → IsSource n (source_of n i)
+    source_is i l = (sources_are n (source_of n i)).0 (Contains-get_or (sources_of n) i Start l)
+
+    pub settle_keeps : BlockKeeps c one_open (settle_text n)
+    settle_keeps =
+        joined_keep c one_open (all_shown n) (joined (all_delays n) (joined (all_states n) (all_halts n)))
+        (upto_keeps c one_open (λ k. values_shown n (suc k)) (length n.specs) (λ k l. values_keep (suc k) (inside k l)))
+        (joined_keep c one_open (all_delays n) (joined (all_states n) (all_halts n))
+        (upto_keeps c one_open (λ k. delay_text n (suc k) (source_of n (suc k))) (port_count n) (λ k l.
+        delay_text_keeps (suc k) (source_of n (suc k)) (omega (arith, l)) (source_is (suc k) (omega (arith, l)))))
+        (joined_keep c one_open (all_states n) (all_halts n)
+        (upto_keeps c one_open (λ k. state_text n (suc k)) (length n.specs) (λ k l. state_keeps (suc k) (inside k l)))
+        (upto_keeps c one_open (λ k. halt_text n (suc k)) (length n.specs) (λ k l. halt_keeps (suc k) (inside k l)))))
+
+    -- ---- before a reaction
+
+    pub clear_keeps : 1 ≤ port_count n → 1 ≤ length n.specs → BlockKeeps c one_open (clear_text n)
+    clear_keeps l some = (
+      (
+        finds.scan l,
+        (refl, refl),
+        tt,
+        (
+          ((finds.actives some, (refl, refl), finds.scan l), tt),
+          where_keeps c (Branch ∷ Turn scan_name (bounds.Num (pos (length n.specs))) ∷ []) (has_sync n)
+              (one (set (cell branches (var scan_name)) (natural 0))) (λ q. (((finds.branches q, (refl, refl), finds.scan l), tt), tt)),
+        ),
+      ),
+      tt,
+    )
+
+    pub choose_keeps : 1 ≤ port_count n → BlockKeeps c one_open (choose_text n)
+    choose_keeps l =
+        let d = finds.dates l in
+        let o = finds.orders l in
+        let k = finds.scan l in
+        let b = finds.chosen l in (
+          ((b, (refl, refl)), tt),
+          (
+            (
+              k,
+              (refl, refl),
+              tt,
+              (
+                (
+                  (((d, k), tt), ((b, tt), (((d, k), (d, b)), (((d, k), (d, b)), ((o, k), (o, b)))))),
+                  (((b, (refl, refl)), k), tt),
+                  tt,
+                ),
+                tt,
+              ),
+            ),
+            tt,
+          ),
+        )
+
+    -- ---- a source's row
+
+    sync_there : (b : ℕ) → IsBlock n b → is_sync (spec_of n b).kind ≡ true → has_sync n ≡ true
+    sync_there b is h = some_block n (λ s. is_sync s.kind) b is h
+
+    mark_keeps : (opens : List Opened) (b : ℕ) → IsBlock n b → ((x : Name) → is_guarded opens x ≡ false) → BlockKeeps c opens (mark b)
+    mark_keeps opens b is free = (((finds.actives (some b is), (refl, free actives), tt), tt), tt)
+
+    bits_keep : (opens : List Opened) (b m k : ℕ) → ((x : Name) → is_guarded opens x ≡ false) → BlockKeeps c opens (with_bits b m k)
+    bits_keep opens b m k free =
+        let r = finds.masks in
+        upto_keeps c opens (λ p. text_where (nat_eq (bit_at m p) 1) (with_bit b p)) k (λ p l.
+        where_keeps c opens (nat_eq (bit_at m p) 1) (with_bit b p) (λ q.
+        (((r, (refl, free masks), tt), ((r, tt), ((tt, (((r, tt), tt), tt)), tt))), tt)))
+
+    guard_keeps : (e : Entry) (g : Guard) → IsBlock n e.block → IsGuarding n e.block g → BlockKeeps c one_open (guard_text n e g)
+    guard_keeps e g is guards =
+        let bits = with_bits e.block g.mask (spec_of n e.block).evtin in (
+          (
+            ((finds.branches (sync_there g.block guards.block guards.sync), tt), tt),
+            joined_keep c two_open (text_where (not e.always) (mark e.block)) (text_where (reads n e) bits)
+                (where_keeps c two_open (not e.always) (mark e.block) (λ q. mark_keeps two_open e.block is (λ x. refl)))
+                (where_keeps c two_open (reads n e) bits (λ q. bits_keep two_open e.block g.mask (spec_of n e.block).evtin (λ x. refl))),
+            tt,
+          ),
+          tt,
+        )
+
+    module _ (known : (b : ℕ) → IsBlock n b → IsKnown may_assign 1 routines (block_name b)) (deep : 1 < depth) where
+      call_keeps : (opens : List Opened) (b : ℕ) → IsBlock n b → ((x : Name) → is_guarded opens x ≡ false) → list_any (is_hit may_assign) opens ≡ false
+          → BlockKeeps c opens (call_text n b)
+      call_keeps opens b is free apart =
+          let e = branch_expression (spec_of n b) (places_of n b) in (
+            calls_well c opens may_assign 1 (block_name b) (known b is) deep (λ x h. h) apart,
+            where_keeps c opens (is_sync (spec_of n b).kind) (one (set (cell branches (natural (b - 1))) e)) (λ q. (
+              (
+                (finds.branches (sync_there b is q), (refl, free branches), tt),
+                branch_keeps c (spec_of n b) (places_of n b) (net.typed_specs b is) (names 0 (omega arith)) q,
+              ),
+              tt,
+            )),
+          )
+
+      called_keeps : (e : Entry) (test : Bool) → IsBlock n e.block
+          → BlockKeeps c one_open (if test then call_text n e.block else only_where (is_active e.block) (call_text n e.block))
+      called_keeps e true is = call_keeps one_open e.block is (λ x. refl) refl
+      called_keeps e false is = ((active_reads e.block is, call_keeps two_open e.block is (λ x. refl) refl, tt), tt)
+
+      module _ (s : Source) (free : IsLoopFree n s) (row : List Entry) (is : IsRow n s row) where
+        entry_keeps : (pre post : List Entry) (e : Entry) → row ≡ pre ++ e ∷ post → BlockKeeps c one_open (entry_text n e)
+        entry_keeps pre post e split =
+            let block : IsBlock n e.block = block_here n s net free row is pre post e split in
+            joined_keep c one_open (text_where e.always (mark e.block)) (joined (masked n e) (joined (guarded n e) (called n e)))
+            (where_keeps c one_open e.always (mark e.block) (λ q. mark_keeps one_open e.block block (λ x. refl)))
+            (joined_keep c one_open (masked n e) (joined (guarded n e) (called n e))
+            (where_keeps c one_open (reads n e) (one (set (cell masks (natural (e.block - 1))) (natural e.mask))) (λ q.
+            (((finds.masks, (refl, refl), tt), tt), tt)))
+            (joined_keep c one_open (guarded n e) (called n e)
+            (where_keeps c one_open (not e.always || reads n e) (texts (guard_text n e) e.guards) (λ q.
+            texts_keep c one_open (guard_text n e) e.guards (λ g i. guard_keeps e g block (guarding n s net free row is pre post e split g i))))
+            (called_keeps e e.always block)))
+
+        row_keeps : BlockKeeps c one_open (texts (entry_text n) row)
+        row_keeps = texts_split c one_open (entry_text n) row [] row refl entry_keeps
+
+      header_keeps : (i : ℕ) → i < length (sources_of n) → BlockKeeps c one_open (header_text (source_of n i))
+      header_keeps zero l = (tt, tt)
+      header_keeps (suc i) l = by_source (source_of n (suc i))
+        where
+          by_source : (s : Source) → BlockKeeps c one_open (header_text s)
+          by_source Start = (tt, tt)
+          by_source (Port q) = ((finds.now (omega (arith, l)), tt, tt), tt)
+
+      pub source_keeps : (rows : List (List Entry)) → AreLoopFree n → IsSchedule n rows → (i : ℕ) → i < length (sources_of n)
+          → BlockKeeps c one_open (source_function n rows i).body
+      source_keeps rows free schedule i l =
+          joined_keep c one_open (header_text (source_of n i)) (texts (entry_text n) (slice_index_or rows i [])) (header_keeps i l)
+          (row_keeps (source_of n i) (free i l) (slice_index_or rows i []) (schedule.each i (omega (arith, l, schedule.enough))))

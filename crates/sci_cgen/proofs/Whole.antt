@@ -1,0 +1,400 @@
+-- The generated program is a program of the subset: it keeps the bounds and the static rules.
+use Rattle.std.proofs.Common.{◌≡◌, ℕ, zero, suc, ◌+◌, ◌-◌, ◌<◌, ◌≤◌, ◌⊎◌, inl, inr, List, [], ◌∷◌, ◌++◌, length, Option, Some, None, Bool, true, false, not, nat_lt, if◌then◌else◌, refl, sym, ap, ◌∙◌, subst, arith, ℤ, pos, negsuc, true≢false}
+use Rattle.std.proofs.lemmas.Bool.{cases_eq, cond-true}
+use Rattle.std.proofs.lemmas.Bool.Decides.{nat_tests}
+use Rattle.std.specs.List.{list_any}
+use Rattle.sci_base.specs.Fit.{int_eq}
+use Rattle.sci_kinds.specs.Table.{first_state, first_held}
+use Rattle.sci_kinds.proofs.Elements.{nat_lt_yes}
+use Rattle.sci_net.specs.Parts.{Parts, IsBlock, spec_of}
+use Rattle.sci_net.specs.Net.{IsNet, all_elements}
+use Rattle.sci_net.specs.Sources.{sources_of, source_of}
+use Rattle.sci_net.proofs.TypedSpecs.{all_typed, sources_few}
+use Rattle.sci_places.specs.Flat.{start_of}
+use Rattle.sci_reaction.specs.Schedule.{Entry, IsSchedule}
+use Rattle.sci_run.specs.Laws.{AreLoopFree}
+use Rattle.c_ast.specs.declared.Name.{Name}
+use Rattle.c_ast.specs.declared.Bound.TheVariants as bounds
+use Rattle.c_ast.specs.declared.events.Kind.{Kind}
+use Rattle.c_ast.specs.declared.events.Opened.{Opened}
+use Rattle.c_ast.specs.declared.events.Opened.TheVariants.{Branch, Turn}
+use Rattle.c_ast.specs.Syntax.{bin, var, cell, set, call, tell, finish, next, Declared, Function}
+use Rattle.c_ast.specs.declared.Op.TheVariants.{Lt, Gt}
+use Rattle.c_ast.specs.Rules.{Routine, same_name, kind_in, kind_of, is_scalar, is_array, is_hit, KeepsRules}
+use Rattle.c_steps.specs.Texts.{number, joined, upto}
+use Rattle.c_steps.proofs.Memory.{name_eq, name_same}
+use Rattle.sci_cgen_blocks.specs.Texts.{values, states, masks, scratch_name}
+use Rattle.sci_cgen_blocks.specs.Keeping.{Scene, ReadsWell, BlockKeeps, CallsWell}
+use Rattle.sci_cgen_blocks.proofs.TextRules.{joined_keep, upto_keeps}
+use Rattle.sci_cgen_blocks.proofs.WholeRules.{declaring, AreNew, IsKnown, AreKnown, AllKeep, calls_well, program_keeps}
+use Rattle.sci_due.specs.Due.{dates, orders, best as chosen_name, scan as scan_name, now as now_name, last as programmed_name, delay as delay_name}
+use Rattle.sci_due.specs.Texts.{at_best}
+use Rattle.sci_cgen.specs.Names.{actives, branches, limit_name, until_name, fired_name, halt_name, block_name, source_name, clear_name, settle_name, choose_name}
+use Rattle.sci_cgen.specs.Program.{natural, one, port_count, places_of, has_sync, has_halt, states_before, array, a_scalar, declared_where, scratch_declared, scratch_count, declarations, functions_upto, functions_where, other_functions, source_function, end_where, halted_text, fire_text, event_text, begun_text, list_begun, held_begun, state_begun, firing_at, programmed_before, firing_begun, source_begun, outset_text, main_text, program}
+use Rattle.sci_cgen.specs.Laws.{ProgramIsWhole}
+use Rattle.sci_cgen.proofs.Parted.{value_arrays, active_array, branch_array, due_arrays, limit_scalars, event_scalars, halt_scalar, all_held, first_states, all_begun, until_asked, where_ports, fires_source, running, own, blocks, sources, before}
+use Rattle.sci_cgen.proofs.Sizes.{scratch_enough}
+use Rattle.sci_cgen.proofs.Bounded.{is_whole}
+use Rattle.sci_cgen.proofs.Declared.{variables_new, sizes_few, first_new, second_new}
+use Rattle.sci_cgen.proofs.Ruled.{Finds, may_assign, in_functions, where_keeps, block_keeps, settle_keeps, clear_keeps, choose_keeps, source_keeps}
+
+-- ---- what is declared
+
+-- one of these
+abbrev Among : Declared → List Declared → Type 0
+Among d [] = ⊥
+Among d (x ∷ xs) = (x ≡ d) ⊎ Among d xs
+
+among_left : (d : Declared) (xs ys : List Declared) → Among d xs → Among d (xs ++ ys)
+among_left d [] ys h = absurd h
+among_left d (x ∷ xs) ys (inl e) = inl e
+among_left d (x ∷ xs) ys (inr h) = inr (among_left d xs ys h)
+
+among_right : (d : Declared) (xs ys : List Declared) → Among d ys → Among d (xs ++ ys)
+among_right d [] ys h = h
+among_right d (x ∷ xs) ys h = inr (among_right d xs ys h)
+
+among_where : (test : Bool) (d : Declared) (ds : List Declared) → test ≡ true → Among d ds → Among d (declared_where test ds)
+among_where true d ds e h = h
+among_where false d ds e h = absurd (true≢false (sym e))
+
+kind_stays : (ds : List Declared) (ks : List (Name × Kind)) (x : Name) (k : Kind) → AreNew ds ks → kind_in ks x ≡ Some k
+    → kind_in (declaring ds ks) x ≡ Some k
+kind_stays [] ks x k new h = h
+kind_stays (d ∷ ds) ks x k new h = kind_stays ds ((d.name, kind_of d.size) ∷ ks) x k new.1 (by_name (same_name d.name x) refl)
+  where
+    none_some : None ≡ Some k → ⊥
+    none_some e = cc
+
+    by_name : (t : Bool) → same_name d.name x ≡ t → (if t then Some (kind_of d.size) else kind_in ks x) ≡ Some k
+    by_name true e = absurd (none_some (sym (subst (λ (y : Name). kind_in ks y ≡ None) (name_eq d.name x e) new.0) ∙ h))
+    by_name false e = h
+
+kind_is : (ds : List Declared) (ks : List (Name × Kind)) (d : Declared) → AreNew ds ks → Among d ds → kind_in (declaring ds ks) d.name ≡ Some (kind_of d.size)
+kind_is [] ks d new h = absurd h
+kind_is (x ∷ ds) ks d new (inl e) =
+    kind_stays ds ((x.name, kind_of x.size) ∷ ks) d.name (kind_of d.size) new.1
+    (subst (λ (y : Declared). kind_in ((y.name, kind_of y.size) ∷ ks) d.name ≡ Some (kind_of d.size)) (sym e)
+    (cond-true (same_name d.name d.name) (Some (kind_of d.size)) (kind_in ks d.name) (name_same d.name)))
+kind_is (x ∷ ds) ks d new (inr h) = kind_is ds ((x.name, kind_of x.size) ∷ ks) d new.1 h
+
+among_scratch : (k m : ℕ) → 1 ≤ k → k ≤ m → Among (a_scalar (scratch_name k)) (scratch_declared m)
+among_scratch k zero lo hi = absurd (omega (arith, lo, hi))
+among_scratch k (suc m) lo hi = elim (cases_eq (suc m) k) [
+  | inl e ↦ among_right (a_scalar (scratch_name k)) (scratch_declared m) (a_scalar (scratch_name (suc m)) ∷ [])
+      (inl (ap (λ (j : ℕ). a_scalar (scratch_name j)) e))
+  | inr q ↦ among_left (a_scalar (scratch_name k)) (scratch_declared m) (a_scalar (scratch_name (suc m)) ∷ [])
+      (among_scratch k m lo (omega (arith, hi, q)))
+]
+
+module _ (n : Parts) (rows : List (List Entry)) where
+  abbrev ports : Bool
+  ports = nat_lt 0 (port_count n)
+
+  abbrev scratch : ℕ
+  scratch = scratch_count n rows (length n.specs)
+
+  abbrev p2 : List Declared
+  p2 = value_arrays n ++ declared_where (nat_lt 0 (length n.specs)) (active_array n)
+
+  abbrev p3 : List Declared
+  p3 = p2 ++ declared_where (has_sync n) (branch_array n)
+
+  abbrev p4 : List Declared
+  p4 = p3 ++ declared_where ports (due_arrays n)
+
+  abbrev p5 : List Declared
+  p5 = p4 ++ scratch_declared scratch
+
+  abbrev p6 : List Declared
+  p6 = p5 ++ limit_scalars
+
+  abbrev p7 : List Declared
+  p7 = p6 ++ declared_where ports event_scalars
+
+  from7 : (d : Declared) → Among d p7 → Among d (declarations n rows)
+  from7 d h = among_left d p7 (declared_where (has_halt n) halt_scalar) h
+
+  from6 : (d : Declared) → Among d p6 → Among d (declarations n rows)
+  from6 d h = from7 d (among_left d p6 (declared_where ports event_scalars) h)
+
+  from5 : (d : Declared) → Among d p5 → Among d (declarations n rows)
+  from5 d h = from6 d (among_left d p5 limit_scalars h)
+
+  from4 : (d : Declared) → Among d p4 → Among d (declarations n rows)
+  from4 d h = from5 d (among_left d p4 (scratch_declared scratch) h)
+
+  from3 : (d : Declared) → Among d p3 → Among d (declarations n rows)
+  from3 d h = from4 d (among_left d p3 (declared_where ports (due_arrays n)) h)
+
+  from2 : (d : Declared) → Among d p2 → Among d (declarations n rows)
+  from2 d h = from3 d (among_left d p2 (declared_where (has_sync n) (branch_array n)) h)
+
+  from1 : (d : Declared) → Among d (value_arrays n) → Among d (declarations n rows)
+  from1 d h = from2 d (among_left d (value_arrays n) (declared_where (nat_lt 0 (length n.specs)) (active_array n)) h)
+
+  is_kind : (d : Declared) → Among d (declarations n rows) → kind_in (declaring (declarations n rows) []) d.name ≡ Some (kind_of d.size)
+  is_kind d h = kind_is (declarations n rows) [] d (variables_new n rows) h
+
+  an_array : (x : Name) (k : ℕ) → Among (array x k) (declarations n rows) → is_array (kind_in (declaring (declarations n rows) []) x) ≡ true
+  an_array x k h = ap is_array (is_kind (array x k) h)
+
+  a_number : (x : Name) → Among (a_scalar x) (declarations n rows) → is_scalar (kind_in (declaring (declarations n rows) []) x) ≡ true
+  a_number x h = ap is_scalar (is_kind (a_scalar x) h)
+
+  due_there : (d : Declared) → 1 ≤ port_count n → Among d (due_arrays n) → Among d (declarations n rows)
+  due_there d l h = from4 d (among_right d p3 (declared_where ports (due_arrays n)) (among_where ports d (due_arrays n) (nat_lt_yes 0 (port_count n) l) h))
+
+  event_there : (x : Name) → 1 ≤ port_count n → Among (a_scalar x) event_scalars → Among (a_scalar x) (declarations n rows)
+  event_there x l h =
+      from7 (a_scalar x) (among_right (a_scalar x) p6 (declared_where ports event_scalars)
+      (among_where ports (a_scalar x) event_scalars (nat_lt_yes 0 (port_count n) l) h))
+
+  finds : (routines : Name → Option Routine) (may : Name → Bool) (depth : ℕ)
+      → Finds n scratch (record { kinds = kind_in (declaring (declarations n rows) []); routines = routines; may = may; depth = depth })
+  finds routines may depth = record {
+    values = an_array values (all_elements n.specs) (from1 (array values (all_elements n.specs)) (inl refl));
+    states = an_array states (states_before n.specs (length n.specs))
+        (from1 (array states (states_before n.specs (length n.specs))) (inr (inl refl)));
+    masks = an_array masks (length n.specs) (from1 (array masks (length n.specs)) (inr (inr (inl refl))));
+    actives = λ l. an_array actives (length n.specs) (from2 (array actives (length n.specs))
+        (among_right (array actives (length n.specs)) (value_arrays n) (declared_where (nat_lt 0 (length n.specs)) (active_array n))
+        (among_where (nat_lt 0 (length n.specs)) (array actives (length n.specs)) (active_array n) (nat_lt_yes 0 (length n.specs) l) (inl refl))));
+    branches = λ q. an_array branches (length n.specs) (from3 (array branches (length n.specs))
+        (among_right (array branches (length n.specs)) p2 (declared_where (has_sync n) (branch_array n))
+        (among_where (has_sync n) (array branches (length n.specs)) (branch_array n) q (inl refl))));
+    dates = λ l. an_array dates (port_count n) (due_there (array dates (port_count n)) l (inl refl));
+    orders = λ l. an_array orders (port_count n) (due_there (array orders (port_count n)) l (inr (inl refl)));
+    scratch_names = λ k lo hi. a_number (scratch_name k) (from5 (a_scalar (scratch_name k))
+        (among_right (a_scalar (scratch_name k)) p4 (scratch_declared scratch) (among_scratch k scratch lo hi)));
+    limit = a_number limit_name (from6 (a_scalar limit_name) (among_right (a_scalar limit_name) p5 limit_scalars (inl refl)));
+    fired = a_number fired_name (from6 (a_scalar fired_name) (among_right (a_scalar fired_name) p5 limit_scalars (inr (inl refl))));
+    until = λ l. a_number until_name (event_there until_name l (inl refl));
+    now = λ l. a_number now_name (event_there now_name l (inr (inl refl)));
+    programmed = λ l. a_number programmed_name (event_there programmed_name l (inr (inr (inl refl))));
+    chosen = λ l. a_number chosen_name (event_there chosen_name l (inr (inr (inr (inl refl)))));
+    delay = λ l. a_number delay_name (event_there delay_name l (inr (inr (inr (inr (inl refl))))));
+    scan = λ l. a_number scan_name (event_there scan_name l (inr (inr (inr (inr (inr (inl refl)))))));
+    halt = λ q. a_number halt_name (among_right (a_scalar halt_name) p7 (declared_where (has_halt n) halt_scalar)
+        (among_where (has_halt n) (a_scalar halt_name) halt_scalar q (inl refl)));
+  }
+
+-- ---- known functions
+
+known_both : (may : Name → Bool) (d : ℕ) (routines : Name → Option Routine) (xs ys : List Function) → AreKnown may d routines (xs ++ ys)
+    → AreKnown may d routines xs × AreKnown may d routines ys
+known_both may d routines [] ys h = (tt, h)
+known_both may d routines (x ∷ xs) ys h = let r = known_both may d routines xs ys h.1 in ((h.0, r.0), r.1)
+
+known_upto : (may : Name → Bool) (d : ℕ) (routines : Name → Option Routine) (f : ℕ → Function) (m k : ℕ) → k < m
+    → AreKnown may d routines (functions_upto f m) → IsKnown may d routines (f k).name
+known_upto may d routines f zero k l h = absurd (omega (arith, l))
+known_upto may d routines f (suc m) k l h =
+    let r = known_both may d routines (functions_upto f m) (f m ∷ []) h in
+    elim (cases_eq k m) [
+      | inl e ↦ subst (λ (j : ℕ). IsKnown may d routines (f j).name) (sym e) r.1.0
+      | inr q ↦ known_upto may d routines f m k (omega (arith, l, q)) r.0
+    ]
+
+known_where : (may : Name → Bool) (d : ℕ) (routines : Name → Option Routine) (test : Bool) (fs : List Function) → test ≡ true
+    → AreKnown may d routines (functions_where test fs) → AreKnown may d routines fs
+known_where may d routines true fs e h = h
+known_where may d routines false fs e h = absurd (true≢false (sym e))
+
+keep_both : (c : Scene) (xs ys : List Function) → AllKeep c xs → AllKeep c ys → AllKeep c (xs ++ ys)
+keep_both c [] ys p q = q
+keep_both c (x ∷ xs) ys p q = (p.0, keep_both c xs ys p.1 q)
+
+keep_upto : (c : Scene) (f : ℕ → Function) (m : ℕ) → ((k : ℕ) → k < m → BlockKeeps c (Branch ∷ []) (f k).body) → AllKeep c (functions_upto f m)
+keep_upto c f zero h = tt
+keep_upto c f (suc m) h =
+    keep_both c (functions_upto f m) (f m ∷ []) (keep_upto c f m (λ k l. h k (omega (arith, l)))) (h m (omega arith), tt)
+
+-- ---- sci_main
+
+module _ (n : Parts) (net : IsNet n) (scratch : ℕ) (kinds : Name → Option Kind) (routines : Name → Option Routine) where
+  abbrev c : Scene
+  c = record { kinds = kinds; routines = routines; may = λ x. true; depth = 64 }
+
+  abbrev top : List Opened
+  top = Branch ∷ []
+
+  abbrev turning : List Opened
+  turning = Branch ∷ Turn fired_name (bounds.Var limit_name) ∷ []
+
+  number_reads : (z : ℤ) → ReadsWell c (number z)
+  number_reads (pos d) = tt
+  number_reads (negsuc d) = tt
+
+  module _ (finds : Finds n scratch c) where
+    begun_keeps : (a : Name) (k : ℕ) (z : ℤ) → is_array (kinds a) ≡ true → BlockKeeps c top (begun_text a k z)
+    begun_keeps a k z h =
+        where_keeps c top (not (int_eq z (pos 0))) (one (set (cell a (natural k)) (number z))) (λ q. (((h, (refl, refl), tt), number_reads z), tt))
+
+    list_keeps : (a : Name) (k : ℕ) (zs : List ℤ) → is_array (kinds a) ≡ true → BlockKeeps c top (list_begun a k zs)
+    list_keeps a k [] h = tt
+    list_keeps a k (z ∷ zs) h =
+        joined_keep c top (begun_text a k z) (list_begun a (k + 1) zs) (begun_keeps a k z h) (list_keeps a (k + 1) zs h)
+
+    firing_keeps : (i o : ℕ) (z : ℤ) → 1 ≤ port_count n → BlockKeeps c top (firing_begun i o z)
+    firing_keeps i o (pos d) l =
+        joined_keep c top (begun_text dates (i - 1) (pos d)) (begun_text orders (i - 1) (pos o)) (begun_keeps dates (i - 1) (pos d) (finds.dates l))
+        (begun_keeps orders (i - 1) (pos o) (finds.orders l))
+    firing_keeps i o (negsuc d) l = (((finds.dates l, (refl, refl), tt), tt), tt)
+
+    some_ports : nat_lt 0 (port_count n) ≡ true → 1 ≤ port_count n
+    some_ports h = by_count (port_count n) h
+      where
+        by_count : (m : ℕ) → nat_lt 0 m ≡ true → 1 ≤ m
+        by_count m h = grind (arith, nat_tests)
+
+    outset_keeps : BlockKeeps c top (outset_text n)
+    outset_keeps =
+        joined_keep c top (all_held n) (joined (first_states n) (joined (all_begun n) (where_ports n)))
+        (upto_keeps c top (λ k. held_begun n (suc k)) (length n.specs) (λ k l.
+        list_keeps values (start_of n (suc k)) (first_held (spec_of n (suc k))) finds.values))
+        (joined_keep c top (first_states n) (joined (all_begun n) (where_ports n))
+        (upto_keeps c top (λ k. state_begun n (suc k)) (length n.specs) (λ k l.
+        list_keeps states (places_of n (suc k)).state (first_state (spec_of n (suc k))) finds.states))
+        (joined_keep c top (all_begun n) (where_ports n)
+        (upto_keeps c top (λ k. source_begun n (suc k)) (port_count n) (λ k l.
+        firing_keeps (suc k) (programmed_before n (suc k)) (firing_at n (source_of n (suc k))) (omega (arith, l))))
+        (where_keeps c top (nat_lt 0 (port_count n)) (until_asked n) (λ q.
+        (((finds.programmed (some_ports q), (refl, refl)), tt), (((finds.until (some_ports q), (refl, refl)), tt), tt))))))
+
+    halted_keeps : (opens : List Opened) → BlockKeeps c opens (halted_text n)
+    halted_keeps opens =
+        where_keeps c opens (has_halt n) (end_where (var halt_name) 0) (λ q. ((finds.halt q, (tt, tt), tt), tt))
+
+    module _ (settle : IsKnown may_assign 1 routines settle_name)
+        (others : 1 ≤ port_count n → IsKnown may_assign 1 routines clear_name × IsKnown may_assign 1 routines choose_name)
+        (source : (i : ℕ) → i < length (sources_of n) → IsKnown may_assign 2 routines (source_name i)) where
+      call_keeps : (opens : List Opened) (d : ℕ) (f : Name) → IsKnown may_assign d routines f → d < 64 → list_any (is_hit may_assign) opens ≡ false
+          → CallsWell c opens f
+      call_keeps opens d f known deep apart = calls_well c opens may_assign d f known deep (λ x h. refl) apart
+
+      fire_keeps : 1 ≤ port_count n → BlockKeeps c turning (fire_text n)
+      fire_keeps l = (
+        ((finds.now l, (refl, refl)), (finds.dates l, finds.chosen l)),
+        (
+          ((finds.dates l, (refl, refl), finds.chosen l), tt),
+          (
+            call_keeps turning 1 clear_name (others l).0 (omega arith) refl,
+            joined_keep c turning (upto fires_source (port_count n)) (one (call settle_name))
+                (upto_keeps c turning fires_source (port_count n) (λ k q. (
+                  (
+                    (finds.chosen l, tt),
+                    (
+                      call_keeps (Branch ∷ Turn fired_name (bounds.Var limit_name) ∷ Branch ∷ []) 2 (source_name (suc k)) (source (suc k) (omega (arith, q)))
+                          (omega arith) refl,
+                      tt,
+                    ),
+                    tt,
+                  ),
+                  tt,
+                )))
+                (call_keeps turning 1 settle_name settle (omega arith) refl, tt),
+          ),
+        ),
+      )
+
+      event_keeps : BlockKeeps c turning (event_text n)
+      event_keeps = by_ports (nat_lt 0 (port_count n)) some_ports
+        where
+          by_ports : (t : Bool) → (t ≡ true → 1 ≤ port_count n)
+              → BlockKeeps c turning (if t then next (call choose_name) (joined (end_where (bin Lt (var chosen_name) (natural 0)) 2)
+              (joined (end_where (bin Gt (at_best dates) (var until_name)) 3) (fire_text n))) else one (tell (finish (natural 2))))
+          by_ports true some =
+              let l = some refl in (
+                call_keeps turning 1 choose_name (others l).1 (omega arith) refl,
+                (
+                  ((finds.chosen l, tt), (tt, tt), tt),
+                  ((((finds.dates l, finds.chosen l), finds.until l), (tt, tt), tt), fire_keeps l),
+                ),
+              )
+          by_ports false some = (tt, tt)
+
+      main_text_keeps : BlockKeeps c top (main_text n)
+      main_text_keeps =
+          joined_keep c top (outset_text n) (running n) outset_keeps (
+            ((finds.limit, (refl, refl)), tt),
+            (
+              call_keeps top 2 (source_name 0) (source 0 (omega arith)) (omega arith) refl,
+              (
+                call_keeps top 1 settle_name settle (omega arith) refl,
+                (
+                  (
+                    finds.fired,
+                    (refl, refl),
+                    (finds.limit, refl),
+                    joined_keep c turning (halted_text n) (event_text n) (halted_keeps turning) event_keeps,
+                  ),
+                  joined_keep c top (halted_text n) (one (tell (finish (natural 1)))) (halted_keeps top) (tt, tt),
+                ),
+              ),
+            ),
+          )
+
+-- ---- the program
+
+module _ (n : Parts) (rows : List (List Entry)) (net : IsNet n) (free : AreLoopFree n) (schedule : IsSchedule n rows) where
+  abbrev variables : Name → Option Kind
+  variables = kind_in (declaring (declarations n rows) [])
+
+  abbrev count : ℕ
+  count = scratch_count n rows (length n.specs)
+
+  inside : (k : ℕ) → k < length n.specs → IsBlock n (suc k)
+  inside k l = record { least = omega arith; most = omega (arith, l) }
+
+  some_specs : 1 ≤ port_count n → 1 ≤ length n.specs
+  some_specs l = let few = sources_few 1 n.specs (all_typed n net) in omega (arith, l, few)
+
+  first_keep : (routines : Name → Option Routine) → AllKeep (in_functions variables routines 1) (blocks n rows ++ other_functions n)
+  first_keep routines =
+      let f = finds n rows routines may_assign 1 in
+      keep_both (in_functions variables routines 1) (blocks n rows) (other_functions n)
+      (keep_upto (in_functions variables routines 1) (own n rows) (length n.specs) (λ k l.
+      block_keeps n net count variables routines 1 f rows (suc k) (inside k l)
+      (λ q. scratch_enough n rows (suc k) (length n.specs) (omega arith) (omega (arith, l)) q)))
+      (settle_keeps n net count variables routines 1 f, by_test (nat_lt 0 (port_count n)) some_ports_first)
+    where
+      some_ports_first : nat_lt 0 (port_count n) ≡ true → 1 ≤ port_count n
+      some_ports_first h = grind (arith, nat_tests)
+
+      by_test : (t : Bool) → (t ≡ true → 1 ≤ port_count n) → AllKeep (in_functions variables routines 1) (functions_where t (before n))
+      by_test true some =
+          let f = finds n rows routines may_assign 1 in
+          let l = some refl in
+          (clear_keeps n net count variables routines 1 f l (some_specs l), (choose_keeps n net count variables routines 1 f l, tt))
+      by_test false some = tt
+
+  known_block : (routines : Name → Option Routine) → AreKnown may_assign 1 routines (blocks n rows ++ other_functions n) → (b : ℕ) → IsBlock n b
+      → IsKnown may_assign 1 routines (block_name b)
+  known_block routines known zero is = absurd (omega (arith, is.least))
+  known_block routines known (suc k) is =
+      known_upto may_assign 1 routines (own n rows) (length n.specs) k (omega (arith, is.most))
+      (known_both may_assign 1 routines (blocks n rows) (other_functions n) known).0
+
+  second_keep : (routines : Name → Option Routine) → AreKnown may_assign 1 routines (blocks n rows ++ other_functions n)
+      → AllKeep (in_functions variables routines 2) (sources n rows)
+  second_keep routines known =
+      keep_upto (in_functions variables routines 2) (source_function n rows) (length (sources_of n)) (λ i l.
+      source_keeps n net count variables routines 2 (finds n rows routines may_assign 2) (known_block routines known) (omega arith) rows free schedule i l)
+
+  main_keeps : (routines : Name → Option Routine) → AreKnown may_assign 1 routines (blocks n rows ++ other_functions n)
+      → AreKnown may_assign 2 routines (sources n rows)
+      → BlockKeeps (record { kinds = variables; routines = routines; may = λ x. true; depth = 64 }) (Branch ∷ []) (main_text n)
+  main_keeps routines first second =
+      let others = (known_both may_assign 1 routines (blocks n rows) (other_functions n) first).1 in
+      main_text_keeps n net count variables routines (finds n rows routines (λ x. true) 64) others.0
+      (λ l. let r = known_where may_assign 1 routines (nat_lt 0 (port_count n)) (before n) (nat_lt_yes 0 (port_count n) l) others.1 in (r.0, r.1.0))
+      (λ i l. known_upto may_assign 2 routines (source_function n rows) (length (sources_of n)) i l second)
+
+  keeps_rules : KeepsRules (program n rows)
+  keeps_rules =
+      program_keeps (declarations n rows) (blocks n rows ++ other_functions n) (sources n rows) (main_text n) may_assign (variables_new n rows)
+      (sizes_few n net rows) (first_new n rows) (second_new n rows) first_keep second_keep main_keeps
+
+pub program_is_whole : ProgramIsWhole
+program_is_whole n rows net free schedule = (is_whole n net rows free schedule, keeps_rules n rows net free schedule)
