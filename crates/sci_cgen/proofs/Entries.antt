@@ -45,7 +45,7 @@ feed_mask : (n : Parts) → IsWired n → (b mask : ℕ) (q : Feed) → IsBlock 
 feed_mask n ok b mask q inside bits =
     few_bits mask (spec_of n b).evtin (λ p h. let w = (feeds_within n ok b (p + 1) q inside ((bits p).0 h)).most in omega (arith, w))
 
-source_mask : (n : Parts) → IsWired n → (b mask : ℕ) (s : Source) → IsBlock n b → HasBits mask (SourceFeeds n s b) → mask < 2 ^ (spec_of n b).evtin
+pub source_mask : (n : Parts) → IsWired n → (b mask : ℕ) (s : Source) → IsBlock n b → HasBits mask (SourceFeeds n s b) → mask < 2 ^ (spec_of n b).evtin
 source_mask n ok b mask Start inside bits = few_bits mask (spec_of n b).evtin (λ p h. absurd ((bits p).0 h))
 source_mask n ok b mask (Port q) inside bits = feed_mask n ok b mask q inside bits
 

@@ -35,3 +35,10 @@ pub mod Bounded
 pub mod Declared
 pub mod Ruled
 pub mod Whole
+pub mod LaidLemmas
+pub mod EmitLemmas
+pub mod RowLemmas
+pub mod SettleLemmas
+pub mod OutsetLemmas
+pub mod RunLemmas
+pub mod DeclaredLemmas

@@ -118,7 +118,7 @@ module _ (n : Parts) (net : IsNet n) where
       get_or-map (λ (p : Span). p.start) (map (output_span n) ws) k no_span 0 (omega (arith, l, each, all))
       ∙ ap (λ (p : Span). p.start) (get_or-map (output_span n) ws k no_wire no_span (omega (arith, l, each)))
 
-  input_within : (b k e : ℕ) → IsBlock n b → k < length (spec_of n b).ins → e < elements (port_at (spec_of n b).ins k)
+  pub input_within : (b k e : ℕ) → IsBlock n b → k < length (spec_of n b).ins → e < elements (port_at (spec_of n b).ins k)
       → input_place (places_of n b) k e < all_elements n.specs
   input_within b k e block l r =
       let w = wire_of n b (suc k) in

@@ -1,5 +1,6 @@
 pub mod Names
 pub mod Program
+pub mod Built
 pub mod Shows
 pub mod Passes
 pub mod Laws

@@ -95,11 +95,11 @@ laid_none n ps e = record {
   no_longer = inl refl;
 }
 
-numbered_old : {A : Type 0} (d : A) (xs ys : List A) (b : ℕ) → b ≤ length xs → numbered d (xs ++ ys) b ≡ numbered d xs b
+pub numbered_old : {A : Type 0} (d : A) (xs ys : List A) (b : ℕ) → b ≤ length xs → numbered d (xs ++ ys) b ≡ numbered d xs b
 numbered_old d xs ys zero h = refl
 numbered_old d xs ys (suc k) h = get_or_append_left xs ys d k (omega (arith, h))
 
-numbered_new : {A : Type 0} (d : A) (xs : List A) (y : A) (b : ℕ) → b ≡ length xs + 1 → numbered d (xs ++ (y ∷ [])) b ≡ y
+pub numbered_new : {A : Type 0} (d : A) (xs : List A) (y : A) (b : ℕ) → b ≡ length xs + 1 → numbered d (xs ++ (y ∷ [])) b ≡ y
 numbered_new d xs y zero h = absurd (omega (arith, h))
 numbered_new d xs y (suc k) h = get_or_push xs y d k (omega (arith, h))
 

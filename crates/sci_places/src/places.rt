@@ -60,6 +60,15 @@ impl Places {
         self.blocks[block as usize - 1].outs
     }
 
+    /// Where the outputs lie that feed the inputs of a block, in the order of its inputs.
+    pub fn ins(&self, block: u32) -> &[Span]
+        requires least { 1 ≤ block }
+        requires most { block ≤ length self.now.blocks }
+        ensures { result.now ≡ (place_at self.now block).ins }
+    {
+        &self.blocks[block as usize - 1].ins
+    }
+
     /// Copies the values on all inputs of a block, one behind the other. The answer is how many they are.
     pub fn gather(&self, block: u32, values: &[i64], ins: &mut [i64]) -> usize
         requires least { 1 ≤ block }

@@ -1,0 +1,18 @@
+use Rattle.std.proofs.Common.{◌≡◌, false, ap, sym, ◌∙◌}
+use Rattle.sci_forms.specs.declared.spec.Spec.{Spec}
+use Rattle.sci_forms.specs.Forms.{has_state}
+use Rattle.sci_net.specs.Parts.{spec_of}
+use Rattle.sci_cgen.proofs.LaidLemmas.{few_read}
+use Rattle.sci_cgen.proofs.SettleLemmas.{where_absent}
+use Rattle.sci_cgen.proofs.settle_texts.push_state.Goals as goal
+
+pub block_next-requires-clause-few : goal.block_next-requires-clause-few
+block_next-requires-clause-few c =
+    few_read c.args.net.now c.args.layouts.now c.args.block _ _ c.well_formed-2.ensures c.requires.laid c.requires.block
+    c.spec-spec.ensures.value c.layout.ensures
+
+pub returns-then-not-has_state : goal.returns-then-not-has_state
+returns-then-not-has_state c =
+    let stateless : has_state (spec_of c.args.net.now c.args.block).kind ≡ false
+    = ap (λ (s : Spec). has_state s.kind) (sym c.spec-spec.ensures.value) ∙ sym c.has_state.ensures ∙ c.if-not-has_state.true in
+    where_absent _ _ _ stateless

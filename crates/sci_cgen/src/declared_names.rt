@@ -1,0 +1,277 @@
+// The declarations of a program, and what decides them.
+ghost use Rattle.std.specs.Prelude.{◌≡◌, ◌+◌, ◌<◌, ◌≤◌, ◌^◌, ◌++◌, ◌∷◌, [], List, false, nat_lt, if◌then◌else◌, map, length, IfOk, OnOk};
+ghost use Rattle.c_ast.specs.View.{declared_of};
+ghost use Rattle.sci_forms.specs.Ports.{total};
+ghost use Rattle.sci_net.specs.Parts.{numbered, spec_of};
+ghost use Rattle.sci_net.specs.Net.{all_elements};
+ghost use Rattle.sci_run.specs.Activity.{is_halt as is_halt_of};
+ghost use Rattle.sci_reaction.specs.Schedule.{Entry as PlainEntry};
+ghost use Rattle.sci_due.specs.Due.{dates as dates_name, orders as orders_name, best as chosen_name, scan as scan_name, now as now_name, last as programmed_name, delay as delay_name};
+ghost use Rattle.sci_cgen_blocks.specs.Recipes.{scratch_of as scratch_of_kind};
+ghost use Rattle.sci_cgen_blocks.specs.Texts.{values as values_name, states as states_name, masks as masks_name};
+ghost use Rattle.sci_cgen.specs.Names.{actives as actives_name, branches as branches_name, limit_name, fired_name, until_name, halt_name};
+ghost use Rattle.sci_cgen.specs.Program.{declarations as declarations_of, has_sync as has_sync_of, has_halt as has_halt_of, port_count as port_count_of, states_before, array as array_of, a_scalar, declared_where, scratch_count as scratch_count_of, scratch_declared};
+ghost use Rattle.sci_cgen.specs.Built.{AreMarked};
+
+use crate::names::{
+    actives, branches, chosen, dates, delay, fired, halt, limit, now, orders, programmed, scan,
+    until,
+};
+use c_ast::{Decl, Name};
+use sci_base::NoMemory;
+use sci_cgen_blocks::array_names::{masks, scratch, states, values};
+use sci_cgen_blocks::scratch_of;
+use sci_forms::{Kind, Ports};
+use sci_net::Net;
+use std::alloc::Global;
+
+/// Whether a block chooses a branch.
+pub(crate) fn has_sync(net: &Net) -> bool
+    ensures { result ≡ has_sync_of net.now }
+{
+    for at in 0..net.len() {
+        if net.spec(at + 1).kind.is_sync() {
+            return true;
+        }
+    }
+    false
+}
+
+/// Whether the kind ends the run.
+fn is_halt(kind: Kind) -> bool
+    ensures { result ≡ is_halt_of kind }
+{
+    match kind {
+        Kind::Halt => true,
+        _ => false,
+    }
+}
+
+/// Whether a block ends the run.
+pub(crate) fn has_halt(net: &Net) -> bool
+    ensures { result ≡ has_halt_of net.now }
+{
+    for at in 0..net.len() {
+        if is_halt(net.spec(at + 1).kind) {
+            return true;
+        }
+    }
+    false
+}
+
+/// How many sources have events: all but start.
+pub(crate) fn port_count(net: &Net) -> u32
+    ensures { result ≡ port_count_of net.now }
+{
+    net.source_count() - 1
+}
+
+/// How many elements some ports have.
+#[tactic(auto, using(crate::proofs::DeclaredLemmas::total_more, crate::proofs::DeclaredLemmas::total_end))]
+fn total(ports: &Ports) -> u32
+    requires { total ports.now < 2 ^ 32 }
+    ensures { result ≡ total ports.now }
+{
+    let mut count = 0;
+    for port in 0..ports.len() {
+        count += ports.port(port).elements() as u32;
+    }
+    count
+}
+
+/// How many elements all outputs have.
+#[tactic(auto, using(crate::proofs::DeclaredLemmas::elements_more, crate::proofs::DeclaredLemmas::elements_end))]
+fn element_count(net: &Net) -> u32
+    ensures { result ≡ all_elements net.now.specs }
+{
+    net.well_formed();
+    let mut count = 0;
+    for at in 0..net.len() {
+        count += total(&net.spec(at + 1).outs);
+    }
+    count
+}
+
+/// How many values all states have.
+#[tactic(auto, using(crate::proofs::DeclaredLemmas::states_more, crate::proofs::DeclaredLemmas::states_few))]
+fn state_count(net: &Net) -> u32
+    ensures { result ≡ states_before net.now.specs (length net.now.specs) }
+{
+    net.well_formed();
+    let mut count = 0;
+    for at in 0..net.len() {
+        count += net.spec(at + 1).state_len() as u32;
+    }
+    count
+}
+
+/// Whether a block is marked.
+fn is_marked(marks: &[bool], block: u32) -> bool
+    requires { 1 ≤ block }
+    ensures { result ≡ numbered false marks.now block }
+{
+    let at = block as usize - 1;
+    if at < marks.len() { marks[at] } else { false }
+}
+
+/// How many scratch numbers a block takes where it is marked.
+fn scratch_at(net: &Net, marks: &[bool], block: u32) -> u32
+    requires least { 1 ≤ block }
+    requires most { block ≤ length net.now.specs }
+    ensures { result ≡ (if numbered false marks.now block then scratch_of_kind (spec_of net.now block).kind (spec_of net.now block) else 0) }
+{
+    if is_marked(marks, block) {
+        scratch_of(net.spec(block))
+    } else {
+        0
+    }
+}
+
+/// How many scratch numbers the marked blocks take.
+fn scratch_count(net: &Net, marks: &[bool]) -> u32
+    ensures { (rows : List (List PlainEntry)) → AreMarked net.now rows marks.now → result ≡ scratch_count_of net.now rows (length net.now.specs) }
+{
+    let mut count = 0;
+    for at in 0..net.len() {
+        count = count.max(scratch_at(net, marks, at + 1));
+    }
+    count
+}
+
+/// Declares an array, which has at least one element.
+fn push_array(out: &mut Vec<Decl>, name: Name, size: u32) -> Result<(), NoMemory>
+    ensures { OnOk result (map declared_of out.new.items ≡ map declared_of out.old.items ++ array_of name size ∷ []) }
+{
+    out.push(Decl {
+        name,
+        size: Some(size.max(1)),
+    })?;
+    Ok(())
+}
+
+/// Declares a scalar.
+fn push_scalar(out: &mut Vec<Decl>, name: Name) -> Result<(), NoMemory>
+    ensures { OnOk result (map declared_of out.new.items ≡ map declared_of out.old.items ++ a_scalar name ∷ []) }
+{
+    out.push(Decl { name, size: None })?;
+    Ok(())
+}
+
+/// Declares scalars.
+fn push_scalars(out: &mut Vec<Decl>, names: &[Name]) -> Result<(), NoMemory>
+    ensures { OnOk result (map declared_of out.new.items ≡ map declared_of out.old.items ++ map a_scalar names.now) }
+{
+    for name in names {
+        push_scalar(out, *name)?;
+    }
+    Ok(())
+}
+
+/// The arrays of the blocks' texts.
+fn push_values(out: &mut Vec<Decl>, net: &Net) -> Result<(), NoMemory>
+    ensures { OnOk result (map declared_of out.new.items ≡ map declared_of out.old.items ++ (array_of values_name (all_elements net.now.specs) ∷ array_of states_name (states_before net.now.specs (length net.now.specs)) ∷ array_of masks_name (length net.now.specs) ∷ [])) }
+{
+    push_array(out, values(), element_count(net))?;
+    push_array(out, states(), state_count(net))?;
+    push_array(out, masks(), net.len())
+}
+
+/// Which blocks are active, where there are blocks.
+fn push_actives(out: &mut Vec<Decl>, net: &Net) -> Result<(), NoMemory>
+    ensures { OnOk result (map declared_of out.new.items ≡ map declared_of out.old.items ++ declared_where (nat_lt 0 (length net.now.specs)) (array_of actives_name (length net.now.specs) ∷ [])) }
+{
+    if 0 < net.len() {
+        push_array(out, actives(), net.len())
+    } else {
+        Ok(())
+    }
+}
+
+/// Which branches were taken, where a block chooses one.
+fn push_branches(out: &mut Vec<Decl>, net: &Net) -> Result<(), NoMemory>
+    ensures { OnOk result (map declared_of out.new.items ≡ map declared_of out.old.items ++ declared_where (has_sync_of net.now) (array_of branches_name (length net.now.specs) ∷ [])) }
+{
+    if has_sync(net) {
+        push_array(out, branches(), net.len())
+    } else {
+        Ok(())
+    }
+}
+
+/// The dates and the orders of some sources.
+fn push_events(out: &mut Vec<Decl>, ports: u32) -> Result<(), NoMemory>
+    ensures { OnOk result (map declared_of out.new.items ≡ map declared_of out.old.items ++ (array_of dates_name ports ∷ array_of orders_name ports ∷ [])) }
+{
+    push_array(out, dates(), ports)?;
+    push_array(out, orders(), ports)
+}
+
+/// The table of pending events, where there are sources of events.
+fn push_table(out: &mut Vec<Decl>, net: &Net) -> Result<(), NoMemory>
+    ensures { OnOk result (map declared_of out.new.items ≡ map declared_of out.old.items ++ declared_where (nat_lt 0 (port_count_of net.now)) (array_of dates_name (port_count_of net.now) ∷ array_of orders_name (port_count_of net.now) ∷ [])) }
+{
+    let ports = port_count(net);
+    if 0 < ports {
+        push_events(out, ports)
+    } else {
+        Ok(())
+    }
+}
+
+/// So many scratch numbers.
+fn push_scratch(out: &mut Vec<Decl>, count: u32) -> Result<(), NoMemory>
+    ensures { OnOk result (map declared_of out.new.items ≡ map declared_of out.old.items ++ scratch_declared count) }
+{
+    for n in 0..count {
+        push_scalar(out, scratch(n + 1))?;
+    }
+    Ok(())
+}
+
+/// The bound on events, and the count of those that fired.
+fn push_limit(out: &mut Vec<Decl>) -> Result<(), NoMemory>
+    ensures { OnOk result (map declared_of out.new.items ≡ map declared_of out.old.items ++ (a_scalar limit_name ∷ a_scalar fired_name ∷ [])) }
+{
+    push_scalars(out, &[limit(), fired()])
+}
+
+/// What firing and programming use, where there are sources of events.
+fn push_clock(out: &mut Vec<Decl>, net: &Net) -> Result<(), NoMemory>
+    ensures { OnOk result (map declared_of out.new.items ≡ map declared_of out.old.items ++ declared_where (nat_lt 0 (port_count_of net.now)) (a_scalar until_name ∷ a_scalar now_name ∷ a_scalar programmed_name ∷ a_scalar chosen_name ∷ a_scalar delay_name ∷ a_scalar scan_name ∷ [])) }
+{
+    if 0 < port_count(net) {
+        push_scalars(
+            out,
+            &[until(), now(), programmed(), chosen(), delay(), scan()],
+        )
+    } else {
+        Ok(())
+    }
+}
+
+/// Whether a HALT_f was active, where there is one.
+fn push_halt(out: &mut Vec<Decl>, net: &Net) -> Result<(), NoMemory>
+    ensures { OnOk result (map declared_of out.new.items ≡ map declared_of out.old.items ++ declared_where (has_halt_of net.now) (a_scalar halt_name ∷ [])) }
+{
+    if has_halt(net) {
+        push_scalar(out, halt())
+    } else {
+        Ok(())
+    }
+}
+
+/// The declarations of all arrays and scalars, where `marks` says of each block whether the schedule has an entry of it.
+pub(crate) fn declarations(alloc: Global, net: &Net, marks: &[bool]) -> Result<Vec<Decl>, NoMemory>
+    ensures { IfOk result (λ v. (rows : List (List PlainEntry)) → AreMarked net.now rows marks.now → map declared_of v.items ≡ declarations_of net.now rows) }
+{
+    let mut out = Vec::new(alloc);
+    push_values(&mut out, net)?;
+    push_actives(&mut out, net)?;
+    push_branches(&mut out, net)?;
+    push_table(&mut out, net)?;
+    push_scratch(&mut out, scratch_count(net, marks))?;
+    push_limit(&mut out)?;
+    push_clock(&mut out, net)?;
+    push_halt(&mut out, net)?;
+    Ok(out)
+}

@@ -1,0 +1,192 @@
+// The whole program.
+ghost use Rattle.std.specs.Prelude.{◌≡◌, suc, [], false, ◌<◌, ◌++◌, map, length, slice_index_or, All, IfOk, OnOk};
+ghost use Rattle.c_ast.specs.View.{function_of, statements_of, whole_of};
+ghost use Rattle.sci_net.specs.Parts.{IsBlock, spec_of};
+ghost use Rattle.sci_net.specs.Sources.{sources_of, source_of};
+ghost use Rattle.sci_sched.specs.Plain.{row_of, rows_of};
+ghost use Rattle.sci_sched.specs.Answer.{IsPlan};
+ghost use Rattle.sci_cgen_blocks.specs.Texts.{body_text};
+ghost use Rattle.sci_cgen.specs.Names.{source_name};
+ghost use Rattle.sci_cgen.specs.Program.{text_where, places_of, functions_upto, source_function as source_function_of, other_functions, row_text as row_text_of, functions as functions_of, program};
+ghost use Rattle.sci_cgen.specs.Built.{AreLaid, AreNamed, AreMarked, marked_function};
+
+use crate::block_layouts::{layouts, scheduled};
+use crate::declared_names::{declarations, port_count};
+use crate::names;
+use crate::pieces::layout;
+use crate::row_texts::row_text;
+use crate::run_texts::{choose_text, clear_text, main_text};
+use crate::settle_texts::settle_text;
+use c_ast::{Func, Program, Stmt};
+use sci_base::NoMemory;
+use sci_cgen_blocks::{Layout, block_body};
+use sci_net::Net;
+use sci_sched::{Entry, Schedule};
+use std::alloc::Global;
+
+/// The statements of a block's values, where the schedule has an entry of it.
+fn body(
+    alloc: Global,
+    net: &Net,
+    layouts: &[Layout],
+    block: u32,
+    is_scheduled: bool,
+) -> Result<Vec<Stmt>, NoMemory>
+    requires laid { AreLaid net.now layouts.now }
+    requires block { IsBlock net.now block }
+    ensures { IfOk result (λ v. statements_of v.items ≡ text_where is_scheduled (body_text (spec_of net.now block) (places_of net.now block))) }
+{
+    net.well_formed();
+    if !is_scheduled {
+        return Ok(Vec::new(alloc));
+    }
+    block_body(alloc, net.spec(block), layout(layouts, block))
+}
+
+/// The function of a block.
+fn block_function(
+    alloc: Global,
+    net: &Net,
+    layouts: &[Layout],
+    block: u32,
+    is_scheduled: bool,
+) -> Result<Func, NoMemory>
+    requires laid { AreLaid net.now layouts.now }
+    requires block { IsBlock net.now block }
+    ensures { IfOk result (λ f. function_of f ≡ marked_function net.now is_scheduled block) }
+{
+    Ok(Func {
+        name: names::block_function(block),
+        body: body(alloc, net, layouts, block, is_scheduled)?,
+    })
+}
+
+/// The functions of all blocks, where `marks` says of each whether the schedule has an entry of it.
+fn push_block_functions(
+    alloc: Global,
+    funcs: &mut Vec<Func>,
+    net: &Net,
+    layouts: &[Layout],
+    marks: &[bool],
+) -> Result<(), NoMemory>
+    requires laid { AreLaid net.now layouts.now }
+    requires marked { length marks.now ≡ length net.now.specs }
+    ensures { OnOk result (map function_of funcs.new.items ≡ map function_of funcs.old.items ++ functions_upto (λ k. marked_function net.now (slice_index_or marks.now k false) (suc k)) (length net.now.specs)) }
+{
+    for at in 0..net.len() {
+        funcs.push(block_function(alloc, net, layouts, at + 1, marks[at as usize])?)?;
+    }
+    Ok(())
+}
+
+/// What follows each reaction; and where events fire, what comes before each, and the choice of the next.
+fn push_other_functions(
+    alloc: Global,
+    funcs: &mut Vec<Func>,
+    net: &Net,
+    layouts: &[Layout],
+) -> Result<(), NoMemory>
+    requires laid { AreLaid net.now layouts.now }
+    ensures { OnOk result (map function_of funcs.new.items ≡ map function_of funcs.old.items ++ other_functions net.now) }
+{
+    funcs.push(Func {
+        name: names::settle(),
+        body: settle_text(alloc, net, layouts)?,
+    })?;
+    if port_count(net) > 0 {
+        funcs.push(Func {
+            name: names::clear(),
+            body: clear_text(alloc, net)?,
+        })?;
+        funcs.push(Func {
+            name: names::choose(),
+            body: choose_text(alloc, net)?,
+        })?;
+    }
+    Ok(())
+}
+
+/// The function of a source.
+fn source_function(
+    alloc: Global,
+    net: &Net,
+    layouts: &[Layout],
+    source: u32,
+    row: &[Entry],
+) -> Result<Func, NoMemory>
+    requires laid { AreLaid net.now layouts.now }
+    requires source { source < length (sources_of net.now) }
+    requires named { AreNamed net.now (row_of row.now) }
+    ensures { IfOk result (λ f. function_of f ≡ record { name = source_name source; body = row_text_of net.now (source_of net.now source) (row_of row.now) }) }
+{
+    Ok(Func {
+        name: names::source_function(source),
+        body: row_text(alloc, net, layouts, net.source(source), row)?,
+    })
+}
+
+/// The row of a source.
+#[tactic(auto, using(crate::proofs::EmitLemmas::row_at))]
+fn row(schedule: &Schedule, source: u32) -> &[Entry]
+    requires { source < length (rows_of schedule.now) }
+    ensures { row_of result.now ≡ slice_index_or (rows_of schedule.now) source [] }
+{
+    schedule.rows[source as usize].as_slice()
+}
+
+/// The functions of all sources.
+fn push_source_functions(
+    alloc: Global,
+    funcs: &mut Vec<Func>,
+    net: &Net,
+    layouts: &[Layout],
+    schedule: &Schedule,
+) -> Result<(), NoMemory>
+    requires laid { AreLaid net.now layouts.now }
+    requires named { All (AreNamed net.now) (rows_of schedule.now) }
+    requires rows { length (rows_of schedule.now) ≡ length (sources_of net.now) }
+    ensures { OnOk result (map function_of funcs.new.items ≡ map function_of funcs.old.items ++ functions_upto (source_function_of net.now (rows_of schedule.now)) (length (sources_of net.now))) }
+{
+    for source in 0..net.source_count() {
+        let row = row(schedule, source);
+        funcs.push(source_function(alloc, net, layouts, source, row)?)?;
+    }
+    Ok(())
+}
+
+/// All functions of a program.
+fn functions(
+    alloc: Global,
+    net: &Net,
+    layouts: &[Layout],
+    marks: &[bool],
+    schedule: &Schedule,
+) -> Result<Vec<Func>, NoMemory>
+    requires laid { AreLaid net.now layouts.now }
+    requires marked { AreMarked net.now (rows_of schedule.now) marks.now }
+    requires named { All (AreNamed net.now) (rows_of schedule.now) }
+    requires rows { length (rows_of schedule.now) ≡ length (sources_of net.now) }
+    ensures { IfOk result (λ v. map function_of v.items ≡ functions_of net.now (rows_of schedule.now)) }
+{
+    let mut funcs = Vec::new(alloc);
+    push_block_functions(alloc, &mut funcs, net, layouts, marks)?;
+    push_other_functions(alloc, &mut funcs, net, layouts)?;
+    push_source_functions(alloc, &mut funcs, net, layouts, schedule)?;
+    Ok(funcs)
+}
+
+/// The C program of a net and its schedule: for each block a function of its values, for each source a function that calls those of its row in the order of the
+/// schedule, and `sci_main`, which lets one event after another fire. Its trace is that of the net (`program_law`).
+pub fn emit(alloc: Global, net: &Net, schedule: &Schedule) -> Result<Program, NoMemory>
+    requires { IsPlan net.now (rows_of schedule.now) }
+    ensures { IfOk result (λ p. whole_of p ≡ program net.now (rows_of schedule.now)) }
+{
+    net.well_formed();
+    let layouts = layouts(alloc, net)?;
+    let marks = scheduled(alloc, net, schedule)?;
+    Ok(Program {
+        decls: declarations(alloc, net, &marks)?,
+        funcs: functions(alloc, net, &layouts, &marks, schedule)?,
+        main: main_text(alloc, net, &layouts)?,
+    })
+}

@@ -1,0 +1,427 @@
+// The text of a source: its observation, and the entries of its row.
+ghost use Rattle.std.specs.Prelude.{◌≡◌, ◌≤◌, ◌<◌, ◌^◌, ◌-◌, ◌||◌, true, not, nat_eq, length, All, IfOk, OnOk, if◌then◌else◌};
+ghost use Rattle.std.specs.Int.{bit_at};
+ghost use Rattle.c_ast.specs.Syntax.{bin as operation, set as assign, cell as cell_of};
+ghost use Rattle.c_ast.specs.declared.Op.TheVariants as ops;
+ghost use Rattle.c_ast.specs.View.{exp_of, statement_of, statements_of};
+ghost use Rattle.c_steps.specs.Texts.{joined};
+ghost use Rattle.sci_forms.specs.Forms.{is_sync};
+ghost use Rattle.sci_net.specs.Parts.{IsBlock, spec_of};
+ghost use Rattle.sci_reaction.specs.Schedule.{Guard as PlainGuard};
+ghost use Rattle.sci_sched.specs.Plain.{guard_of, guards_of, entry_of, row_of};
+ghost use Rattle.sci_cgen_blocks.specs.Texts.{masks as masks_name, branch_expression};
+ghost use Rattle.sci_cgen.specs.Names.{branches as branches_name};
+ghost use Rattle.sci_cgen.specs.Program.{natural as natural_of, one, texts, text_where, only_where as only_where_of, places_of};
+ghost use Rattle.sci_cgen.specs.Program.{reads_mask, is_active, mark, mask_cell, with_bit, with_bits, is_taken};
+ghost use Rattle.sci_cgen.specs.Program.{guard_text, call_text, entry_text, header_text, row_text as row_text_of};
+ghost use Rattle.sci_cgen.specs.Built.{AreLaid, IsNamed, AreNamed};
+
+use crate::names::{actives, block_function, branches, now};
+use crate::pieces::{cell, layout, natural, push, push_where, set_natural};
+use c_ast::{Expr, Op, Stmt, Tell};
+use sci_base::NoMemory;
+use sci_cgen_blocks::array_names::masks;
+use sci_cgen_blocks::writing::{bin, element};
+use sci_cgen_blocks::{Layout, block_branch};
+use sci_forms::Kind;
+use sci_net::{Net, Source};
+use sci_sched::{Entry, Guard};
+use std::alloc::Global;
+
+/// The statement by which a block becomes active.
+fn mark(block: u32) -> Stmt
+    requires { 1 ≤ block }
+    ensures { one (statement_of result) ≡ mark block }
+{
+    set_natural(actives(), block - 1, 1)
+}
+
+/// The same, where a test holds.
+fn push_mark(out: &mut Vec<Stmt>, test: bool, block: u32) -> Result<(), NoMemory>
+    requires { 1 ≤ block }
+    ensures { OnOk result (statements_of out.new.items ≡ joined (statements_of out.old.items) (text_where test (mark block))) }
+{
+    if test { push(out, mark(block)) } else { Ok(()) }
+}
+
+/// The mask of a block.
+fn mask_cell(alloc: Global, block: u32) -> Result<Expr, NoMemory>
+    requires { 1 ≤ block }
+    ensures { IfOk result (λ e. exp_of e ≡ mask_cell block) }
+{
+    element(alloc, masks(), u64::from(block - 1))
+}
+
+/// The number whose one bit is this one, counted from 0.
+fn power(bit: u32) -> Expr
+    requires { bit < 8 }
+    ensures { exp_of result ≡ natural_of (2 ^ bit) }
+{
+    natural(1 << bit)
+}
+
+/// A bit of the mask of a block.
+fn mask_bit(alloc: Global, block: u32, bit: u32) -> Result<Expr, NoMemory>
+    requires least { 1 ≤ block }
+    requires few { bit < 8 }
+    ensures { IfOk result (λ e. exp_of e ≡ operation ops.Rem (operation ops.Div (mask_cell block) (natural_of (2 ^ bit))) (natural_of 2)) }
+{
+    let shifted = bin(alloc, Op::Div, mask_cell(alloc, block)?, power(bit))?;
+    bin(alloc, Op::Rem, shifted, natural(2))
+}
+
+/// What the mask of a block lacks to have the bit.
+fn missing(alloc: Global, block: u32, bit: u32) -> Result<Expr, NoMemory>
+    requires least { 1 ≤ block }
+    requires few { bit < 8 }
+    ensures { IfOk result (λ e. exp_of e
+        ≡ operation ops.Mul (operation ops.Sub (natural_of 1) (operation ops.Rem (operation ops.Div (mask_cell block) (natural_of (2 ^ bit))) (natural_of 2)))
+        (natural_of (2 ^ bit))) }
+{
+    let lacks = bin(alloc, Op::Sub, natural(1), mask_bit(alloc, block, bit)?)?;
+    bin(alloc, Op::Mul, lacks, power(bit))
+}
+
+/// The bit of the mask of a block becomes 1.
+fn with_bit(alloc: Global, block: u32, bit: u32) -> Result<Stmt, NoMemory>
+    requires least { 1 ≤ block }
+    requires few { bit < 8 }
+    ensures { IfOk result (λ s. one (statement_of s) ≡ with_bit block bit) }
+{
+    let missing = missing(alloc, block, bit)?;
+    let mask = bin(alloc, Op::Add, mask_cell(alloc, block)?, missing)?;
+    Ok(Stmt::Set(cell(masks(), block - 1), mask))
+}
+
+/// Whether a bit of a mask is 1.
+fn has_bit(mask: u64, bit: u32) -> bool
+    requires { bit < 64 }
+    ensures { result ≡ nat_eq (bit_at mask bit) 1 }
+{
+    (mask >> bit) & 1 == 1
+}
+
+/// The bit of the mask of a block becomes 1, where that of a mask is 1.
+fn push_bit(
+    alloc: Global,
+    out: &mut Vec<Stmt>,
+    block: u32,
+    mask: u64,
+    bit: u32,
+) -> Result<(), NoMemory>
+    requires least { 1 ≤ block }
+    requires few { bit < 8 }
+    ensures { OnOk result (statements_of out.new.items ≡ joined (statements_of out.old.items) (text_where (nat_eq (bit_at mask bit) 1) (with_bit block bit))) }
+{
+    if has_bit(mask, bit) {
+        push(out, with_bit(alloc, block, bit)?)
+    } else {
+        Ok(())
+    }
+}
+
+/// The same of the first bits.
+fn push_bits(
+    alloc: Global,
+    out: &mut Vec<Stmt>,
+    block: u32,
+    mask: u64,
+    count: u32,
+) -> Result<(), NoMemory>
+    requires least { 1 ≤ block }
+    requires few { count ≤ 8 }
+    ensures { OnOk result (statements_of out.new.items ≡ joined (statements_of out.old.items) (with_bits block mask count)) }
+{
+    for bit in 0..count {
+        push_bit(alloc, out, block, mask, bit)?;
+    }
+    Ok(())
+}
+
+/// Whether the values of a block of the kind depend on which of its activation inputs are activated.
+fn reads_mask(kind: Kind) -> bool
+    ensures { result ≡ reads_mask kind }
+{
+    matches!(kind, Kind::Select | Kind::AndLog)
+}
+
+/// The bits that a branch gives the mask of a block, where its kind reads it.
+fn push_branch_mask(
+    alloc: Global,
+    out: &mut Vec<Stmt>,
+    net: &Net,
+    block: u32,
+    mask: u64,
+) -> Result<(), NoMemory>
+    requires least { 1 ≤ block }
+    requires most { block ≤ length net.now.specs }
+    ensures { OnOk result (statements_of out.new.items ≡ joined (statements_of out.old.items)
+        (text_where (reads_mask (spec_of net.now block).kind) (with_bits block mask (spec_of net.now block).evtin))) }
+{
+    let spec = net.spec(block);
+    if reads_mask(spec.kind) {
+        push_bits(alloc, out, block, mask, spec.evtin)
+    } else {
+        Ok(())
+    }
+}
+
+/// Whether the block of a guard has taken its branch.
+fn is_taken(alloc: Global, guard: &Guard) -> Result<Expr, NoMemory>
+    requires { 1 ≤ guard.now.block }
+    ensures { IfOk result (λ e. exp_of e ≡ is_taken (guard_of guard.now)) }
+{
+    let branch = element(alloc, branches(), u64::from(guard.block - 1))?;
+    bin(alloc, Op::Eq, branch, natural(guard.port))
+}
+
+/// What a branch that is taken does to an entry's block.
+fn taken(alloc: Global, net: &Net, entry: &Entry, guard: &Guard) -> Result<Vec<Stmt>, NoMemory>
+    requires { IsBlock net.now entry.now.block }
+    ensures { IfOk result (λ v. statements_of v.items ≡ joined (text_where (not entry.now.always) (mark entry.now.block))
+        (text_where (reads_mask (spec_of net.now entry.now.block).kind) (with_bits entry.now.block guard.now.mask (spec_of net.now entry.now.block).evtin))) }
+{
+    let mut out = Vec::new(alloc);
+    push_mark(&mut out, !entry.always, entry.block)?;
+    push_branch_mask(alloc, &mut out, net, entry.block, guard.mask)?;
+    Ok(out)
+}
+
+/// A guard of an entry.
+fn push_guard(
+    alloc: Global,
+    out: &mut Vec<Stmt>,
+    net: &Net,
+    entry: &Entry,
+    guard: &Guard,
+) -> Result<(), NoMemory>
+    requires block { IsBlock net.now entry.now.block }
+    requires guard { IsBlock net.now guard.now.block }
+    ensures { OnOk result (statements_of out.new.items ≡ joined (statements_of out.old.items) (guard_text net.now (entry_of entry.now) (guard_of guard.now))) }
+{
+    let body = taken(alloc, net, entry, guard)?;
+    push_where(alloc, out, is_taken(alloc, guard)?, body)
+}
+
+/// Guards of an entry.
+fn push_guards(
+    alloc: Global,
+    out: &mut Vec<Stmt>,
+    net: &Net,
+    entry: &Entry,
+    guards: &[Guard],
+) -> Result<(), NoMemory>
+    requires block { IsBlock net.now entry.now.block }
+    requires guards { All (λ (g : PlainGuard). IsBlock net.now g.block) (guards_of guards.now) }
+    ensures { OnOk result (statements_of out.new.items ≡ joined (statements_of out.old.items)
+        (texts (guard_text net.now (entry_of entry.now)) (guards_of guards.now))) }
+{
+    for guard in guards {
+        push_guard(alloc, out, net, entry, guard)?;
+    }
+    Ok(())
+}
+
+/// Whether it matters which guards of an entry are taken.
+fn wants_guards(net: &Net, entry: &Entry) -> bool
+    requires { IsBlock net.now entry.now.block }
+    ensures { result ≡ (not entry.now.always || reads_mask (spec_of net.now entry.now.block).kind) }
+{
+    !entry.always || reads_mask(net.spec(entry.block).kind)
+}
+
+/// All guards of an entry, where it matters which are taken.
+fn push_all_guards(
+    alloc: Global,
+    out: &mut Vec<Stmt>,
+    net: &Net,
+    entry: &Entry,
+) -> Result<(), NoMemory>
+    requires { IsNamed net.now (entry_of entry.now) }
+    ensures { OnOk result (statements_of out.new.items ≡ joined (statements_of out.old.items)
+        (text_where (not entry.now.always || reads_mask (spec_of net.now entry.now.block).kind)
+        (texts (guard_text net.now (entry_of entry.now)) (guards_of entry.now.guards.items)))) }
+{
+    if wants_guards(net, entry) {
+        push_guards(alloc, out, net, entry, &entry.guards)
+    } else {
+        Ok(())
+    }
+}
+
+/// The mask that the source gives an entry's block, where its kind reads it.
+fn push_mask(out: &mut Vec<Stmt>, net: &Net, entry: &Entry) -> Result<(), NoMemory>
+    requires { IsNamed net.now (entry_of entry.now) }
+    ensures { OnOk result (statements_of out.new.items ≡ joined (statements_of out.old.items)
+        (text_where (reads_mask (spec_of net.now entry.now.block).kind)
+        (one (assign (cell_of masks_name (natural_of (entry.now.block - 1))) (natural_of entry.now.mask))))) }
+{
+    if reads_mask(net.spec(entry.block).kind) {
+        let mask = entry.mask as u32;
+        push(out, set_natural(masks(), entry.block - 1, mask))
+    } else {
+        Ok(())
+    }
+}
+
+/// The branch that a synchronous block takes.
+fn branch(alloc: Global, net: &Net, layouts: &[Layout], block: u32) -> Result<Stmt, NoMemory>
+    requires laid { AreLaid net.now layouts.now }
+    requires block { IsBlock net.now block }
+    requires sync { is_sync (spec_of net.now block).kind ≡ true }
+    ensures { IfOk result (λ s. statement_of s
+        ≡ assign (cell_of branches_name (natural_of (block - 1))) (branch_expression (spec_of net.now block) (places_of net.now block))) }
+{
+    let value = block_branch(alloc, net.spec(block), layout(layouts, block))?;
+    Ok(Stmt::Set(cell(branches(), block - 1), value))
+}
+
+/// The same of a block that may be synchronous.
+fn push_branch(
+    alloc: Global,
+    out: &mut Vec<Stmt>,
+    net: &Net,
+    layouts: &[Layout],
+    block: u32,
+) -> Result<(), NoMemory>
+    requires laid { AreLaid net.now layouts.now }
+    requires block { IsBlock net.now block }
+    ensures { OnOk result (statements_of out.new.items ≡ joined (statements_of out.old.items)
+        (text_where (is_sync (spec_of net.now block).kind)
+        (one (assign (cell_of branches_name (natural_of (block - 1))) (branch_expression (spec_of net.now block) (places_of net.now block)))))) }
+{
+    if net.spec(block).kind.is_sync() {
+        push(out, branch(alloc, net, layouts, block)?)
+    } else {
+        Ok(())
+    }
+}
+
+/// The function of a block is called, and a synchronous block takes its branch.
+fn push_call(
+    alloc: Global,
+    out: &mut Vec<Stmt>,
+    net: &Net,
+    layouts: &[Layout],
+    block: u32,
+) -> Result<(), NoMemory>
+    requires laid { AreLaid net.now layouts.now }
+    requires block { IsBlock net.now block }
+    ensures { OnOk result (statements_of out.new.items ≡ joined (statements_of out.old.items) (call_text net.now block)) }
+{
+    push(out, Stmt::Call(block_function(block)))?;
+    push_branch(alloc, out, net, layouts, block)
+}
+
+/// Whether a block is active.
+fn is_active(alloc: Global, block: u32) -> Result<Expr, NoMemory>
+    requires { 1 ≤ block }
+    ensures { IfOk result (λ e. exp_of e ≡ is_active block) }
+{
+    element(alloc, actives(), u64::from(block - 1))
+}
+
+/// The same call, where the block is active.
+fn push_active_call(
+    alloc: Global,
+    out: &mut Vec<Stmt>,
+    net: &Net,
+    layouts: &[Layout],
+    block: u32,
+) -> Result<(), NoMemory>
+    requires laid { AreLaid net.now layouts.now }
+    requires block { IsBlock net.now block }
+    ensures { OnOk result (statements_of out.new.items ≡ joined (statements_of out.old.items) (only_where_of (is_active block) (call_text net.now block))) }
+{
+    let mut body = Vec::new(alloc);
+    push_call(alloc, &mut body, net, layouts, block)?;
+    push_where(alloc, out, is_active(alloc, block)?, body)
+}
+
+/// The call of an entry's block, which isn't tested where the source always activates it.
+fn push_values(
+    alloc: Global,
+    out: &mut Vec<Stmt>,
+    net: &Net,
+    layouts: &[Layout],
+    entry: &Entry,
+) -> Result<(), NoMemory>
+    requires laid { AreLaid net.now layouts.now }
+    requires block { IsBlock net.now entry.now.block }
+    ensures { OnOk result (statements_of out.new.items ≡ joined (statements_of out.old.items)
+        (if entry.now.always then call_text net.now entry.now.block else only_where_of (is_active entry.now.block) (call_text net.now entry.now.block))) }
+{
+    if entry.always {
+        push_call(alloc, out, net, layouts, entry.block)
+    } else {
+        push_active_call(alloc, out, net, layouts, entry.block)
+    }
+}
+
+/// An entry: whether its block is active, its mask, and its values.
+fn push_entry(
+    alloc: Global,
+    out: &mut Vec<Stmt>,
+    net: &Net,
+    layouts: &[Layout],
+    entry: &Entry,
+) -> Result<(), NoMemory>
+    requires laid { AreLaid net.now layouts.now }
+    requires named { IsNamed net.now (entry_of entry.now) }
+    ensures { OnOk result (statements_of out.new.items ≡ joined (statements_of out.old.items) (entry_text net.now (entry_of entry.now))) }
+{
+    push_mark(out, entry.always, entry.block)?;
+    push_mask(out, net, entry)?;
+    push_all_guards(alloc, out, net, entry)?;
+    push_values(alloc, out, net, layouts, entry)
+}
+
+/// The entries of a row.
+fn push_entries(
+    alloc: Global,
+    out: &mut Vec<Stmt>,
+    net: &Net,
+    layouts: &[Layout],
+    row: &[Entry],
+) -> Result<(), NoMemory>
+    requires laid { AreLaid net.now layouts.now }
+    requires named { AreNamed net.now (row_of row.now) }
+    ensures { OnOk result (statements_of out.new.items ≡ joined (statements_of out.old.items) (texts (entry_text net.now) (row_of row.now))) }
+{
+    for entry in row {
+        push_entry(alloc, out, net, layouts, entry)?;
+    }
+    Ok(())
+}
+
+/// The observation of a source.
+fn header(source: Source) -> Stmt
+    ensures { one (statement_of result) ≡ header_text source }
+{
+    match source {
+        Source::Start => Stmt::Tell(Tell::Start),
+        Source::Port(port) => Stmt::Tell(Tell::Event(
+            Expr::Var(now()),
+            natural(port.block),
+            natural(port.port),
+        )),
+    }
+}
+
+/// The statements of a source's function.
+pub(crate) fn row_text(
+    alloc: Global,
+    net: &Net,
+    layouts: &[Layout],
+    source: Source,
+    row: &[Entry],
+) -> Result<Vec<Stmt>, NoMemory>
+    requires laid { AreLaid net.now layouts.now }
+    requires named { AreNamed net.now (row_of row.now) }
+    ensures { IfOk result (λ v. statements_of v.items ≡ row_text_of net.now source (row_of row.now)) }
+{
+    let mut out = Vec::new(alloc);
+    push(&mut out, header(source))?;
+    push_entries(alloc, &mut out, net, layouts, row)?;
+    Ok(out)
+}

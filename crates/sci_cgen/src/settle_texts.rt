@@ -1,0 +1,292 @@
+// What follows a reaction's values: they are observed, active blocks program events, states step, and a HALT_f halts.
+ghost use Rattle.std.specs.Prelude.{◌≡◌, ◌+◌, ◌<◌, ◌≤◌, ◌^◌, length, IfOk, OnOk};
+ghost use Rattle.sci_forms.specs.Ports.{total};
+ghost use Rattle.sci_net.specs.declared.Source.TheVariants as sources;
+ghost use Rattle.sci_net.specs.Parts.{IsBlock};
+ghost use Rattle.sci_net.specs.Sources.{sources_of, source_of};
+ghost use Rattle.sci_reaction.specs.Links.{IsSource};
+ghost use Rattle.sci_run.specs.Activity.{is_halt as is_halt_of};
+ghost use Rattle.c_ast.specs.Syntax.{tell, value as value_told, done};
+ghost use Rattle.c_ast.specs.View.{exp_of, statement_of, statements_of};
+ghost use Rattle.c_steps.specs.Texts.{joined, place as element_at};
+ghost use Rattle.sci_due.specs.Texts.{entry_text as entry_text_of, program_text as program_text_of};
+ghost use Rattle.sci_cgen_blocks.specs.Texts.{values as values_name};
+ghost use Rattle.sci_cgen.specs.Program.{natural as natural_of, is_active as is_active_of, elements_shown, outputs_shown, values_shown, delay_text, state_text, halt_text, each_block, each_port, settle_text as settle_text_of};
+ghost use Rattle.sci_cgen.specs.Built.{AreLaid};
+
+use crate::names::{actives, dates, delay, halt, now, orders, programmed};
+use crate::pieces::{cell, layout, natural, push, push_where};
+use c_ast::{Expr, Op, Stmt, Target, Tell};
+use sci_base::NoMemory;
+use sci_cgen_blocks::array_names::values;
+use sci_cgen_blocks::writing::{bin, element, only_where};
+use sci_cgen_blocks::{Layout, block_delay, block_next};
+use sci_forms::{Kind, Ports};
+use sci_net::{Feed, Net, Source};
+use std::alloc::Global;
+
+/// Whether a block is active.
+fn is_active(alloc: Global, block: u32) -> Result<Expr, NoMemory>
+    requires { 1 ≤ block }
+    ensures { IfOk result (λ e. exp_of e ≡ is_active_of block) }
+{
+    element(alloc, actives(), u64::from(block - 1))
+}
+
+/// The value at a place is observed as that of an element of an output.
+fn value_shown(
+    alloc: Global,
+    block: u32,
+    port: u32,
+    number: u32,
+    place: u32,
+) -> Result<Stmt, NoMemory>
+    ensures { IfOk result (λ s. statement_of s ≡ tell (value_told (natural_of block) (natural_of port) (natural_of number) (element_at values_name place))) }
+{
+    let value = element(alloc, values(), u64::from(place))?;
+    Ok(Stmt::Tell(Tell::Val(natural(block), natural(port), natural(number), value)))
+}
+
+/// The values of an output's elements, the first of which lies at `start`.
+fn push_elements(
+    alloc: Global,
+    out: &mut Vec<Stmt>,
+    block: u32,
+    port: u32,
+    start: u32,
+    count: u32,
+) -> Result<(), NoMemory>
+    requires { start + count ≤ 2 ^ 20 }
+    ensures { OnOk result (statements_of out.new.items ≡ joined (statements_of out.old.items) (elements_shown block port 1 start count)) }
+{
+    for at in 0..count {
+        push(out, value_shown(alloc, block, port, at + 1, start + at)?)?;
+    }
+    Ok(())
+}
+
+/// The values of a block's outputs, the first of which lies at `start`.
+fn push_outputs(
+    alloc: Global,
+    out: &mut Vec<Stmt>,
+    block: u32,
+    start: u32,
+    outs: &Ports,
+) -> Result<(), NoMemory>
+    requires few { length outs.now ≤ 64 }
+    requires within { start + total outs.now ≤ 2 ^ 20 }
+    ensures { OnOk result (statements_of out.new.items ≡ joined (statements_of out.old.items) (outputs_shown block 1 start outs.now)) }
+{
+    let mut place = start;
+    for port in 0..outs.len() {
+        let count = outs.get(port).elements() as u32;
+        push_elements(alloc, out, block, port as u32 + 1, place, count)?;
+        place += count;
+    }
+    Ok(())
+}
+
+/// The values of a block are observed, where it is active.
+fn push_values(
+    alloc: Global,
+    out: &mut Vec<Stmt>,
+    net: &Net,
+    layouts: &[Layout],
+    block: u32,
+) -> Result<(), NoMemory>
+    requires laid { AreLaid net.now layouts.now }
+    requires block { IsBlock net.now block }
+    ensures { OnOk result (statements_of out.new.items ≡ joined (statements_of out.old.items) (values_shown net.now block)) }
+{
+    net.well_formed();
+    let outs = &net.spec(block).outs;
+    if outs.len() == 0 {
+        return Ok(());
+    }
+    let mut shown = Vec::new(alloc);
+    push_outputs(alloc, &mut shown, block, layout(layouts, block).outs, outs)?;
+    push_where(alloc, out, is_active(alloc, block)?, shown)
+}
+
+/// The values of all active blocks are observed.
+fn push_all_values(
+    alloc: Global,
+    out: &mut Vec<Stmt>,
+    net: &Net,
+    layouts: &[Layout],
+) -> Result<(), NoMemory>
+    requires laid { AreLaid net.now layouts.now }
+    ensures { OnOk result (statements_of out.new.items ≡ joined (statements_of out.old.items) (each_block (values_shown net.now) net.now)) }
+{
+    for at in 0..net.len() {
+        push_values(alloc, out, net, layouts, at + 1)?;
+    }
+    Ok(())
+}
+
+/// The entry of a source, counted from 0 without start, becomes the event after the delay that was read.
+fn entry_text(alloc: Global, at: u32) -> Result<Vec<Stmt>, NoMemory>
+    ensures { IfOk result (λ v. statements_of v.items ≡ entry_text_of at) }
+{
+    let date = bin(alloc, Op::Add, Expr::Var(now()), Expr::Var(delay()))?;
+    let next_order = bin(alloc, Op::Add, Expr::Var(programmed()), natural(1))?;
+    Ok(vec![in alloc;
+        Stmt::Set(cell(dates(), at), date),
+        Stmt::Set(cell(orders(), at), Expr::Var(programmed())),
+        Stmt::Set(Target::Var(programmed()), next_order),
+    ]?)
+}
+
+/// A source, counted from 0 without start, is programmed with a delay, unless the delay is below 0.
+fn program_text(alloc: Global, at: u32, ticks: Expr) -> Result<Vec<Stmt>, NoMemory>
+    ensures { IfOk result (λ v. statements_of v.items ≡ program_text_of at (exp_of ticks) done) }
+{
+    let is_programmed = bin(alloc, Op::Ge, Expr::Var(delay()), natural(0))?;
+    let entry = entry_text(alloc, at)?;
+    Ok(vec![in alloc;
+        Stmt::Set(Target::Var(delay()), ticks),
+        only_where(alloc, is_programmed, entry),
+    ]?)
+}
+
+/// A source that is an activation output is programmed with its delay, where the output's block is active.
+fn push_port_delay(
+    alloc: Global,
+    out: &mut Vec<Stmt>,
+    net: &Net,
+    layouts: &[Layout],
+    source: u32,
+    q: Feed,
+) -> Result<(), NoMemory>
+    requires laid { AreLaid net.now layouts.now }
+    requires least { 1 ≤ source }
+    requires port { IsSource net.now (sources.Port q) }
+    ensures { OnOk result (statements_of out.new.items ≡ joined (statements_of out.old.items) (delay_text net.now source (sources.Port q))) }
+{
+    net.well_formed();
+    let spec = net.spec(q.block);
+    let ticks = block_delay(alloc, spec, layout(layouts, q.block), q.port)?;
+    let programs = program_text(alloc, source - 1, ticks)?;
+    push_where(alloc, out, is_active(alloc, q.block)?, programs)
+}
+
+/// A source is programmed with its delay, where its block is active.
+fn push_delay(
+    alloc: Global,
+    out: &mut Vec<Stmt>,
+    net: &Net,
+    layouts: &[Layout],
+    source: u32,
+) -> Result<(), NoMemory>
+    requires laid { AreLaid net.now layouts.now }
+    requires least { 1 ≤ source }
+    requires most { source < length (sources_of net.now) }
+    ensures { OnOk result (statements_of out.new.items ≡ joined (statements_of out.old.items) (delay_text net.now source (source_of net.now source))) }
+{
+    match net.source(source) {
+        Source::Start => Ok(()),
+        Source::Port(q) => push_port_delay(alloc, out, net, layouts, source, q),
+    }
+}
+
+/// All sources of active blocks are programmed.
+fn push_delays(
+    alloc: Global,
+    out: &mut Vec<Stmt>,
+    net: &Net,
+    layouts: &[Layout],
+) -> Result<(), NoMemory>
+    requires laid { AreLaid net.now layouts.now }
+    ensures { OnOk result (statements_of out.new.items ≡ joined (statements_of out.old.items) (each_port (λ i. delay_text net.now i (source_of net.now i)) net.now)) }
+{
+    for at in 0..net.source_count() - 1 {
+        push_delay(alloc, out, net, layouts, at + 1)?;
+    }
+    Ok(())
+}
+
+/// The state of a block steps, where it has one and is active.
+fn push_state(
+    alloc: Global,
+    out: &mut Vec<Stmt>,
+    net: &Net,
+    layouts: &[Layout],
+    block: u32,
+) -> Result<(), NoMemory>
+    requires laid { AreLaid net.now layouts.now }
+    requires block { IsBlock net.now block }
+    ensures { OnOk result (statements_of out.new.items ≡ joined (statements_of out.old.items) (state_text net.now block)) }
+{
+    net.well_formed();
+    let spec = net.spec(block);
+    if !spec.kind.has_state() {
+        return Ok(());
+    }
+    let steps = block_next(alloc, spec, layout(layouts, block))?;
+    push_where(alloc, out, is_active(alloc, block)?, steps)
+}
+
+/// The states of all active blocks step.
+fn push_states(
+    alloc: Global,
+    out: &mut Vec<Stmt>,
+    net: &Net,
+    layouts: &[Layout],
+) -> Result<(), NoMemory>
+    requires laid { AreLaid net.now layouts.now }
+    ensures { OnOk result (statements_of out.new.items ≡ joined (statements_of out.old.items) (each_block (state_text net.now) net.now)) }
+{
+    for at in 0..net.len() {
+        push_state(alloc, out, net, layouts, at + 1)?;
+    }
+    Ok(())
+}
+
+/// Whether it is the kind that ends the run.
+fn is_halt(kind: Kind) -> bool
+    ensures { result ≡ is_halt_of kind }
+{
+    match kind {
+        Kind::Halt => true,
+        _ => false,
+    }
+}
+
+/// The run is to end, where the block is a HALT_f that is active.
+fn push_halt(alloc: Global, out: &mut Vec<Stmt>, net: &Net, block: u32) -> Result<(), NoMemory>
+    requires { IsBlock net.now block }
+    ensures { OnOk result (statements_of out.new.items ≡ joined (statements_of out.old.items) (halt_text net.now block)) }
+{
+    if !is_halt(net.spec(block).kind) {
+        return Ok(());
+    }
+    let halts = vec![in alloc; Stmt::Set(Target::Var(halt()), natural(1))]?;
+    push_where(alloc, out, is_active(alloc, block)?, halts)
+}
+
+/// The run is to end, where a HALT_f is active.
+fn push_halts(alloc: Global, out: &mut Vec<Stmt>, net: &Net) -> Result<(), NoMemory>
+    ensures { OnOk result (statements_of out.new.items ≡ joined (statements_of out.old.items) (each_block (halt_text net.now) net.now)) }
+{
+    for at in 0..net.len() {
+        push_halt(alloc, out, net, at + 1)?;
+    }
+    Ok(())
+}
+
+/// The statements of the function that follows a reaction's values.
+pub(crate) fn settle_text(
+    alloc: Global,
+    net: &Net,
+    layouts: &[Layout],
+) -> Result<Vec<Stmt>, NoMemory>
+    requires laid { AreLaid net.now layouts.now }
+    ensures { IfOk result (λ v. statements_of v.items ≡ settle_text_of net.now) }
+{
+    let mut out = Vec::new(alloc);
+    push_all_values(alloc, &mut out, net, layouts)?;
+    push_delays(alloc, &mut out, net, layouts)?;
+    push_states(alloc, &mut out, net, layouts)?;
+    push_halts(alloc, &mut out, net)?;
+    Ok(out)
+}
