@@ -1,12 +1,10 @@
--- Of each diagram's file at most one verdict holds.
+-- Of each diagram at most one verdict holds, and so of its file.
 use Rattle.std.proofs.Common.{◌≡◌, inl, refl, ◌∙◌, ap, subst, ℕ, List}
 use Rattle.std.specs.Prelude.{Result, Ok, Err, Option, Some, None}
 use Rattle.sci_base.specs.Plain.{Violation}
 use Rattle.sci_diagram.specs.Objects.{Objects}
-use Rattle.sci_diagram.specs.Reading.{Accepts as IsDiagram}
+use Rattle.sci_diagram.specs.Reading.{Accepts as IsDiagram, Breaks as IsNoDiagram}
 use Rattle.sci_net.specs.Parts.{Parts}
-use Rattle.sci_flat.specs.Flat.{IsFlatNet}
-use Rattle.sci_flat.specs.Refused.{Breaks as IsNotFlat}
 use Rattle.sci_flat.proofs.Verdicts.{verdict, violation}
 use Rattle.sci_verdict.proofs.OneFlat.{one_flat}
 use Rattle.sci_infer.specs.declared.values.Verdict.{Verdict}
@@ -23,41 +21,27 @@ use Rattle.sci_infer.proofs.TypedNet.{well_formed}
 use Rattle.sci_reaction.specs.Schedule.{Entry}
 use Rattle.sci_sched.specs.Answer.{IsPlan, IsPlanBreak}
 use Rattle.sci_verdict.proofs.OnePlan.{one_plan, one_plan_break, plan_or_not}
-use Rattle.sci_verdict.specs.Verdict.{GivesFlat, GivesNet, BreaksNet, unread, not_flat, not_typed, Plan, Accepts, Breaks, no_net, no_plan}
-use Rattle.sci_verdict.specs.Laws.{AreAlike, OneVerdict}
+use Rattle.sci_verdict.specs.Verdict.{GivesNet, BreaksNet, unread, not_flat, not_typed, Plan, Accepts, Breaks, no_net, no_plan}
+use Rattle.sci_verdict.specs.Verdict.{TreeGivesNet, TreeBreaksNet, tree_not_flat, tree_not_typed, TreeAccepts, TreeBreaks, tree_no_net, tree_no_plan}
+use Rattle.sci_verdict.specs.Laws.{AreAlike, OneVerdict, OneTreeVerdict}
 
-same_tree : (bytes : List ℕ) (t u : Objects) → IsDiagram bytes t → IsDiagram bytes u → t ≡ u
-same_tree bytes t u h k = cc (h, k)
+-- ---- of a diagram in memory, its net
 
-same_flat : (bytes : List ℕ) (m n : Parts) → GivesFlat bytes m → GivesFlat bytes n → m ≡ n
-same_flat bytes m n h k = one_flat k.tree m n (subst (λ (t : Objects). IsFlatNet t m) (same_tree bytes h.tree k.tree h.read k.read) h.flat) k.flat
+same_answer : (m n : Parts) (o q : Result Parts Violation) → m ≡ n → IsAnswer m o → IsAnswer n q → o ≡ q
+same_answer m n o q same a b = one_answer n o q (subst (λ (x : Parts). IsAnswer x o) same a) b
 
-same_answer : (bytes : List ℕ) (m n : Parts) (o q : Result Parts Violation) → GivesFlat bytes m → GivesFlat bytes n → IsAnswer m o → IsAnswer n q → o ≡ q
-same_answer bytes m n o q h k a b = one_answer n o q (subst (λ (x : Parts). IsAnswer x o) (same_flat bytes m n h k) a) b
+tree_same_net : (t : Objects) (m n : Parts) → TreeGivesNet t m → TreeGivesNet t n → m ≡ n
+tree_same_net t m n h k = let e = same_answer h.declared k.declared (Ok m) (Ok n) (one_flat t h.declared k.declared h.flat k.flat) h.inferred k.inferred in cc e
 
-same_net : (bytes : List ℕ) (m n : Parts) → GivesNet bytes m → GivesNet bytes n → m ≡ n
-same_net bytes m n h k = let e = same_answer bytes h.declared k.declared (Ok m) (Ok n) h.given k.given h.inferred k.inferred in cc e
+tree_net_or_not : (t : Objects) (n : Parts) (v : Violation) → TreeGivesNet t n → TreeBreaksNet t v → ⊥
+tree_net_or_not t n v h (tree_not_flat k) = verdict t h.declared v h.flat k
+tree_net_or_not t n v h (tree_not_typed m flat k) = let e = same_answer h.declared m (Ok n) (Err v) (one_flat t h.declared m h.flat flat) h.inferred k in absurd (cc e)
 
-flat_not_broken : (bytes : List ℕ) (n : Parts) (t : Objects) (v : Violation) → GivesFlat bytes n → IsDiagram bytes t → IsNotFlat t v → ⊥
-flat_not_broken bytes n t v h read broken = verdict t n v (subst (λ (u : Objects). IsFlatNet u n) (same_tree bytes h.tree t h.read read) h.flat) broken
-
-net_or_not : (bytes : List ℕ) (n : Parts) (v : Violation) → GivesNet bytes n → BreaksNet bytes v → ⊥
-net_or_not bytes n v h (unread k) = absurd (cc (h.given.read, k))
-net_or_not bytes n v h (not_flat t read k) = flat_not_broken bytes h.declared t v h.given read k
-net_or_not bytes n v h (not_typed m given k) = let e = same_answer bytes h.declared m (Ok n) (Err v) h.given given h.inferred k in absurd (cc e)
-
-one_net_violation : (bytes : List ℕ) (v w : Violation) → BreaksNet bytes v → BreaksNet bytes w → v ≡ w
-one_net_violation bytes v w (unread h) (unread k) = cc (h, k)
-one_net_violation bytes v w (unread h) (not_flat t read k) = absurd (cc (h, read))
-one_net_violation bytes v w (unread h) (not_typed n given k) = absurd (cc (h, given.read))
-one_net_violation bytes v w (not_flat t read h) (unread k) = absurd (cc (read, k))
-one_net_violation bytes v w (not_flat t read h) (not_flat u read2 k) = violation u v w (subst (λ (x : Objects). IsNotFlat x v) (same_tree bytes t u read read2) h) k
-one_net_violation bytes v w (not_flat t read h) (not_typed n given k) = absurd (flat_not_broken bytes n t v given read h)
-one_net_violation bytes v w (not_typed n given h) (unread k) = absurd (cc (given.read, k))
-one_net_violation bytes v w (not_typed n given h) (not_flat t read k) = absurd (flat_not_broken bytes n t w given read k)
-one_net_violation bytes v w (not_typed m given h) (not_typed n given2 k) = let e = same_answer bytes m n (Err v) (Err w) given given2 h k in cc e
-
--- ---- with its schedules
+tree_one_net_violation : (t : Objects) (v w : Violation) → TreeBreaksNet t v → TreeBreaksNet t w → v ≡ w
+tree_one_net_violation t v w (tree_not_flat h) (tree_not_flat k) = violation t v w h k
+tree_one_net_violation t v w (tree_not_flat h) (tree_not_typed n flat k) = absurd (verdict t n v flat h)
+tree_one_net_violation t v w (tree_not_typed n flat h) (tree_not_flat k) = absurd (verdict t n w flat k)
+tree_one_net_violation t v w (tree_not_typed m flat h) (tree_not_typed n flat2 k) = let e = same_answer m n (Err v) (Err w) (one_flat t m n flat flat2) h k in cc e
 
 judged_ok : (n m : Parts) (b : Option Blamed) → judged n b ≡ Ok m → (b ≡ None) × (n ≡ m)
 judged_ok n m None e = (refl, cc e)
@@ -70,29 +54,84 @@ answer_is_net n m (Values vs) flat d e =
     let j = judged_ok (typed_parts vs.items n) m (net_broken (typed_parts vs.items n).specs) e in
     subst IsNet j.1 (well_formed n flat vs.items d.1 j.0)
 
-pub given_is_net : (bytes : List ℕ) (n : Parts) → GivesNet bytes n → IsNet n
-given_is_net bytes n h = answer_is_net h.declared n h.inferred.verdict h.given.flat.flat h.inferred.decided h.inferred.given
+pub tree_given_is_net : (t : Objects) (n : Parts) → TreeGivesNet t n → IsNet n
+tree_given_is_net t n h = answer_is_net h.declared n h.inferred.verdict h.flat.flat h.inferred.decided h.inferred.given
+
+-- ---- and with its schedules
 
 abbrev made_plan : Parts → List (List Entry) → Plan
 made_plan n rows = record { net = n; rows = rows }
 
-one_made : (bytes : List ℕ) (p q : Plan) → Accepts bytes p → Accepts bytes q → p ≡ q
-one_made bytes p q h k =
-    let net : p.net ≡ q.net = same_net bytes p.net q.net h.given k.given in
-    let rows : p.rows ≡ q.rows = one_plan q.net p.rows q.rows (given_is_net bytes q.net k.given) (subst (λ (n : Parts). IsPlan n p.rows) net h.planned) k.planned in
+tree_one_made : (t : Objects) (p q : Plan) → TreeAccepts t p → TreeAccepts t q → p ≡ q
+tree_one_made t p q h k =
+    let net : p.net ≡ q.net = tree_same_net t p.net q.net h.given k.given in
+    let rows : p.rows ≡ q.rows = one_plan q.net p.rows q.rows (tree_given_is_net t q.net k.given) (subst (λ (n : Parts). IsPlan n p.rows) net h.planned) k.planned in
     ap (λ (n : Parts). made_plan n p.rows) net ∙ ap (made_plan q.net) rows
 
+tree_one_break : (t : Objects) (v w : Violation) → TreeBreaks t v → TreeBreaks t w → AreAlike v w
+tree_one_break t v w (tree_no_net h) (tree_no_net k) = inl (tree_one_net_violation t v w h k)
+tree_one_break t v w (tree_no_net h) (tree_no_plan n given k) = absurd (tree_net_or_not t n v given h)
+tree_one_break t v w (tree_no_plan n given h) (tree_no_net k) = absurd (tree_net_or_not t n w given k)
+tree_one_break t v w (tree_no_plan m given h) (tree_no_plan n given2 k) =
+    one_plan_break n v w (tree_given_is_net t n given2) (subst (λ (x : Parts). IsPlanBreak x v) (tree_same_net t m n given given2) h) k
+
+tree_not_both : (t : Objects) (p : Plan) (v : Violation) → TreeAccepts t p → TreeBreaks t v → ⊥
+tree_not_both t p v h (tree_no_net k) = tree_net_or_not t p.net v h.given k
+tree_not_both t p v h (tree_no_plan n given k) =
+    plan_or_not n p.rows v (tree_given_is_net t n given) (subst (λ (x : Parts). IsPlan x p.rows) (tree_same_net t p.net n h.given given) h.planned) k
+
+pub one_tree_verdict : OneTreeVerdict
+one_tree_verdict = record { one_made = tree_one_made; one_break = tree_one_break; not_both = tree_not_both }
+
+-- ---- of a file: what is read of it, and its verdict
+
+same_tree : (bytes : List ℕ) (t u : Objects) → IsDiagram bytes t → IsDiagram bytes u → t ≡ u
+same_tree bytes t u h k = cc (h, k)
+
+net_of_tree : (bytes : List ℕ) (n : Parts) (h : GivesNet bytes n) → TreeGivesNet h.given.tree n
+net_of_tree bytes n h = record { declared = h.declared; flat = h.given.flat; inferred = h.inferred }
+
+pub given_is_net : (bytes : List ℕ) (n : Parts) → GivesNet bytes n → IsNet n
+given_is_net bytes n h = tree_given_is_net h.given.tree n (net_of_tree bytes n h)
+
+-- the bytes are no diagram, or the diagram breaks a rule
+data FileBreaks (bytes : List ℕ) (v : Violation) : Type 0 where
+  no_diagram : IsNoDiagram bytes v → FileBreaks bytes v
+  tree_breaks : (t : Objects) → IsDiagram bytes t → TreeBreaks t v → FileBreaks bytes v
+
+net_breaks : (bytes : List ℕ) (v : Violation) → BreaksNet bytes v → FileBreaks bytes v
+net_breaks bytes v (unread h) = no_diagram h
+net_breaks bytes v (not_flat t read h) = tree_breaks t read (tree_no_net (tree_not_flat h))
+net_breaks bytes v (not_typed n given h) = tree_breaks given.tree given.read (tree_no_net (tree_not_typed n given.flat h))
+
+file_breaks : (bytes : List ℕ) (v : Violation) → Breaks bytes v → FileBreaks bytes v
+file_breaks bytes v (no_net h) = net_breaks bytes v h
+file_breaks bytes v (no_plan n given h) = tree_breaks given.given.tree given.given.read (tree_no_plan n (net_of_tree bytes n given) h)
+
+plan_of_tree : (bytes : List ℕ) (p : Plan) (h : Accepts bytes p) → TreeAccepts h.given.given.tree p
+plan_of_tree bytes p h = record { given = net_of_tree bytes p.net h.given; planned = h.planned }
+
+one_made : (bytes : List ℕ) (p q : Plan) → Accepts bytes p → Accepts bytes q → p ≡ q
+one_made bytes p q h k =
+    let same = same_tree bytes h.given.given.tree k.given.given.tree h.given.given.read k.given.given.read in
+    tree_one_made k.given.given.tree p q (subst (λ (t : Objects). TreeAccepts t p) same (plan_of_tree bytes p h)) (plan_of_tree bytes q k)
+
+one_file_break : (bytes : List ℕ) (v w : Violation) → FileBreaks bytes v → FileBreaks bytes w → AreAlike v w
+one_file_break bytes v w (no_diagram h) (no_diagram k) = inl (cc (h, k))
+one_file_break bytes v w (no_diagram h) (tree_breaks u read k) = absurd (cc (h, read))
+one_file_break bytes v w (tree_breaks t read h) (no_diagram k) = absurd (cc (read, k))
+one_file_break bytes v w (tree_breaks t read h) (tree_breaks u read2 k) = tree_one_break u v w (subst (λ (x : Objects). TreeBreaks x v) (same_tree bytes t u read read2) h) k
+
 one_break : (bytes : List ℕ) (v w : Violation) → Breaks bytes v → Breaks bytes w → AreAlike v w
-one_break bytes v w (no_net h) (no_net k) = inl (one_net_violation bytes v w h k)
-one_break bytes v w (no_net h) (no_plan n given k) = absurd (net_or_not bytes n v given h)
-one_break bytes v w (no_plan n given h) (no_net k) = absurd (net_or_not bytes n w given k)
-one_break bytes v w (no_plan m given h) (no_plan n given2 k) =
-    one_plan_break n v w (given_is_net bytes n given2) (subst (λ (x : Parts). IsPlanBreak x v) (same_net bytes m n given given2) h) k
+one_break bytes v w h k = one_file_break bytes v w (file_breaks bytes v h) (file_breaks bytes w k)
+
+file_not_both : (bytes : List ℕ) (p : Plan) (v : Violation) → Accepts bytes p → FileBreaks bytes v → ⊥
+file_not_both bytes p v h (no_diagram k) = absurd (cc (h.given.given.read, k))
+file_not_both bytes p v h (tree_breaks t read k) =
+    tree_not_both t p v (subst (λ (x : Objects). TreeAccepts x p) (same_tree bytes h.given.given.tree t h.given.given.read read) (plan_of_tree bytes p h)) k
 
 not_both : (bytes : List ℕ) (p : Plan) (v : Violation) → Accepts bytes p → Breaks bytes v → ⊥
-not_both bytes p v h (no_net k) = net_or_not bytes p.net v h.given k
-not_both bytes p v h (no_plan n given k) =
-    plan_or_not n p.rows v (given_is_net bytes n given) (subst (λ (x : Parts). IsPlan x p.rows) (same_net bytes p.net n h.given given) h.planned) k
+not_both bytes p v h k = file_not_both bytes p v h (file_breaks bytes v k)
 
 pub one_verdict : OneVerdict
 one_verdict = record { one_made = one_made; one_break = one_break; not_both = not_both }

@@ -57,7 +57,31 @@ pub data Breaks (bytes : List ℕ) (v : Violation) : Type 0 where
   no_net : BreaksNet bytes v → Breaks bytes v
   no_plan : (n : Parts) → GivesNet bytes n → IsPlanBreak n v → Breaks bytes v
 
--- what an answer says; want of memory may come at any time
+-- ---- a diagram in memory
+
+-- its tree gives this typed net
+pub record TreeGivesNet (t : Objects) (n : Parts) : Type 0 where
+  pub declared : Parts
+  pub flat : IsFlatNet t declared
+  pub inferred : IsAnswer declared (Ok n)
+
+-- the first rule that it breaks on its way to a typed net
+pub data TreeBreaksNet (t : Objects) (v : Violation) : Type 0 where
+  tree_not_flat : IsNotFlat t v → TreeBreaksNet t v
+  tree_not_typed : (n : Parts) → IsFlatNet t n → IsAnswer n (Err v) → TreeBreaksNet t v
+
+-- it keeps all rules, and gives this net with these schedules
+pub record TreeAccepts (t : Objects) (p : Plan) : Type 0 where
+  pub given : TreeGivesNet t p.net
+  pub planned : IsPlan p.net p.rows
+
+-- the first rule that it breaks
+pub data TreeBreaks (t : Objects) (v : Violation) : Type 0 where
+  tree_no_net : TreeBreaksNet t v → TreeBreaks t v
+  tree_no_plan : (n : Parts) → TreeGivesNet t n → IsPlanBreak n v → TreeBreaks t v
+
+-- ---- what an answer says; want of memory may come at any time
+
 abbrev pub IsTyped : List ℕ → Result Parts Stop → Type 0
 IsTyped bytes (Ok n) = GivesNet bytes n
 IsTyped bytes (Err e) = StopsBy (BreaksNet bytes) e
@@ -72,3 +96,11 @@ IsChecked bytes (Err e) = StopsBy (Breaks bytes) e
 abbrev pub IsMeasured : List ℕ → Result Measured Stop → Type 0
 IsMeasured bytes (Ok m) = AcceptsSize bytes m
 IsMeasured bytes (Err e) = StopsBy (Breaks bytes) e
+
+abbrev pub IsTreeTyped : Objects → Result Parts Stop → Type 0
+IsTreeTyped t (Ok n) = TreeGivesNet t n
+IsTreeTyped t (Err e) = StopsBy (TreeBreaksNet t) e
+
+abbrev pub IsTreeChecked : Objects → Result Checked Stop → Type 0
+IsTreeChecked t (Ok c) = TreeAccepts t (plan_of c)
+IsTreeChecked t (Err e) = StopsBy (TreeBreaks t) e

@@ -6,11 +6,11 @@ use Rattle.sci_io.specs.Files.{FolderState}
 use Rattle.sci_io.specs.Taken.{SinkState}
 use Rattle.scicos.specs.Words.{Request, Spells, NoCommand, files_of}
 use Rattle.scicos.specs.Answer.{Answer, IsDone}
-use Rattle.scicos.specs.Course.{gives, reads, ReadsFiles, AsksFront}
+use Rattle.scicos.specs.Course.{gives, reads, TakesMemory, AsksFront}
 use Rattle.scicos.specs.Due.{course_of, Due}
 use Rattle.scicos.specs.Reached.{ReadFault, ReachesOf, ReachesBy, AsksFrontOf}
 use Rattle.scicos.specs.Written.{Given, CutShort, Written}
-use Rattle.scicos.specs.Headline.{Quiet, GivesDue, NamesFiles, AsksInOrder, AsksAll, Meets}
+use Rattle.scicos.specs.Headline.{Quiet, GivesDue, AsksMemory, AsksInOrder, AsksAll, Meets}
 use Rattle.scicos.proofs.Ends.{status-is, out-is, done_by, ends_of, Kind, printed, turned_down, kind_of, front_of, front_files}
 
 -- what a call came to, with what its status tells
@@ -18,7 +18,7 @@ pub data Came (words : List (List ℕ)) (bytes : List (List ℕ)) (old new : Fol
   used : NoCommand words → Due old.files words bytes [] a → new.asked ≡ old.asked → a.status ≡ 2 → a.out ≡ [] → Came words bytes old new a
   gave : (c : Request) (names : List (List ℕ)) → Spells words c → Due old.files words bytes names a → new.asked ≡ old.asked ++ names → Kind (files_of c) names a → Came words bytes old new a
   faulted : Rose old.faults new.faults → a.status ≡ 3 → a.out ≡ [] → Came words bytes old new a
-  lacked : NamesFiles words → a.status ≡ 5 → a.out ≡ [] → Came words bytes old new a
+  lacked : AsksMemory words → a.status ≡ 5 → a.out ≡ [] → Came words bytes old new a
 
 came_of : (words bytes : List (List ℕ)) (old new : FolderState) (a : Answer) (c : Request) → Spells words c → ReachesOf old new (course_of c) bytes a → Came words bytes old new a
 came_of words bytes old new a c spells (inl d) = gave c d.0 spells (inr (c, spells, d.1)) d.2 (kind_of old.files (course_of c) bytes (files_of c) d.0 a (ends_of c) d.1)
@@ -89,7 +89,7 @@ read_cause words bytes old new a (gave c names w d k kind) is = absurd (no_kind 
 read_cause words bytes old new a (faulted r s o) is = r
 read_cause words bytes old new a (lacked f s o) is = absurd (omega (arith, s, is))
 
-pub memory_cause : (words bytes : List (List ℕ)) (old new : FolderState) (a : Answer) → Came words bytes old new a → a.status ≡ 5 → NamesFiles words
+pub memory_cause : (words bytes : List (List ℕ)) (old new : FolderState) (a : Answer) → Came words bytes old new a → a.status ≡ 5 → AsksMemory words
 memory_cause words bytes old new a (used n d k s o) is = absurd (omega (arith, s, is))
 memory_cause words bytes old new a (gave c names w d k kind) is = absurd (no_kind (files_of c) names a kind (is_other a.status (omega (arith, is)) (omega (arith, is))))
 memory_cause words bytes old new a (faulted r s o) is = absurd (omega (arith, s, is))

@@ -6,7 +6,7 @@ use Rattle.sci_base.specs.Plain.{Violation, violation_of}
 use Rattle.sci_io.specs.Causes.{Rose}
 use Rattle.sci_io.specs.Files.{Files, FolderState}
 use Rattle.scicos.specs.Answer.{Answer, no_memory}
-use Rattle.scicos.specs.Course.{Slot, Holds, Passes, Course, gives, reads, ReadsFiles, DueOn, AsksFront}
+use Rattle.scicos.specs.Course.{Slot, Holds, Passes, Course, gives, makes, reads, TakesMemory, DueOn, AsksFront}
 use Rattle.scicos.specs.Look.{Asks, IsLooked}
 use Rattle.scicos.specs.Reached.{ComesTo, ReachesOf, ReachesTo}
 use Rattle.scicos.specs.Prepare.{stop_answer}
@@ -61,7 +61,7 @@ module _ (A : Type 0) (slot : Slot) (d : List ℕ) (accepts : List ℕ → A →
 
 -- ---- of a whole command
 
-reaches_by : (old new : FolderState) (course : Course) (a : Answer) → ReadsFiles course → ComesTo old new course a → ReachesTo old new course a
+reaches_by : (old new : FolderState) (course : Course) (a : Answer) → TakesMemory course → ComesTo old new course a → ReachesTo old new course a
 reaches_by old new course a reading (bytes, inl h) = (bytes, inl h)
 reaches_by old new course a reading (bytes, inr (inl h)) = (bytes, inr (inl h))
 reaches_by old new course a reading (bytes, inr (inr h)) = (bytes, inr (inr (reading, h)))
@@ -70,6 +70,13 @@ reaches_by old new course a reading (bytes, inr (inr h)) = (bytes, inr (inr (rea
 pub of_files : (old new : FolderState) (A : Type 0) (slot : Slot) (d : List ℕ) (accepts : List ℕ → A → Type 0) (breaks : List ℕ → Violation → Type 0) (next : A → Course) (a : Answer)
     → ComesTo old new (reads A slot d accepts breaks next) a → ReachesTo old new (reads A slot d accepts breaks next) a
 of_files old new A slot d accepts breaks next a h = reaches_by old new (reads A slot d accepts breaks next) a tt h
+
+-- one that makes its answer in memory
+pub of_made : (s : FolderState) (due : Answer → Type 0) (a : Answer) → due a → ReachesTo s s (makes due) a
+of_made s due a h = ([], inl ([], (h, refl), sym (append-nil s.asked), refl))
+
+pub lacks_made : (s : FolderState) (due : Answer → Type 0) → ReachesTo s s (makes due) no_memory
+lacks_made s due = ([], inr (inr (tt, (refl, [], tt, sym (append-nil s.asked), refl))))
 
 -- one that reads none
 pub of_none : (s : FolderState) (due : Answer → Type 0) (a : Answer) → due a → ReachesTo s s (gives due) a

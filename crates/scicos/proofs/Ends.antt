@@ -7,9 +7,10 @@ use Rattle.c_mean.specs.declared.start.CEnd.{CEnd}
 use Rattle.c_mean.specs.declared.start.CEnd.TheVariants.{End, Stop, Undefined}
 use Rattle.c_mean.specs.Meaning.{meaning}
 use Rattle.c_mean.specs.Answering.{end_of}
-use Rattle.scicos.specs.Words.{Request, report, simulate, run_c, host, files_of}
+use Rattle.scicos.specs.Words.{Request, report, simulate, code, run_c, host, bulk, files_of}
 use Rattle.scicos.specs.Answer.{Answer, IsDone, run_status, c_status}
-use Rattle.scicos.specs.Course.{Slot, Course, gives, reads, DueOn, AsksFront}
+use Rattle.scicos.specs.Course.{Slot, Course, gives, makes, reads, DueOn, AsksFront}
+use Rattle.scicos.specs.Bulk.{IsBulkAnswer}
 use Rattle.scicos.specs.Due.{course_of}
 
 pub status-is : {a b : Answer} → a ≡ b → a.status ≡ b.status
@@ -30,17 +31,28 @@ done_c End = inl refl
 done_c Stop = inr (inl refl)
 done_c (Undefined n) = inr (inr refl)
 
--- whatever passes, these files are read, and the command is done
+-- done, or refused with nothing on out
+abbrev pub IsJudged : Answer → Type 0
+IsJudged a = IsDone a.status ⊎ ((a.status ≡ 1) × (a.out ≡ []))
+
+bulk_judged : (seed size : ℕ) (a : Answer) → IsBulkAnswer seed size a → IsJudged a
+bulk_judged seed size a (inl h) = inl (inl (status-is h.2))
+bulk_judged seed size a (inr h) = inr (status-is h.2, out-is h.2)
+
+-- whatever passes, these files are read, and the command is done, or refused where what it makes breaks a rule
 abbrev pub Ends : Course → List (List ℕ) → Type 0
 Ends (gives due) files = (files ≡ []) × ((a : Answer) → due a → IsDone a.status)
+Ends (makes due) files = (files ≡ []) × ((a : Answer) → due a → IsJudged a)
 Ends (reads A slot d accepts breaks next) [] = ⊥
 Ends (reads A slot d accepts breaks next) (f ∷ files) = (f ≡ d) × ((made : A) → Ends (next made) files)
 
 pub ends_of : (c : Request) → Ends (course_of c) (files_of c)
 ends_of (report r d) = (refl, λ p. (refl, λ a is. inl (status-is is)))
 ends_of (simulate d i until limit) = (refl, λ p. (refl, λ columns. (refl, λ a is. done_by (status-is is.2) (done_run (stops is.0)))))
+ends_of (code d) = (refl, λ p. (refl, λ a is. inl (status-is is.told)))
 ends_of (run_c c i until limit) = (refl, λ program. (refl, λ columns. (refl, λ a is. done_by (status-is is) (done_c (end_of (meaning program columns (pos until) (pos limit)).how)))))
 ends_of host = (refl, λ a is. inl (status-is is))
+ends_of (bulk seed size) = (refl, bulk_judged seed size)
 
 -- An answer that is due tells that all files were read and the command is done, or refuses, with nothing on out.
 pub data Kind (files names : List (List ℕ)) (a : Answer) : Type 0 where
@@ -51,8 +63,13 @@ kind_behind : (d f : List ℕ) (files rest names : List (List ℕ)) (a : Answer)
 kind_behind d f files rest names a same is (printed done all) = printed done (cc (same, is, all))
 kind_behind d f files rest names a same is (turned_down status none) = turned_down status none
 
+kind_made : (files names : List (List ℕ)) (a : Answer) → names ≡ files → IsJudged a → Kind files names a
+kind_made files names a all (inl done) = printed done all
+kind_made files names a all (inr none) = turned_down none.0 none.1
+
 pub kind_of : (told : Files) (course : Course) (bytes files names : List (List ℕ)) (a : Answer) → Ends course files → DueOn told course bytes names a → Kind files names a
 kind_of told (gives due) bytes files names a ends h = printed (ends.1 a h.0) (h.1 ∙ sym ends.0)
+kind_of told (makes due) bytes files names a ends h = kind_made files names a (h.1 ∙ sym ends.0) (ends.1 a h.0)
 kind_of told (reads A slot d accepts breaks next) [] files names a ends h = absurd h
 kind_of told (reads A slot d accepts breaks next) (b ∷ bytes) [] names a ends h = absurd ends
 kind_of told (reads A slot d accepts breaks next) (b ∷ bytes) (f ∷ files) names a ends (holds, inl h) = turned_down (status-is h.2) (out-is h.2)
@@ -62,6 +79,7 @@ kind_of told (reads A slot d accepts breaks next) (b ∷ bytes) (f ∷ files) na
 -- the names that are read for what is due are asked for in order
 pub front_of : (told : Files) (course : Course) (bytes names : List (List ℕ)) (a : Answer) → DueOn told course bytes names a → AsksFront told course bytes names
 front_of told (gives due) bytes names a h = subst (λ (l : List (List ℕ)). AsksFront told (gives due) bytes l) (sym h.1) tt
+front_of told (makes due) bytes names a h = subst (λ (l : List (List ℕ)). AsksFront told (makes due) bytes l) (sym h.1) tt
 front_of told (reads A slot d accepts breaks next) [] names a h = absurd h
 front_of told (reads A slot d accepts breaks next) (b ∷ bytes) names a (holds, inl h) =
     subst (λ (l : List (List ℕ)). AsksFront told (reads A slot d accepts breaks next) (b ∷ bytes) l) (sym h.3) (refl, inl refl)
@@ -76,6 +94,7 @@ first_alone d n f names files is same none = (files, cc (is, same, none))
 pub front_files : (told : Files) (course : Course) (bytes files names : List (List ℕ)) → Ends course files → AsksFront told course bytes names → (rest : List (List ℕ)) × (files ≡ names ++ rest)
 front_files told course bytes files [] ends h = (files, refl)
 front_files told (gives due) bytes files (n ∷ names) ends h = absurd h
+front_files told (makes due) bytes files (n ∷ names) ends h = absurd h
 front_files told (reads A slot d accepts breaks next) bytes [] (n ∷ names) ends h = absurd ends
 front_files told (reads A slot d accepts breaks next) [] (f ∷ files) (n ∷ names) ends h = first_alone d n f names files ends.0 h.0 h.1
 front_files told (reads A slot d accepts breaks next) (b ∷ bytes) (f ∷ files) (n ∷ names) ends (same, inl none) = first_alone d n f names files ends.0 same none

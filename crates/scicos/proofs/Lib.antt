@@ -14,3 +14,7 @@ mod Looking
 mod Simulated
 mod Steps
 mod Pieces
+mod Lengths
+mod Bulked
+mod Coded
+mod RunsAlike

@@ -1,12 +1,13 @@
 -- One answer is due of the words and the told files.
-use Rattle.std.proofs.Common.{◌≡◌, ◌≤◌, ◌<◌, ◌^◌, ℕ, List, [], ◌∷◌, ◌⊎◌, inl, inr, refl, sym, ◌∙◌, ap, subst, arith, decimal, Some, None, length}
+use Rattle.std.proofs.Common.{◌≡◌, ◌≤◌, ◌<◌, ◌^◌, ℕ, List, [], ◌∷◌, ◌⊎◌, codes, get_or, inl, inr, refl, sym, ◌∙◌, ap, subst, arith, decimal, Some, None, length}
 use Rattle.std.proofs.lemmas.Fmt.{decimal_injective}
 use Rattle.sci_base.specs.Plain.{Violation}
 use Rattle.sci_io.specs.Files.{Files}
 use Rattle.sci_verdict.specs.Laws.{AreAlike, IsOneVerdict}
-use Rattle.sci_verdict.proofs.Verdicts.{one_verdict, given_is_net}
+use Rattle.sci_verdict.proofs.Verdicts.{one_verdict, one_tree_verdict, given_is_net, tree_given_is_net}
 use Rattle.sci_verdict.specs.Verdict.{Plan, Accepts}
 use Rattle.sci_reaction.specs.Memory.{Columns}
+use Rattle.sci_run.specs.Run.{IsRun}
 use Rattle.sci_run.proofs.Unique.{one_trace}
 use Rattle.sci_trace.specs.Columns.{Needed}
 use Rattle.sci_needs.specs.Needs.{needs_of}
@@ -15,9 +16,14 @@ use Rattle.scicos.specs.Program.{AcceptsC, BreaksC, not_c}
 use Rattle.c_read.proofs.Uniqueness.{one_spelled, one_blamed, not_both}
 use Rattle.scicos.specs.declared.command.Report.{Report}
 use Rattle.scicos.specs.declared.command.Report.TheVariants.{Check, Map, Schedule}
-use Rattle.scicos.specs.Words.{Request, report, simulate, run_c, host, report_word, spelled, InBounds, Spells, NoCommand}
-use Rattle.scicos.specs.Answer.{Answer, refused, ran, IsTraceOf}
-use Rattle.scicos.specs.Course.{Holds, Slot, Passes, Fails, Course, gives, reads, DueOn}
+use Rattle.c_ast.specs.Syntax.{Whole}
+use Rattle.c_ast.specs.Spelling.{spelling}
+use Rattle.sci_bulk.specs.Bulk.{bulk as bulk_tree}
+use Rattle.scicos.specs.Bulk.{run_line, IsBulkLine, IsBulkAnswer}
+use Rattle.scicos.specs.Code.{IsCodeOf}
+use Rattle.scicos.specs.Words.{Request, report, simulate, code, run_c, host, bulk, report_word, spelled, InBounds, Spells, NoCommand}
+use Rattle.scicos.specs.Answer.{Answer, prints, refused, ran, IsTraceOf}
+use Rattle.scicos.specs.Course.{Holds, Slot, Passes, Fails, Course, gives, makes, reads, DueOn}
 use Rattle.scicos.specs.Due.{Due, course_of}
 use Rattle.scicos.specs.Laws.{AreOneAnswer, OneAnswer, OneAnswerOfBytes}
 
@@ -31,6 +37,13 @@ same_report Map Check h = absurd (cc h)
 same_report Map Schedule h = absurd (cc h)
 same_report Schedule Check h = absurd (cc h)
 same_report Schedule Map h = absurd (cc h)
+
+report_not_code : (r : Report) → report_word r ≡ codes "ccode" → ⊥
+report_not_code Check h =
+    let second : 104 ≡ 99 = ap (λ (l : List ℕ). get_or l 1 0) h in
+    absurd (omega (arith, second))
+report_not_code Map h = absurd (cc h)
+report_not_code Schedule h = absurd (cc h)
 
 same_numbers : (t t' n n' : ℕ) → t < 2 ^ 64 → t' < 2 ^ 64 → n < 2 ^ 64 → n' < 2 ^ 64 → decimal t ≡ decimal t' → decimal n ≡ decimal n' → (t ≡ t') × (n ≡ n')
 same_numbers t t' n n' ht ht' hn hn' dates counts = (decimal_injective t t' ht ht' dates, decimal_injective n n' hn hn' counts)
@@ -46,7 +59,17 @@ same_command (simulate d i t n) (simulate d' i' t' n') p q h =
 same_command (run_c d i t n) (run_c d' i' t' n') p q h =
     let numbers = same_numbers t t' n n' (omega (arith, p.0)) (omega (arith, q.0)) (omega (arith, p.1)) (omega (arith, q.1)) (cc h) (cc h) in
     cc (h, numbers.0, numbers.1)
+same_command (code d) (code e) p q h = cc h
+same_command (report r d) (code e) p q h =
+    let word : report_word r ≡ codes "ccode" = cc h in
+    absurd (report_not_code r word)
+same_command (code d) (report r e) p q h =
+    let word : report_word r ≡ codes "ccode" = cc h in
+    absurd (report_not_code r word)
 same_command host host p q h = refl
+same_command (bulk x n) (bulk y m) p q h =
+    let numbers = same_numbers x y n m (omega (arith, p.0)) (omega (arith, q.0)) (omega (arith, p.2)) (omega (arith, q.2)) (cc h) (cc h) in
+    cc (numbers.0, numbers.1)
 same_command c d p q h = absurd (cc h)
 
 one_columns : (needs : List Needed) → IsOneVerdict (AcceptsColumns needs) (BreaksColumns needs)
@@ -87,6 +110,27 @@ one_trace_answer bytes p i until limit a b accepted h k =
     let same : h.0 ≡ k.0 = one_trace p.net i (given_is_net bytes p.net accepted.given) accepted.planned.free until limit h.0 k.0 h.1 k.1 in
     h.2 ∙ (ap ran same ∙ sym k.2)
 
+-- a plan has one program, whose text is due
+one_code : (p : Plan) (a b : Answer) → IsCodeOf p a → IsCodeOf p b → a ≡ b
+one_code p a b h k =
+    let same : h.code ≡ k.code = h.is_code.defined ∙ sym k.is_code.defined in
+    h.told ∙ (ap (λ (w : Whole). prints (spelling w)) same ∙ sym k.told)
+
+-- a bulk diagram has one line
+one_line : (seed size : ℕ) (s t : List ℕ) → IsBulkLine seed size s → IsBulkLine seed size t → s ≡ t
+one_line seed size s t h k =
+    let plan : h.plan ≡ k.plan = one_tree_verdict.one_made (bulk_tree seed size) h.plan k.plan h.accepted k.accepted in
+    let net = tree_given_is_net (bulk_tree seed size) k.plan.net k.accepted.given in
+    let run = subst (λ (p : Plan). IsRun p.net [] (2 ^ 62) 1000 h.observed) plan h.run in
+    let same : h.observed ≡ k.observed = one_trace k.plan.net [] net k.accepted.planned.free (2 ^ 62) 1000 h.observed k.observed run k.run in
+    h.told ∙ (ap (λ (p : Plan). run_line p h.observed) plan ∙ (ap (run_line k.plan) same ∙ sym k.told))
+
+one_bulk : (seed size : ℕ) (a b : Answer) → IsBulkAnswer seed size a → IsBulkAnswer seed size b → AreOneAnswer a b
+one_bulk seed size a b (inl h) (inl k) = inl (h.2 ∙ (ap prints (one_line seed size h.0 k.0 h.1 k.1) ∙ sym k.2))
+one_bulk seed size a b (inl h) (inr k) = absurd (one_tree_verdict.not_both (bulk_tree seed size) h.1.plan k.0 h.1.accepted k.1)
+one_bulk seed size a b (inr h) (inl k) = absurd (one_tree_verdict.not_both (bulk_tree seed size) k.1.plan h.0 k.1.accepted h.1)
+one_bulk seed size a b (inr h) (inr k) = refused_alike a b h.0 k.0 h.2 k.2 (one_tree_verdict.one_break (bulk_tree seed size) h.0 k.0 h.1 k.1)
+
 -- ---- one answer of a course
 
 -- bytes of files that are alike wherever both are a file's
@@ -107,17 +151,21 @@ same_are_one files (x ∷ xs) = ((λ d h k. refl), same_are_one files xs)
 -- one answer is due of it, whatever passes
 abbrev IsOneCourse : Course → Type 0
 IsOneCourse (gives due) = (a b : Answer) → due a → due b → a ≡ b
+IsOneCourse (makes due) = (a b : Answer) → due a → due b → AreOneAnswer a b
 IsOneCourse (reads A slot d accepts breaks next) = IsOneVerdict accepts breaks × ((bytes : List ℕ) (made : A) → accepts bytes made → IsOneCourse (next made))
 
 one_course_of : (c : Request) → IsOneCourse (course_of c)
 one_course_of (report r d) = (one_verdict, λ bytes p accepted a b h k. h ∙ sym k)
 one_course_of (simulate d i t n) =
     (one_verdict, λ bytes p accepted. (one_columns (needs_of p.net), λ file columns read a b h k. one_trace_answer bytes p columns t n a b accepted h k))
+one_course_of (code d) = (one_verdict, λ bytes p accepted a b h k. one_code p a b h k)
 one_course_of (run_c c i t n) = (one_program, λ bytes program accepted. (one_columns [], λ file columns read a b h k. h ∙ sym k))
 one_course_of host = λ a b h k. h ∙ sym k
+one_course_of (bulk seed size) = one_bulk seed size
 
 one_due_on : (files : Files) (course : Course) (xs ys names others : List (List ℕ)) (a b : Answer) → IsOneCourse course → AreOne files xs ys → DueOn files course xs names a → DueOn files course ys others b → Same a b names others
 one_due_on files (gives due) xs ys names others a b one same h k = (inl (one a b h.0 k.0), h.1 ∙ sym k.1)
+one_due_on files (makes due) xs ys names others a b one same h k = (one a b h.0 k.0, h.1 ∙ sym k.1)
 one_due_on files (reads A slot d accepts breaks next) [] ys names others a b one same h k = absurd h
 one_due_on files (reads A slot d accepts breaks next) (x ∷ xs) [] names others a b one same h k = absurd k
 one_due_on files (reads A slot d accepts breaks next) (x ∷ xs) (y ∷ ys) names others a b one same (p, inl h) (q, inl k) =

@@ -1,4 +1,4 @@
--- What is told of a diagram is some text, but for the map of one without blocks.
+-- What is told is some text, but for the map of a diagram without blocks.
 use Rattle.std.proofs.Common.{◌≡◌, ◌≢◌, ℕ, zero, suc, List, [], ◌∷◌, ◌++◌, length, codes, decimal, refl, sym, ap, subst, arith}
 use Rattle.sci_net.specs.declared.Source.{Source}
 use Rattle.sci_net.specs.declared.Source.TheVariants.{Start}
@@ -7,11 +7,22 @@ use Rattle.sci_net.specs.Sources.{sources_of, sources_from}
 use Rattle.sci_reaction.specs.Schedule.{Entry}
 use Rattle.sci_sched.specs.Text.{source_text, row_text, plan_text}
 use Rattle.scicos.specs.Map.{number_text, block_line, lines_from, map_text}
+use Rattle.c_ast.specs.Syntax.{Whole}
+use Rattle.c_ast.specs.Spelling.{spelling}
+use Rattle.scicos.specs.Bulk.{bulk_line}
 use Rattle.scicos.specs.Answer.{counts_line}
 
 pub counts_some : (blocks sources entries guards : ℕ) → counts_line blocks sources entries guards ≢ []
 unfolding counts_line
 counts_some blocks sources entries guards = λ e. absurd (cc e)
+
+pub bulk_some : (blocks sources entries guards lines sum : ℕ) → bulk_line blocks sources entries guards lines sum ≢ []
+unfolding bulk_line
+bulk_some blocks sources entries guards lines sum = λ e. absurd (cc e)
+
+-- each program has the header
+pub code_some : (p : Whole) → spelling p ≢ []
+code_some p = λ e. absurd (cc e)
 
 -- a schedule tells its sources, of which start is the first
 schedules_some : (ss : List Source) (rows : List (List Entry)) → length rows ≡ suc (length ss) → plan_text (Start ∷ ss) rows ≢ []

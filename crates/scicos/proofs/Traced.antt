@@ -8,7 +8,8 @@ use Rattle.sci_trace.specs.Lines.{line, text, last_after, is_stop, stops}
 use Rattle.sci_net.specs.declared.Source.TheVariants.{Start as AtStart}
 use Rattle.sci_net.specs.Parts.{Parts}
 use Rattle.sci_reaction.specs.Memory.{Columns}
-use Rattle.sci_run.specs.Observed.{blocks_seen}
+use Rattle.sci_net.specs.Sources.{source_of}
+use Rattle.sci_run.specs.Observed.{blocks_seen, stop_seen}
 use Rattle.sci_run.specs.Run.{State, first_state, ReactionOutcome, Leads, StopsWith, IsOutcome, Then, IsRest, IsRun}
 use Rattle.sci_run.specs.Finish.{Ending, ByEnd, ByStop, Finish, ended, stopped, stopped_at_start}
 use Rattle.sci_bank.specs.Bank.{Meaning}
@@ -16,6 +17,8 @@ use Rattle.sci_sim.specs.At.{Running}
 use Rattle.sci_sim.specs.Steps.{IsFinished}
 use Rattle.sci_sim.specs.declared.end.RunEnd.{RunEnd}
 use Rattle.sci_sim.specs.declared.end.RunEnd.TheVariants.{End as Ended, Stop as Stopped}
+use Rattle.sci_cgen.specs.Laws.{answer_by}
+use Rattle.scicos.specs.Answer.{Answer, ran, c_ran, run_status}
 use Rattle.scicos.specs.Deliver.{is_stopped}
 
 -- ---- what is observed first
@@ -67,3 +70,14 @@ pub finished_stops : (i : Columns) (until limit : ℕ) (r : Running) (banks : Li
 unfolding by_stop
 finished_stops i until limit r banks os (Ended word) h = finish_stops r.fixed.net i until limit h.1
 finished_stops i until limit r banks os (Stopped word) h = finish_stops r.fixed.net i until limit h.2
+
+-- ---- the run of its C
+
+abbrev made_answer : List Obs → ℕ → Answer
+made_answer os status = record { out = text os; err = []; status = status }
+
+-- a program that observes the trace and ends as the run does gives the same answer
+pub ran_alike : (n : Parts) (i : Columns) (until limit : ℕ) {st : State} {how : Ending} {os : List Obs} → Finish n i until limit st how os → c_ran (record { seen = os; how = answer_by how }) ≡ ran os
+ran_alike n i until limit (ended st word seen reachable next) = ap (λ (b : Bool). made_answer (seen ++ End word ∷ []) (run_status b)) (sym (end_stops_not seen word))
+ran_alike n i until limit (stopped st e block word seen reachable next result) = ap (λ (b : Bool). made_answer (seen ++ stop_seen e.date (source_of n e.source) block word) (run_status b)) (sym (stop_stops seen _ word _ _))
+ran_alike n i until limit (stopped_at_start block word result) = refl

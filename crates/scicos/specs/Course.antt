@@ -37,21 +37,24 @@ Passes accepts slot bytes made = (length bytes ≤ slot.longest) × accepts byte
 abbrev pub Fails : (List ℕ → Violation → Type 0) → Slot → List ℕ → Violation → Type 0
 Fails breaks slot bytes v = ((slot.longest < length bytes) × (v ≡ too_long slot)) ⊎ ((length bytes ≤ slot.longest) × breaks bytes v)
 
--- No file is left to read, and an answer is due; or the file of this name is read, and what is made of one that passes tells how the
--- course goes on.
+-- No file is left to read, and an answer is due, which is known or made in memory; or the file of this name is read, and what is made of one
+-- that passes tells how the course goes on.
 pub data Course : Type 1 where
   gives : (Answer → Type 0) → Course
+  makes : (Answer → Type 0) → Course
   reads : (A : Type 0) → Slot → List ℕ → (List ℕ → A → Type 0) → (List ℕ → Violation → Type 0) → (A → Course) → Course
 
--- a file is read
-abbrev pub ReadsFiles : Course → Type 0
-ReadsFiles (gives due) = ⊥
-ReadsFiles (reads A slot d accepts breaks next) = Unit {0}
+-- it takes memory: a file is read, or an answer is made
+abbrev pub TakesMemory : Course → Type 0
+TakesMemory (gives due) = ⊥
+TakesMemory (makes due) = Unit {0}
+TakesMemory (reads A slot d accepts breaks next) = Unit {0}
 
 -- The answer that is due of a course whose files have these bytes, and the names that are read for it: a refusal where a file fails, and
 -- what comes next where it passes.
 abbrev pub DueOn : Files → Course → (bytes names : List (List ℕ)) → Answer → Type 0
 DueOn files (gives due) bytes names a = due a × (names ≡ [])
+DueOn files (makes due) bytes names a = due a × (names ≡ [])
 DueOn files (reads A slot d accepts breaks next) [] names a = ⊥
 DueOn files (reads A slot d accepts breaks next) (b ∷ bytes) names a =
     Holds files d b
@@ -62,6 +65,7 @@ DueOn files (reads A slot d accepts breaks next) (b ∷ bytes) names a =
 abbrev pub AsksFront : Files → Course → (bytes names : List (List ℕ)) → Type 0
 AsksFront files course bytes [] = Unit {0}
 AsksFront files (gives due) bytes (n ∷ names) = ⊥
+AsksFront files (makes due) bytes (n ∷ names) = ⊥
 AsksFront files (reads A slot d accepts breaks next) [] (n ∷ names) = (n ≡ d) × (names ≡ [])
 AsksFront files (reads A slot d accepts breaks next) (b ∷ bytes) (n ∷ names) =
     (n ≡ d) × ((names ≡ []) ⊎ (Holds files d b × (made : A) × Passes accepts slot b made × AsksFront files (next made) bytes names))

@@ -9,9 +9,11 @@ use Rattle.sci_verdict.specs.Verdict.{Plan, Accepts, Breaks}
 use Rattle.scicos.specs.Inputs.{AcceptsColumns, BreaksColumns}
 use Rattle.scicos.specs.Program.{AcceptsC, BreaksC}
 use Rattle.scicos.specs.Host.{host_text}
-use Rattle.scicos.specs.Words.{Request, report, simulate, run_c, host, Spells, NoCommand}
+use Rattle.scicos.specs.Words.{Request, report, simulate, code, run_c, host, bulk, Spells, NoCommand}
 use Rattle.scicos.specs.Answer.{Answer, usage, prints, report_text, IsTraceOf, c_ran}
-use Rattle.scicos.specs.Course.{diagram_slot, inputs_slot, c_slot, Course, gives, reads, DueOn}
+use Rattle.scicos.specs.Bulk.{IsBulkAnswer}
+use Rattle.scicos.specs.Code.{IsCodeOf}
+use Rattle.scicos.specs.Course.{diagram_slot, inputs_slot, c_slot, Course, gives, makes, reads, DueOn}
 
 -- an input file with what is needed of it, and what is due of its columns
 abbrev pub behind_inputs : List ℕ → List Needed → (List (List ℤ) → Answer → Type 0) → Course
@@ -29,8 +31,10 @@ behind_program i until limit program = behind_inputs i [] (λ columns a. a ≡ c
 abbrev pub course_of : Request → Course
 course_of (report r d) = reads Plan diagram_slot d Accepts Breaks (λ p. gives (λ a. a ≡ prints (report_text r p)))
 course_of (simulate d i until limit) = reads Plan diagram_slot d Accepts Breaks (behind_diagram i until limit)
+course_of (code d) = reads Plan diagram_slot d Accepts Breaks (λ p. gives (IsCodeOf p))
 course_of (run_c c i until limit) = reads Whole c_slot c AcceptsC BreaksC (behind_program i until limit)
 course_of host = gives (λ a. a ≡ prints host_text)
+course_of (bulk seed size) = makes (IsBulkAnswer seed size)
 
 -- The answer that is due of these words where the command's files have these bytes, and the names that are read for it.
 abbrev pub Due : Files → List (List ℕ) → (bytes names : List (List ℕ)) → Answer → Type 0

@@ -5,7 +5,7 @@ use Rattle.sci_io.specs.Files.{FolderState}
 use Rattle.sci_io.specs.Taken.{SinkState}
 use Rattle.scicos.specs.Words.{Request, Spells, NoCommand, files_of}
 use Rattle.scicos.specs.Answer.{Answer, IsDone}
-use Rattle.scicos.specs.Course.{ReadsFiles}
+use Rattle.scicos.specs.Course.{TakesMemory}
 use Rattle.scicos.specs.Due.{course_of, Due}
 use Rattle.scicos.specs.Reached.{ReachesBy, AsksFrontOf}
 use Rattle.scicos.specs.Written.{Given, Written}
@@ -19,9 +19,9 @@ abbrev pub GivesDue : List (List ℕ) → List (List ℕ) → FolderState → Fo
 GivesDue words bytes folder folder' out out' err err' status =
     (a : Answer) × (names : List (List ℕ)) × Due folder.files words bytes names a × (folder'.asked ≡ folder.asked ++ names) × (status ≡ a.status) × Given out out' a.out × Given err err' a.err
 
--- the words are a command that reads files
-abbrev pub NamesFiles : List (List ℕ) → Type 0
-NamesFiles words = (c : Request) × Spells words c × ReadsFiles (course_of c)
+-- the words are a command that takes memory
+abbrev pub AsksMemory : List (List ℕ) → Type 0
+AsksMemory words = (c : Request) × Spells words c × TakesMemory (course_of c)
 
 -- nothing was asked for, or a front of the files of the command, a later one only where the earlier pass
 abbrev pub AsksInOrder : List (List ℕ) → List (List ℕ) → FolderState → FolderState → Type 0
@@ -47,6 +47,6 @@ pub record Meets (words : List (List ℕ)) (folder folder' : FolderState) (out o
   pub write_fault : status ≡ 4 → Rose out.faults out'.faults ⊎ Rose err.faults err'.faults
   pub a_read_failed : folder.faults < folder'.faults → (status ≡ 3) ⊎ (status ≡ 4)
   pub a_write_failed : ((out.faults < out'.faults) ⊎ (err.faults < err'.faults)) → status ≡ 4
-  pub no_memory : status ≡ 5 → NamesFiles words
+  pub no_memory : status ≡ 5 → AsksMemory words
   pub nothing_out : ((status ≡ 1) ⊎ (status ≡ 2)) ⊎ ((status ≡ 3) ⊎ (status ≡ 5)) → out' ≡ out
   pub in_order : AsksInOrder words bytes folder folder'

@@ -5,6 +5,8 @@ pub mod Inputs
 pub mod Program
 pub mod Host
 pub mod Answer
+pub mod Bulk
+pub mod Code
 pub mod Course
 pub mod Due
 pub mod Reached
@@ -17,3 +19,4 @@ pub mod Banks
 pub mod Prepare
 pub mod Headline
 pub mod Laws
+pub mod Ran

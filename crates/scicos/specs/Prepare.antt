@@ -8,8 +8,11 @@ use Rattle.sci_run.specs.Run.{IsRun}
 use Rattle.sci_bank.specs.Bank.{Meaning}
 use Rattle.sci_sim.specs.At.{IsAtStart}
 use Rattle.c_ast.specs.View.{whole_of}
+use Rattle.c_ast.specs.Spelling.{spelling}
+use Rattle.c_ast.specs.Bounds.{IsWhole}
 use Rattle.c_mean.specs.Meaning.{meaning}
 use Rattle.scicos.specs.Answer.{Answer, usage, prints, refused, read_fault, no_memory, IsTraceOf, c_ran}
+use Rattle.scicos.specs.Bulk.{counted_line}
 use Rattle.scicos.specs.Course.{Course}
 use Rattle.scicos.specs.Reached.{ReachesTo}
 use Rattle.scicos.specs.Judged.{told_text, HasRows}
@@ -17,7 +20,7 @@ use Rattle.scicos.specs.declared.look.LookStop.{LookStop}
 use Rattle.scicos.specs.declared.look.LookStop.TheVariants as stops
 use Rattle.scicos.specs.declared.prepare.Prepared.{Prepared}
 use Rattle.scicos.specs.declared.prepare.Simulation.{Simulation}
-use Rattle.scicos.specs.declared.prepare.Prepared.TheVariants.{Usage, Refused, ReadFault, Memory, Print, Report as Tell, Simulate, RunC}
+use Rattle.scicos.specs.declared.prepare.Prepared.TheVariants.{Usage, Refused, ReadFault, Memory, Print, Report as Tell, Simulate, Code, RunC, Bulk}
 
 -- what it writes
 abbrev pub IsAnswerOf : Prepared → Answer → Type 0
@@ -28,6 +31,8 @@ IsAnswerOf Memory a = a ≡ no_memory
 IsAnswerOf (Print text) a = a ≡ prints text.now
 IsAnswerOf (Tell t) a = a ≡ prints (told_text t)
 IsAnswerOf (RunC program columns until limit) a = a ≡ c_ran (meaning (whole_of program) columns (pos until) (pos limit))
+IsAnswerOf (Code program) a = a ≡ prints (spelling (whole_of program))
+IsAnswerOf (Bulk counts) a = a ≡ prints (counted_line counts)
 IsAnswerOf (Simulate s) a = IsTraceOf s.ready.fixed.net s.inputs s.until s.limit a
 
 -- a net and its banks stand before the run, on columns in range and within the bounds; and the run has a trace
@@ -38,7 +43,8 @@ pub record IsReadyToRun (banks : List Meaning) (s : Simulation) : Type 0 where
   pub limit : s.limit ≤ 1000000
   pub trace : (os : List Obs) × IsRun s.ready.fixed.net s.inputs s.until s.limit os
 
--- what it needs is there: a text isn't empty, schedules have a row for each source, a simulation can run with these banks, bounds are kept
+-- what it needs is there: a text isn't empty, schedules have a row for each source, a simulation can run with these banks, a program has a text,
+-- bounds are kept
 abbrev pub IsPrepared : List Meaning → Prepared → Type 0
 IsPrepared banks Usage = Unit {0}
 IsPrepared banks (Refused r) = Unit {0}
@@ -47,6 +53,8 @@ IsPrepared banks Memory = Unit {0}
 IsPrepared banks (Print text) = 0 < length text.now
 IsPrepared banks (Tell t) = HasRows t
 IsPrepared banks (RunC program columns until limit) = (until ≤ 2 ^ 62) × (limit ≤ 1000000)
+IsPrepared banks (Code program) = IsWhole (whole_of program)
+IsPrepared banks (Bulk counts) = Unit {0}
 IsPrepared banks (Simulate s) = IsReadyToRun banks s
 
 -- memory may lack when it begins, before it writes anything
@@ -58,6 +66,8 @@ MayLack Memory = ⊥
 MayLack (Print text) = ⊥
 MayLack (Tell t) = ⊥
 MayLack (Simulate s) = ⊥
+MayLack (Code program) = ⊥
+MayLack (Bulk counts) = ⊥
 MayLack (RunC program columns until limit) = Unit {0}
 
 -- a file that gives nothing

@@ -4,7 +4,7 @@ use Rattle.sci_io.specs.Causes.{Rose}
 use Rattle.sci_io.specs.Files.{FolderState}
 use Rattle.scicos.specs.Words.{Request, Spells, NoCommand, files_of}
 use Rattle.scicos.specs.Answer.{Answer, usage, read_fault, no_memory}
-use Rattle.scicos.specs.Course.{Course, ReadsFiles, DueOn, AsksFront}
+use Rattle.scicos.specs.Course.{Course, TakesMemory, DueOn, AsksFront}
 use Rattle.scicos.specs.Due.{course_of}
 
 -- the answer that is due of the files' bytes
@@ -27,9 +27,9 @@ ComesBy old new course bytes a = ReachesDue old new course bytes a ⊎ (ReadFaul
 abbrev pub ComesTo : FolderState → FolderState → Course → Answer → Type 0
 ComesTo old new course a = (bytes : List (List ℕ)) × ComesBy old new course bytes a
 
--- the same of a whole command, for which memory may lack only where it reads files
+-- the same of a whole command, for which memory may lack only where it takes some
 abbrev pub ReachesOf : FolderState → FolderState → Course → List (List ℕ) → Answer → Type 0
-ReachesOf old new course bytes a = ReachesDue old new course bytes a ⊎ (ReadFault old new course bytes a ⊎ (ReadsFiles course × OutOfMemory old new course bytes a))
+ReachesOf old new course bytes a = ReachesDue old new course bytes a ⊎ (ReadFault old new course bytes a ⊎ (TakesMemory course × OutOfMemory old new course bytes a))
 
 abbrev pub ReachesTo : FolderState → FolderState → Course → Answer → Type 0
 ReachesTo old new course a = (bytes : List (List ℕ)) × ReachesOf old new course bytes a

@@ -16,8 +16,12 @@ pub enum Command<'a> {
     Report(Report, &'a str),
     /// The diagram's file, the input file, the last date and the most events.
     Simulate(&'a str, &'a str, u64, u64),
+    /// To write the C of a diagram's file.
+    Code(&'a str),
     /// The C file, the input file, the last date and the most events.
     RunC(&'a str, &'a str, u64, u64),
     /// The host file.
     Host,
+    /// To count a bulk diagram and its run, by its seed and its size.
+    Bulk(u32, u32),
 }

@@ -4,14 +4,18 @@ ghost use Rattle.sci_base.specs.Plain.{violation_of};
 ghost use Rattle.scicos.specs.Line.{refused_line};
 ghost use Rattle.sci_io.specs.Taken.{Writes};
 ghost use Rattle.c_ast.specs.View.{whole_of};
+ghost use Rattle.c_ast.specs.Spelling.{spelling};
+ghost use Rattle.c_ast.specs.Bounds.{IsWhole};
 ghost use Rattle.c_mean.specs.Meaning.{meaning};
 ghost use Rattle.scicos.specs.declared.told.Told.TheVariants.{Check};
 ghost use Rattle.scicos.specs.Answer.{prints, write_fault_line, usage_line, read_fault_line, no_memory_line, undefined_line};
+ghost use Rattle.scicos.specs.Bulk.{counted_line};
 ghost use Rattle.scicos.specs.Judged.{told_text, HasRows};
 ghost use Rattle.scicos.specs.Written.{Written};
 ghost use Rattle.scicos.specs.Deliver.{Gives, Said, PrintsTrace, Finished, RunsOut, RanC, FinishedC, Delivers};
 ghost use Rattle.scicos.specs.Prepare.{IsReadyToRun, IsPrepared};
 
+use crate::bulk::BulkCounts;
 use crate::net_map::write_map;
 use crate::prepare::{Prepared, Simulation};
 use crate::probe::silent_end;
@@ -199,6 +203,73 @@ fn tell<O: Sink, E: Sink>(told: &Told, out: &mut O, err: &mut E) -> u8
     }
 }
 
+fn put_bulk<O: Sink>(counts: &BulkCounts, out: &mut O) -> Result<(), Failed>
+    ensures { Writes (O.state out.old) (O.state out.new) (counted_line counts.now) result }
+{
+    let mut blocks = Buffer::new();
+    let mut sources = Buffer::new();
+    let mut entries = Buffer::new();
+    let mut guards = Buffer::new();
+    let mut lines = Buffer::new();
+    let mut sum = Buffer::new();
+    put_all(
+        out,
+        &[
+            "bulk ".as_bytes(),
+            blocks.format(counts.blocks).as_bytes(),
+            " ".as_bytes(),
+            sources.format(counts.sources).as_bytes(),
+            " ".as_bytes(),
+            entries.format(counts.entries).as_bytes(),
+            " ".as_bytes(),
+            guards.format(counts.guards).as_bytes(),
+            " ".as_bytes(),
+            lines.format(counts.lines).as_bytes(),
+            " ".as_bytes(),
+            sum.format(counts.sum).as_bytes(),
+            "\n".as_bytes(),
+        ],
+    )
+}
+
+fn give_bulk<O: Sink>(counts: &BulkCounts, out: &mut O) -> Result<(), Failed>
+    ensures { Gives (O.state out.old) (O.state out.new) (counted_line counts.now) result }
+{
+    put_bulk(counts, out)?;
+    out.flush()
+}
+
+// Prints what is counted of a bulk diagram, or tells the failure of out.
+#[tactic(auto, using(crate::proofs::Silent::bulk_some, crate::proofs::Giving::told_written, crate::proofs::Giving::told_cut))]
+fn print_bulk<O: Sink, E: Sink>(counts: &BulkCounts, out: &mut O, err: &mut E) -> u8
+    ensures { Written (prints (counted_line counts.now)) (O.state out.old) (O.state out.new) (E.state err.old) (E.state err.new) result }
+{
+    match give_bulk(counts, out) {
+        Ok(()) => 0,
+        Err(_) => say_write_fault(err),
+    }
+}
+
+fn give_code<O: Sink>(program: &Program, out: &mut O) -> Result<(), Failed>
+    requires { IsWhole (whole_of program.now) }
+    ensures { Gives (O.state out.old) (O.state out.new) (spelling (whole_of program.now)) result }
+{
+    c_print::print(program, out)?;
+    out.flush()
+}
+
+// Prints a C program, or tells the failure of out.
+#[tactic(auto, using(crate::proofs::Silent::code_some, crate::proofs::Giving::told_written, crate::proofs::Giving::told_cut))]
+fn print_code<O: Sink, E: Sink>(program: &Program, out: &mut O, err: &mut E) -> u8
+    requires { IsWhole (whole_of program.now) }
+    ensures { Written (prints (spelling (whole_of program.now))) (O.state out.old) (O.state out.new) (E.state err.old) (E.state err.new) result }
+{
+    match give_code(program, out) {
+        Ok(()) => 0,
+        Err(_) => say_write_fault(err),
+    }
+}
+
 fn finish<E: Sink>(ran: Result<RunEnd, Failed>, err: &mut E) -> u8
     ensures { Finished ran (E.state err.old) (E.state err.new) result }
 {
@@ -313,6 +384,8 @@ pub fn deliver<O: Sink, E: Sink>(
         Prepared::Memory => say_no_memory(err),
         Prepared::Print(text) => print(text, out, err),
         Prepared::Report(told) => tell(&told, out, err),
+        Prepared::Code(program) => print_code(&program, out, err),
+        Prepared::Bulk(counts) => print_bulk(&counts, out, err),
         Prepared::Simulate(simulation) => finish(print_trace(simulation, lib, out), err),
         Prepared::RunC(program, inputs, until, limit) => finish_run(
             print_run(alloc, &program, &inputs, until, limit, out),

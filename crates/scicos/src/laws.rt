@@ -1,8 +1,17 @@
 ghost use Rattle.scicos.specs.Laws.{OneAnswer, OneAnswerOfBytes};
+ghost use Rattle.scicos.specs.Ran.{CodeRunsAlike, CodeRunsOnlySo};
 
 /// Of the words and the files' bytes at most one answer is due, with one list of names that are read for it, and the files tell their bytes;
 /// but that any loop of the least source that has one may be told.
 pub fn one_answer_is_due()
     ensures told { OneAnswer }
     ensures bytes { OneAnswerOfBytes }
+{}
+
+/// Where `simulate` on a diagram and an input file is due to run, and the bytes that are due of `ccode` on this diagram are no more than a C file
+/// may have, `crun` on these bytes, with the same input file and the same bounds, is due the same answer, and no other: the same bytes and the
+/// same status, which is 0 or 6, and never 7.
+pub fn code_runs_alike()
+    ensures alike { CodeRunsAlike }
+    ensures only { CodeRunsOnlySo }
 {}

@@ -3,6 +3,7 @@
 
 ghost use Rattle.scicos.specs.Banks.{AreAllBanks};
 
+mod bulk;
 mod command;
 mod deliver;
 mod host;

@@ -2,12 +2,14 @@
 ghost use Rattle.std.specs.Prelude.{◌≡◌, ◌≤◌, ◌^◌, List, map, string_bytes};
 ghost use Rattle.sci_bank.specs.Bank.{Meaning};
 ghost use Rattle.scicos.specs.Banks.{AreAllBanks};
-ghost use Rattle.scicos.specs.Words.{report as tell, simulate, run_c, InBounds, asked_by};
+ghost use Rattle.sci_io.specs.Files.{FolderState};
+ghost use Rattle.scicos.specs.Words.{report as tell, simulate, code, run_c, bulk, InBounds, asked_by};
 ghost use Rattle.scicos.specs.Due.{course_of};
 ghost use Rattle.scicos.specs.Reached.{Reaches};
 ghost use Rattle.scicos.specs.Answer.{Answer, no_memory};
 ghost use Rattle.scicos.specs.Prepare.{IsAnswerOf, stop_answer, IsPrepared, MayLack, LooksAt};
 
+use crate::bulk::{BulkCounts, count_bulk};
 use crate::command::{Command, Report};
 use crate::host::host;
 use crate::look::{LookStop, look};
@@ -16,7 +18,8 @@ use crate::told::Told;
 use crate::words::parse;
 use c_ast::Program;
 use sci_bank::library::{Banks, Library};
-use sci_base::Refusal;
+use sci_base::{Refusal, Stop};
+use sci_cgen::emit;
 use sci_io::Folder;
 use sci_needs::needs_of_net;
 use sci_sim::Ready;
@@ -47,8 +50,12 @@ pub enum Prepared {
     /// What is told of a diagram.
     Report(Told),
     Simulate(Simulation),
+    /// The C program of a diagram.
+    Code(Program),
     /// A C program with the columns of its input file, the last date and the most events.
     RunC(Program, Inputs, u64, u64),
+    /// What is counted of a bulk diagram.
+    Bulk(BulkCounts),
 }
 
 fn for_report<F: Folder>(
@@ -92,6 +99,29 @@ fn for_simulate<F: Folder>(
     }))
 }
 
+fn for_code<F: Folder>(alloc: Global, folder: &mut F, file: &str) -> Result<Prepared, LookStop>
+    ensures looks { (banks : List Meaning) → LooksAt (F.state folder.old) (F.state folder.new) banks (course_of (code file.now)) result }
+    ensures kept { (F.state folder.new).files ≡ (F.state folder.old).files }
+{
+    let checked = look(alloc, folder, file, 1, &PlanRules)?;
+    let program = emit(alloc, &checked.net, &checked.schedule)?;
+    Ok(Prepared::Code(program))
+}
+
+fn for_bulk(alloc: Global, seed: u32, size: u32, lib: &mut Library) -> Result<Prepared, LookStop>
+    requires least { 1 ≤ size }
+    requires most { size ≤ 2000 }
+    requires banks { AreAllBanks (⟦<Library as Banks>⟧.banks lib.old) }
+    ensures looks { (s : FolderState) (banks : List Meaning) → LooksAt s s banks (course_of (bulk seed size)) result }
+    ensures banks { AreAllBanks (⟦<Library as Banks>⟧.banks lib.new) }
+{
+    match count_bulk(alloc, seed, size, lib) {
+        Ok(counts) => Ok(Prepared::Bulk(counts)),
+        Err(Stop::Refused(refusal)) => Err(LookStop::Refused(refusal)),
+        Err(Stop::Memory) => Err(LookStop::Memory),
+    }
+}
+
 fn for_run_c<F: Folder>(
     alloc: Global,
     folder: &mut F,
@@ -129,6 +159,8 @@ fn for_command<F: Folder>(
     match command {
         Command::Report(report, file) => for_report(alloc, folder, report, file),
         Command::Host => Ok(Prepared::Print(host())),
+        Command::Code(file) => for_code(alloc, folder, file),
+        Command::Bulk(seed, size) => for_bulk(alloc, seed, size, lib),
         Command::Simulate(file, inputs_file, until, limit) => {
             for_simulate(alloc, folder, file, inputs_file, until, limit, lib)
         }

@@ -214,3 +214,19 @@ fn a_c_program_runs(rt: HostRuntime) -> Result<(), Fail> {
     assert_eq!(rt; refused.err.taken(), "refused 26 NotC at - 0\n".as_bytes());
     Ok(())
 }
+
+#[test]
+fn a_bulk_diagram_is_counted(rt: HostRuntime) -> Result<(), Fail> {
+    let alloc = rt.alloc();
+    let counted = run_line(alloc, "bulk 5 2", "", "", Vec::new(alloc), 200)?;
+    assert_eq!(rt; counted.status, 0);
+    assert_eq!(rt; counted.out.taken(), "bulk 10 9 10 0 1126 123\n".as_bytes());
+    assert_eq!(rt; counted.asked, 0);
+    let cut = run_line(alloc, "bulk 5 2", "", "", Vec::new(alloc), 9)?;
+    assert_eq!(rt; cut.status, 4);
+    assert_eq!(rt; cut.out.taken(), "bulk 10 9".as_bytes());
+    assert_eq!(rt; cut.err.taken(), "write fault\n".as_bytes());
+    let usage = run_line(alloc, "bulk 5 0", "", "", Vec::new(alloc), 200)?;
+    assert_eq!(rt; usage.status, 2);
+    Ok(())
+}

@@ -76,11 +76,30 @@ fn report_of(name: &str) -> Option<Report>
     }
 }
 
+#[tactic(auto, using(crate::proofs::Spoken::no_report))]
 fn of_two<'a>(name: &str, diagram: &'a str) -> Option<Command<'a>>
     ensures { Parses (name.now ∷ diagram.now ∷ []) result }
 {
+    if name == "ccode" {
+        return Some(Command::Code(diagram));
+    }
     let report = report_of(name)?;
     Some(Command::Report(report, diagram))
+}
+
+#[tactic(auto, using(crate::proofs::Spoken::other_name, crate::proofs::Spoken::no_seed, crate::proofs::Spoken::no_size))]
+fn of_three<'a>(name: &str, seed: &str, size: &str) -> Option<Command<'a>>
+    ensures { Parses (name.now ∷ seed.now ∷ size.now ∷ []) result }
+{
+    if name != "bulk" {
+        return None;
+    }
+    let seed = canonical(seed, 4_294_967_295)?;
+    let size = canonical(size, 2000)?;
+    if size == 0 {
+        return None;
+    }
+    Some(Command::Bulk(seed as u32, size as u32))
 }
 
 fn of_one<'a>(name: &str) -> Option<Command<'a>>
@@ -100,6 +119,7 @@ pub fn parse(words: &[String]) -> Option<Command<'_>>
     match words {
         [name] => of_one(name.as_str()),
         [name, diagram] => of_two(name.as_str(), diagram.as_str()),
+        [name, seed, size] => of_three(name.as_str(), seed.as_str(), size.as_str()),
         [name, diagram, inputs, until, limit] => of_five(
             name.as_str(),
             diagram.as_str(),

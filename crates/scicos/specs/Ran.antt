@@ -1,0 +1,36 @@
+-- The C of a diagram runs as the diagram does.
+use Rattle.std.specs.Prelude.{ℕ, ◌≡◌, ◌≤◌, ◌^◌, length, List, [], ◌∷◌}
+use Rattle.sci_io.specs.Files.{Files}
+use Rattle.scicos.specs.Words.{simulate, code, run_c, spelled}
+use Rattle.scicos.specs.Answer.{Answer, IsDone}
+use Rattle.scicos.specs.Course.{Holds, c_slot}
+use Rattle.scicos.specs.Due.{Due}
+
+-- Of a diagram's and an input file's bytes this answer is due of simulate, which is no refusal, and this one of ccode, whose bytes are no more than a
+-- C file may have.
+pub record AreAnswers (d i : List ℕ) (until limit : ℕ) (diagram inputs : List ℕ) (simulated coded : Answer) : Type 0 where
+  pub until_within : until ≤ 2 ^ 62
+  pub limit_within : limit ≤ 1000000
+  pub files : Files
+  pub names : List (List ℕ)
+  pub due : Due files (spelled (simulate d i until limit)) (diagram ∷ inputs ∷ []) names simulated
+  pub done : IsDone simulated.status
+  pub code_files : Files
+  pub code_names : List (List ℕ)
+  pub code_due : Due code_files (spelled (code d)) (diagram ∷ []) code_names coded
+  pub written : coded.status ≡ 0
+  pub short : length coded.out ≤ c_slot.longest
+
+-- Then what was due of simulate is due of crun on the bytes that ccode writes, with the same input file and the same bounds ..
+abbrev pub CodeRunsAlike : Type 0
+CodeRunsAlike =
+    (d i c j : List ℕ) (until limit : ℕ) (diagram inputs : List ℕ) (simulated coded : Answer) (files : Files)
+    → AreAnswers d i until limit diagram inputs simulated coded
+    → Holds files c coded.out → Holds files j inputs → Due files (spelled (run_c c j until limit)) (coded.out ∷ inputs ∷ []) (c ∷ j ∷ []) simulated
+
+-- .. and nothing else is.
+abbrev pub CodeRunsOnlySo : Type 0
+CodeRunsOnlySo =
+    (d i c j : List ℕ) (until limit : ℕ) (diagram inputs : List ℕ) (simulated coded ran : Answer) (files : Files) (names : List (List ℕ))
+    → AreAnswers d i until limit diagram inputs simulated coded
+    → Due files (spelled (run_c c j until limit)) (coded.out ∷ inputs ∷ []) names ran → ran ≡ simulated
