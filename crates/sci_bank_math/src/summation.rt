@@ -1,8 +1,9 @@
 // SUMMATION: one fit of the exact sum of the inputs, each with its sign.
 ghost use Rattle.std.specs.Prelude.{refl, ◌≡◌, ◌<◌, ◌+◌, ◌*ℤ◌, ◌≤ℤ◌, pos, negsuc, length};
 ghost use Rattle.sci_forms.specs.Ports.{total, Fills};
-ghost use Rattle.sci_forms.specs.Words.{param, size};
-ghost use Rattle.sci_kinds.specs.Table.{sum_to, input};
+ghost use Rattle.sci_base.specs.Fit.{fit, InRange};
+ghost use Rattle.sci_forms.specs.Words.{out_type, param, size};
+ghost use Rattle.sci_kinds.specs.Table.{sum_to, input, fitted, mode_of};
 ghost use Rattle.sci_bank.specs.Bank.{IsOfKind};
 ghost use Rattle.sci_forms.specs.declared.Kind.TheVariants.{Summation as SummationKind};
 
@@ -20,6 +21,21 @@ pub struct SummationRule;
 /// The bank of `Summation` blocks.
 pub type Summation = KindBank<Plain<SummationRule>>;
 
+/// An element of input `k`, and its range. Most blocks have inputs of one element, whose places need not be worked out.
+fn term(spec: &Spec, ins: &[i64], k: usize, at: usize) -> i64
+    requires typed { IsOfKind SummationKind spec.now }
+    requires ins { Fills spec.now.ins ins.now }
+    requires port { k < length spec.now.ins }
+    requires at { at < total spec.now.outs }
+    ensures value { result ≡ input (size spec.now) ins.now k at }
+    ensures in_range { InRange (out_type spec.now) result }
+{
+    if ins.len() == spec.ins.len() {
+        return ins[k];
+    }
+    alike_input(spec, ins, k, at)
+}
+
 /// Input `k` with its sign.
 fn signed_term(spec: &Spec, ins: &[i64], k: usize, at: usize) -> i64
     requires typed { IsOfKind SummationKind spec.now }
@@ -30,7 +46,7 @@ fn signed_term(spec: &Spec, ins: &[i64], k: usize, at: usize) -> i64
     ensures low { negsuc 4294967295 ≤ℤ result }
     ensures high { result ≤ℤ pos 4294967296 }
 {
-    let u = alike_input(spec, ins, k, at);
+    let u = term(spec, ins, k, at);
     if is_equal(param(spec, k + 1), 1) {
         u
     } else {
@@ -52,6 +68,17 @@ fn signed_sum(spec: &Spec, ins: &[i64], at: usize) -> i64
     sum
 }
 
+/// A number as a cell, fitted. Most numbers are in range, and then the mode need not be read.
+fn fitted_cell(spec: &Spec, v: i64) -> Cell
+    ensures { result ≡ fitted (fit (out_type spec.now) (mode_of (param spec.now 0)) v) }
+{
+    let t = out_type(spec);
+    if t.holds(v) {
+        return Cell::Value(v);
+    }
+    cell_of(fit(t, mode(spec), v))
+}
+
 impl CellRule for SummationRule {
     ghost kind = { SummationKind };
 
@@ -64,7 +91,7 @@ impl CellRule for SummationRule {
     }
 
     fn cell(&self, spec: &Spec, _mask: u64, ins: &[i64], at: usize) -> Cell {
-        cell_of(fit(out_type(spec), mode(spec), signed_sum(spec, ins, at)))
+        fitted_cell(spec, signed_sum(spec, ins, at))
     }
 
     ghost no_state = { λ s. refl };

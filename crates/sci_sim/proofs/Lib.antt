@@ -3,6 +3,8 @@ pub mod Steps
 pub mod Delays
 pub mod RowDelays
 pub mod Evaluating
+pub mod Digits
+pub mod Paging
 pub mod Writing
 pub mod Reacting
 pub mod Updating

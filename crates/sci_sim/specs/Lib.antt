@@ -7,6 +7,7 @@ pub mod Store
 pub mod Entering
 pub mod Passed
 pub mod Written
+pub mod Paged
 pub mod Programming
 pub mod At
 pub mod Reacting

@@ -5,8 +5,12 @@
 mod block;
 mod end;
 mod frame;
+mod head;
 mod laws;
+mod lines;
 mod marks;
+mod page;
+mod pieces;
 mod programming;
 mod reaction;
 mod ready;

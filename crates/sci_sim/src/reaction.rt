@@ -24,6 +24,7 @@ ghost use Rattle.sci_sim.specs.Programming.{Keeps};
 ghost use Rattle.sci_sim.specs.Reacting.{ShowsFiring, IsReacted, seen_in};
 
 use crate::frame::{Frame, Row};
+use crate::lines::Lines;
 use crate::store::Store;
 use sci_agenda::agenda::Agenda;
 use sci_bank::library::{Banks, Library};
@@ -64,6 +65,7 @@ fn finish<A: Agenda, S: Sink>(
     inputs: &Inputs,
     row: &Row,
     date: u64,
+    lines: &mut Lines,
     out: &mut S,
 ) -> Result<(), Failed>
     requires store { IsStore frame.now store.old }
@@ -84,7 +86,7 @@ fn finish<A: Agenda, S: Sink>(
     ensures seated { AreSeated frame.now (⟦<Library as Banks>⟧.banks lib.new) }
     ensures counts { AreAlikeCounts (⟦<Library as Banks>⟧.banks lib.old) (⟦<Library as Banks>⟧.banks lib.new) }
 {
-    store.write_values(frame, row, out)?;
+    store.write_values(frame, row, lines, out)?;
     store.program_all(frame, row, lib, date, agenda);
     store.update_all(frame, row, lib, inputs);
     Ok(())
@@ -98,6 +100,7 @@ pub fn react<A: Agenda, S: Sink>(
     lib: &mut Library,
     inputs: &Inputs,
     firing: Firing,
+    lines: &mut Lines,
     out: &mut S,
 ) -> Result<Option<StopWord>, Failed>
     requires source { firing.source < length frame.now.rows }
@@ -129,6 +132,7 @@ pub fn react<A: Agenda, S: Sink>(
                 inputs,
                 row,
                 firing.date - firing.offset,
+                lines,
                 out,
             )?;
             Ok(None)

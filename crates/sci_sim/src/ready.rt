@@ -18,6 +18,7 @@ ghost use Rattle.sci_bank.specs.Bank.{Meaning};
 
 use crate::end::{RunEnd, Step};
 use crate::frame::{Frame, rows};
+use crate::lines::Lines;
 use crate::programming::program_first;
 use crate::reaction::{Firing, react};
 use crate::seats::seat_all;
@@ -48,6 +49,8 @@ pub struct Ready {
     row: u32,
     started: bool,
     halted: bool,
+    // what waits there is forgotten by the next reaction
+    lines: Lines,
 }
 
 impl Model for Ready {
@@ -92,6 +95,7 @@ impl Ready {
             seats,
         };
         let store = Store::new(alloc, &frame)?;
+        let lines = Lines::new(alloc, store.len())?;
         Ok(Ready {
             frame,
             store,
@@ -102,6 +106,7 @@ impl Ready {
             row: 0,
             started: false,
             halted: false,
+            lines,
         })
     }
 
@@ -136,6 +141,7 @@ impl Ready {
             lib,
             ins,
             firing,
+            &mut self.lines,
             out,
         )?;
         if stop.is_none() {

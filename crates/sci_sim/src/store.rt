@@ -26,6 +26,7 @@ ghost use Rattle.sci_sim.specs.Rows.{row_of};
 
 use crate::block::{compute, take_branch};
 use crate::frame::{Frame, Row};
+use crate::lines::Lines;
 use crate::marks::{IDLE, Mark, activation, clear};
 use crate::programming::program;
 use crate::tally::Tally;
@@ -37,7 +38,7 @@ use sci_io::{Failed, Sink};
 use sci_kinds::{Kind, Ports, Spec};
 use sci_sched::Entry;
 use sci_trace::inputs::Inputs;
-use sci_trace::{write_obs, write_value};
+use sci_trace::write_obs;
 use std::alloc::Global;
 use std::marker::Model;
 
@@ -119,6 +120,7 @@ impl Store {
     ghost use Rattle.sci_sim.specs.Store.{Standing, IsStore, AreIdle, cursor_at, state_of, ShowsMemory, ShowsValues};
     ghost use Rattle.sci_sim.specs.Passed.{given, IsEvaluated, IsEntryDone, IsPassed, IsStepped, IsStateStepped, IsBlockStepped, ShowsBefore, AreAlikeCounts, KeepsValues};
     ghost use Rattle.sci_sim.specs.Written.{AreAmong, IsPlain, tallied};
+    ghost use Rattle.sci_sim.specs.Paged.{paged};
     ghost use Rattle.sci_sim.specs.Programming.{Keeps, delays_in};
     ghost use Rattle.sci_sim.specs.Entering.{IsEntered};
 
@@ -143,6 +145,13 @@ impl Store {
             ins,
             tally: Tally::new(),
         })
+    }
+
+    /// How many values there are.
+    pub fn len(&self) -> usize
+        ensures { result ≡ length self.now.values }
+    {
+        self.values.len()
     }
 
     /// What was counted of the run.
@@ -336,34 +345,48 @@ impl Store {
         None
     }
 
-    // Writes the values of an output.
+    // Writes the lines of the values of an output.
     fn write_port<S: Sink>(
         &mut self,
         block: u32,
         port: usize,
         start: usize,
         count: usize,
+        lines: &mut Lines,
         out: &mut S,
     ) -> Result<(), Failed>
         requires within { start + count ≤ length self.old.values }
         requires port { port < 2 ^ 63 }
-        ensures written { Writes (S.state out.old) (S.state out.new) (text (elements_seen block port 1 (take count (drop start self.old.values)))) result }
+        ensures written { Writes (paged (S.state out.old) lines.old) (paged (S.state out.new) lines.new) (text (elements_seen block port 1 (take count (drop start self.old.values)))) result }
         ensures counted { OnOk result (self.new ≡ tallied self.old (elements_seen block port 1 (take count (drop start self.old.values)))) }
         ensures same { self.new ≡ record self.old { lines = self.new.lines; sum = self.new.sum } }
     {
         for at in 0..count {
             let value = self.values[start + at];
-            write_value(i64::from(block), port as i64, at as i64 + 1, value, out)?;
+            lines.put(
+                start + at,
+                i64::from(block),
+                port as i64,
+                at as i64 + 1,
+                value,
+                out,
+            )?;
             self.tally.count_value(value);
         }
         Ok(())
     }
 
-    // Writes the values of a block.
-    fn write_block<S: Sink>(&mut self, frame: &Frame, block: u32, out: &mut S) -> Result<(), Failed>
+    // Writes the lines of the values of a block.
+    fn write_block<S: Sink>(
+        &mut self,
+        frame: &Frame,
+        block: u32,
+        lines: &mut Lines,
+        out: &mut S,
+    ) -> Result<(), Failed>
         requires store { IsStore frame.now self.old }
         requires block { IsBlock frame.now.net block }
-        ensures written { Writes (S.state out.old) (S.state out.new) (text (outputs_seen block 1 (spec_of frame.now.net block).outs (values_at frame.now.net self.old.values block))) result }
+        ensures written { Writes (paged (S.state out.old) lines.old) (paged (S.state out.new) lines.new) (text (outputs_seen block 1 (spec_of frame.now.net block).outs (values_at frame.now.net self.old.values block))) result }
         ensures counted { OnOk result (self.new ≡ tallied self.old (outputs_seen block 1 (spec_of frame.now.net block).outs (values_at frame.now.net self.old.values block))) }
         ensures same { self.new ≡ record self.old { lines = self.new.lines; sum = self.new.sum } }
     {
@@ -372,17 +395,18 @@ impl Store {
         let mut start = place.start;
         for port in 0..outs.len() {
             let count = output_elements(outs, port, place.len);
-            self.write_port(block, port + 1, start, count, out)?;
+            self.write_port(block, port + 1, start, count, lines, out)?;
             start += count;
         }
         Ok(())
     }
 
-    /// Writes the values of the active blocks of a row, by block, port and element.
+    /// Writes the values of the active blocks of a row, by block, port and element. What waited among the lines before is forgotten.
     pub fn write_values<S: Sink>(
         &mut self,
         frame: &Frame,
         row: &Row,
+        lines: &mut Lines,
         out: &mut S,
     ) -> Result<(), Failed>
         requires store { IsStore frame.now self.old }
@@ -392,12 +416,13 @@ impl Store {
         ensures same { self.new ≡ record self.old { lines = self.new.lines; sum = self.new.sum } }
     {
         frame.well_formed();
+        lines.clear();
         for block in row.blocks.iter() {
             if self.is_active(*block) {
-                self.write_block(frame, *block, out)?;
+                self.write_block(frame, *block, lines, out)?;
             }
         }
-        Ok(())
+        lines.give(out)
     }
 
     // The activation outputs of a block program their next events.

@@ -1,5 +1,5 @@
-use Rattle.std.proofs.Common.{◌≡◌, length, ◌+ℤ◌, arith, rules, to_z, of_z, w64}
-use Rattle.std.proofs.lemmas.Int.{ints, to_z-of_z}
+use Rattle.std.proofs.Common.{◌≡◌, length, ◌+ℤ◌, arith, to_z, of_z, w64}
+use Rattle.std.proofs.lemmas.Int.{ints}
 use Rattle.sci_bank_math.proofs.SumLemmas.{sum_more}
 use Rattle.sci_bank_math.proofs.summation.signed_sum.Goals as goal
 

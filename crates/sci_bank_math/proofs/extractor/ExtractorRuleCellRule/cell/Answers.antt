@@ -1,4 +1,4 @@
-use Rattle.std.proofs.Common.{◌≡◌, sym, subst, rules, FitsSigned, w64, pos, ◌≤ℤ◌, ℤ}
+use Rattle.std.proofs.Common.{sym, subst, rules, FitsSigned, w64, pos, ◌≤ℤ◌, ℤ}
 use Rattle.std.proofs.lemmas.Int.{to_z-of_z}
 use Rattle.sci_bank_math.proofs.KindLemmas.{number_least}
 use Rattle.sci_bank_math.proofs.extractor.ExtractorRuleCellRule.cell.Goals as goal

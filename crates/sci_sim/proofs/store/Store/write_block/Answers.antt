@@ -16,6 +16,7 @@ use Rattle.sci_sim.specs.Frame.{Fixed}
 use Rattle.sci_sim.specs.Store.{Standing}
 use Rattle.sci_sim.specs.Written.{tallied}
 use Rattle.sci_sim.proofs.Writing.{left_begin, left_as, left_more, cut_in_more, left_same, same_then, outputs_next, output_at}
+use Rattle.sci_sim.specs.Paged.{paged}
 use Rattle.sci_sim.proofs.store.Store.write_block.Given.{Over}
 use Rattle.sci_sim.proofs.store.Store.write_block.Goals as goal
 use Rattle.sci_sim.proofs.store.Store.write_block.Goals.{After-output_elements-count}
@@ -25,7 +26,7 @@ loop-port-init g c =
     let block = c.args.block in
     let place = ap (λ (p : BlockPlace). p.outs.start) (c.frame.invariant.layout.places block (record { least = c.requires.block.least; most = omega (arith, ap (λ (f : Fixed). length f.net.specs) c.frame.view_is) })) in
     let start = ap (λ s. s.start) c.outs-place.ensures ∙ (place ∙ ap (λ (f : Fixed). start_of f.net block) c.frame.view_is) in
-    (left_begin (g.S.Sink.state c.args.out.now) c.args.self.now (outputs_seen block 1 (spec_of c.args.frame.now.net block).outs (values_at c.args.frame.now.net c.args.self.now.values block)), omega (arith, start))
+    (left_begin (paged (g.S.Sink.state c.args.out.now) c.args.lines.now) c.args.self.now (outputs_seen block 1 (spec_of c.args.frame.now.net block).outs (values_at c.args.frame.now.net c.args.self.now.values block)), omega (arith, start))
 
 module _ (g : Over) (c : After-output_elements-count g) where
   net_is : c.frame.inside.net ≡ c.args.frame.now.net
@@ -84,7 +85,7 @@ returns-in_err-write_port-clause-written g c =
     let vs = values_at c.args.frame.now.net c.args.self.now.values c.args.block in
     cut_in_more _ _ c.write_port.result c.from_residual.result _ _ c.in_err-write_port.was (search rules)
     (left_as _ (outputs_next c.args.block c.loop-port.port outs vs (inside g at)) c.loop-port.invariant.0)
-    (subst (λ (os : List Obs). Writes (g.S.Sink.state c.loop-port.out) (g.S.Sink.state c.write_port.new.out) (text os) c.write_port.result) (same_seen g at) c.write_port.ensures.written)
+    (subst (λ (os : List Obs). Writes (paged (g.S.Sink.state c.loop-port.out) c.loop-port.lines) (paged (g.S.Sink.state c.write_port.new.out) c.write_port.new.lines) (text os) c.write_port.result) (same_seen g at) c.write_port.ensures.written)
 
 pub loop-port-preserved : goal.loop-port-preserved
 loop-port-preserved g c =
@@ -93,7 +94,7 @@ loop-port-preserved g c =
     let vs = values_at c.args.frame.now.net c.args.self.now.values c.args.block in (
       left_more _ _ c.write_port.result c.in_ok-write_port.field-0 c.in_ok-write_port.was
           (left_as _ (outputs_next c.args.block c.loop-port.port outs vs (inside g at)) c.loop-port.invariant.0)
-          (subst (λ (os : List Obs). Writes (g.S.Sink.state c.loop-port.out) (g.S.Sink.state c.write_port.new.out) (text os) c.write_port.result) (same_seen g at) c.write_port.ensures.written)
+          (subst (λ (os : List Obs). Writes (paged (g.S.Sink.state c.loop-port.out) c.loop-port.lines) (paged (g.S.Sink.state c.write_port.new.out) c.write_port.new.lines) (text os) c.write_port.result) (same_seen g at) c.write_port.ensures.written)
           (subst (λ (os : List Obs). c.write_port.new.self ≡ tallied c.loop-port.self os) (same_seen g at) c.in_ok-write_port.ensures.counted),
       omega (arith, c.loop-port.invariant.1, before_next outs c.loop-port.port (inside g at), count_is g at),
     )

@@ -14,15 +14,16 @@ use Rattle.sci_sim.specs.contracts.store.Store.{the_view}
 use Rattle.sci_sim.specs.Store.{Standing}
 use Rattle.sci_sim.specs.Tally.{sum_after}
 use Rattle.sci_sim.specs.Written.{tallied}
+use Rattle.sci_sim.specs.Paged.{paged}
 use Rattle.sci_sim.proofs.Writing.{IsLeft, left_as, left_one, cut_at_one, all_counted, left_same, same_tally, elements_next, element_at}
 use Rattle.sci_sim.proofs.store.Store.write_port.Given.{Over}
 use Rattle.sci_sim.proofs.store.Store.write_port.Goals as goal
-use Rattle.sci_sim.proofs.store.Store.write_port.Goals.{After-write_value}
+use Rattle.sci_sim.proofs.store.Store.write_port.Goals.{After-put}
 
 same_val : {a b c d e f h i : ℤ} → a ≡ e → b ≡ f → c ≡ h → d ≡ i → Val a b c d ≡ Val e f h i
 same_val p q r s = cc
 
-module _ (g : Over) (c : After-write_value g) where
+module _ (g : Over) (c : After-put g) where
   within : c.args.start + c.args.count ≤ length c.self.inside.values.items
   within = omega (arith, ap (λ (s : Standing). length s.values) c.self.view_is)
 
@@ -48,25 +49,25 @@ module _ (g : Over) (c : After-write_value g) where
       ≡ Val (pos c.args.block) (pos c.args.port) (pos (c.loop-at.at + 1)) (get_or (take c.args.count (drop c.args.start c.self.inside.values.items)) c.loop-at.at (pos 0))
   here = same_val (omega (arith, ints)) (omega (arith, ints)) element_is value_is
 
-  wrote : Writes (g.S.Sink.state c.loop-at.out) (g.S.Sink.state c.write_value.new.out) (line (Val (pos c.args.block) (pos c.args.port) (pos (c.loop-at.at + 1)) (get_or (take c.args.count (drop c.args.start c.self.inside.values.items)) c.loop-at.at (pos 0)))) c.write_value.result
-  wrote = subst (λ (o : Obs). Writes (g.S.Sink.state c.loop-at.out) (g.S.Sink.state c.write_value.new.out) (line o) c.write_value.result) here c.write_value.ensures
+  wrote : Writes (paged (g.S.Sink.state c.loop-at.out) c.loop-at.lines) (paged (g.S.Sink.state c.put.new.out) c.put.new.self) (line (Val (pos c.args.block) (pos c.args.port) (pos (c.loop-at.at + 1)) (get_or (take c.args.count (drop c.args.start c.self.inside.values.items)) c.loop-at.at (pos 0)))) c.put.result
+  wrote = subst (λ (o : Obs). Writes (paged (g.S.Sink.state c.loop-at.out) c.loop-at.lines) (paged (g.S.Sink.state c.put.new.out) c.put.new.self) (line o) c.put.result) here c.put.ensures
 
-  due : IsLeft (g.S.Sink.state c.args.out.now) (g.S.Sink.state c.loop-at.out) (the_view c.self.inside) (the_view c.loop-at.self-inside)
+  due : IsLeft (paged (g.S.Sink.state c.args.out.now) c.args.lines.now) (paged (g.S.Sink.state c.loop-at.out) c.loop-at.lines) (the_view c.self.inside) (the_view c.loop-at.self-inside)
       (elements_seen c.args.block c.args.port 1 (take c.args.count (drop c.args.start c.self.inside.values.items)))
       (Val (pos c.args.block) (pos c.args.port) (pos (c.loop-at.at + 1)) (get_or (take c.args.count (drop c.args.start c.self.inside.values.items)) c.loop-at.at (pos 0)) ∷ elements_seen c.args.block c.args.port (c.loop-at.at + 1 + 1) (drop (c.loop-at.at + 1) (take c.args.count (drop c.args.start c.self.inside.values.items))))
   due = left_as _ (elements_next c.args.block c.args.port c.loop-at.at (take c.args.count (drop c.args.start c.self.inside.values.items)) is_there) c.loop-at.invariant
 
-pub returns-in_err-write_value-clause-written : goal.returns-in_err-write_value-clause-written
-returns-in_err-write_value-clause-written g c =
-    let at = (goal.at.returns-in_err-write_value-clause-written g c).After-write_value in
-    subst (λ (s : Standing). Writes (g.S.Sink.state c.args.out.now) (g.S.Sink.state c.write_value.new.out) (text (elements_seen c.args.block c.args.port 1 (take c.args.count (drop c.args.start s.values)))) c.from_residual.result)
+pub returns-in_err-put-clause-written : goal.returns-in_err-put-clause-written
+returns-in_err-put-clause-written g c =
+    let at = (goal.at.returns-in_err-put-clause-written g c).After-put in
+    subst (λ (s : Standing). Writes (paged (g.S.Sink.state c.args.out.now) c.args.lines.now) (paged (g.S.Sink.state c.put.new.out) c.put.new.self) (text (elements_seen c.args.block c.args.port 1 (take c.args.count (drop c.args.start s.values)))) c.from_residual.result)
     c.self.view_is
-    (cut_at_one _ _ c.write_value.result c.from_residual.result _ _ c.in_err-write_value.was (search rules) (due g at) (wrote g at))
+    (cut_at_one _ _ c.put.result c.from_residual.result _ _ c.in_err-put.was (search rules) (due g at) (wrote g at))
 
 pub loop-at-preserved : goal.loop-at-preserved
 loop-at-preserved g c =
-    let at = (goal.at.loop-at-preserved g c).After-write_value in
-    left_one _ _ c.write_value.result c.in_ok-write_value.field-0 c.in_ok-write_value.was (due g at) (wrote g at)
+    let at = (goal.at.loop-at-preserved g c).After-put in
+    left_one _ _ c.put.result c.in_ok-put.field-0 c.in_ok-put.was (due g at) (wrote g at)
     (same_tally (the_view c.loop-at.self-inside) c.count_value.new.self.lines c.count_value.new.self.sum _ _ c.count_value.ensures.lines
     (c.count_value.ensures.sum ∙ ap (sum_after c.loop-at.self-inside.tally.sum) (value_is g at)))
 
@@ -79,8 +80,8 @@ returns-clause-counted g c =
     subst (λ (s : Standing). the_view c.loop-at.self-inside ≡ tallied s (elements_seen c.args.block c.args.port 1 (take c.args.count (drop c.args.start s.values)))) c.self.view_is
     (all_counted (left_as [] none c.loop-at.invariant))
 
-pub returns-in_err-write_value-clause-same : goal.returns-in_err-write_value-clause-same
-returns-in_err-write_value-clause-same g c =
+pub returns-in_err-put-clause-same : goal.returns-in_err-put-clause-same
+returns-in_err-put-clause-same g c =
     let t = the_view c.loop-at.self-inside in subst (λ (s : Standing). t ≡ record s { lines = t.lines; sum = t.sum }) c.self.view_is (left_same c.loop-at.invariant)
 
 pub returns-clause-same : goal.returns-clause-same

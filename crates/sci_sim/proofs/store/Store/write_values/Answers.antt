@@ -1,17 +1,18 @@
-use Rattle.std.proofs.Common.{◌≡◌, ℕ, ◌+◌, ◌<◌, true, false, List, [], ◌++◌, drop, get_or, length, ap, sym, ◌∙◌, arith, rules, subst, Ok}
+use Rattle.std.proofs.Common.{◌≡◌, ℕ, ◌+◌, ◌<◌, true, false, List, [], ◌++◌, drop, get_or, length, ap, sym, ◌∙◌, arith, rules, subst}
 use Rattle.std.proofs.lemmas.List.{drop_all}
 use Rattle.sci_base.specs.declared.observation.Obs.{Obs}
 use Rattle.sci_net.specs.Parts.{IsBlock, spec_of}
 use Rattle.sci_trace.specs.Lines.{text}
 use Rattle.sci_io.specs.Taken.{Writes}
-use Rattle.sci_io.specs.declared.sink.Failed.{Failed}
 use Rattle.sci_places.specs.Flat.{values_at}
 use Rattle.sci_run.specs.Observed.{outputs_seen}
 use Rattle.sci_sim.specs.Marks.{mark_at}
 use Rattle.sci_sim.specs.Rows.{Row}
 use Rattle.sci_sim.specs.Store.{Standing}
 use Rattle.sci_sim.specs.Written.{AreAmong, tallied}
-use Rattle.sci_sim.proofs.Writing.{AreBlocksByNumber, IsLeft, row_blocks, contains_at, left_as, left_more, cut_in_more, left_same, same_then, all_written, all_counted, seen_at, row_seen, row_next, row_is_seen, seen_if, seen_unless}
+use Rattle.sci_sim.proofs.Writing.{AreBlocksByNumber, IsLeft, row_blocks, contains_at, left_begin, left_as, left_more, cut_in_more, left_same, same_then, all_counted, seen_at, row_seen, row_next, row_is_seen, seen_if, seen_unless}
+use Rattle.sci_sim.specs.Paged.{paged}
+use Rattle.sci_sim.proofs.Paging.{none_kept, from_none, as_written, last_given, on_ok}
 use Rattle.sci_sim.proofs.store.Store.write_values.Given.{Over}
 use Rattle.sci_sim.proofs.store.Store.write_values.Goals as goal
 use Rattle.sci_sim.proofs.store.Store.write_values.Goals.{After-deref-block-items, After-is_active, then-is_active+in_ok-write_block, else-is_active}
@@ -37,7 +38,7 @@ module _ (g : Over) (c : After-is_active g) where
   marked : c.is_active.result ≡ (mark_at c.args.self.now.marks (get_or c.deref-block-items.result.now c.loop-block.block-index 0)).active
   marked = c.is_active.ensures ∙ ap (λ (s : Standing). (mark_at s.marks (get_or c.deref-block-items.result.now c.loop-block.block-index 0)).active) c.loop-block.invariant.counted
 
-  next_due : IsLeft (g.S.Sink.state c.args.out.now) (g.S.Sink.state c.loop-block.out) c.args.self.now c.loop-block.self (row_seen c.args.frame.now c.args.self.now c.deref-block-items.result.now)
+  next_due : IsLeft (paged (g.S.Sink.state c.args.out.now) []) (paged (g.S.Sink.state c.loop-block.out) c.loop-block.lines) c.args.self.now c.loop-block.self (row_seen c.args.frame.now c.args.self.now c.deref-block-items.result.now)
       (seen_at c.args.frame.now c.args.self.now (get_or c.deref-block-items.result.now c.loop-block.block-index 0) ++ row_seen c.args.frame.now c.args.self.now (drop (c.loop-block.block-index + 1) c.deref-block-items.result.now))
   next_due = left_as _ (row_next c.args.frame.now c.args.self.now c.deref-block-items.result.now c.loop-block.block-index (omega arith)) c.loop-block.invariant
 
@@ -56,16 +57,28 @@ module _ (g : Over) (c : After-is_active g) where
       let b = get_or c.deref-block-items.result.now c.loop-block.block-index 0 in
       seen_unless (mark_at c.args.self.now.marks b).active (outputs_seen b 1 (spec_of c.args.frame.now.net b).outs (values_at c.args.frame.now.net c.args.self.now.values b)) [] (sym marked ∙ off)
 
+pub loop-block-init : goal.loop-block-init
+loop-block-init g c =
+    let state = g.S.Sink.state c.args.out.now in
+    let whole = row_seen c.args.frame.now c.args.self.now c.deref-block-items.result.now in
+    subst (λ (waiting : List ℕ). IsLeft (paged state []) (paged state waiting) c.args.self.now c.args.self.now whole whole) (sym c.clear.ensures)
+    (left_begin (paged state []) c.args.self.now whole)
+
 pub returns-in_err-write_block-clause-written : goal.returns-in_err-write_block-clause-written
 returns-in_err-write_block-clause-written g c source y active shown among =
     let at = goal.at.returns-in_err-write_block-clause-written g c in
     let items = c.deref-block-items.result.now in
     let there = subst (AreAmong c.args.frame.now.net active) (sym c.deref-block-items.ensures.value) among in
-    subst (λ (os : List Obs). Writes (g.S.Sink.state c.args.out.now) (g.S.Sink.state c.write_block.new.out) (text os) c.from_residual.result)
+    let before = g.S.Sink.state c.args.out.now in
+    let after = g.S.Sink.state c.write_block.new.out in
+    let cut : Writes (paged before []) (paged after c.write_block.new.lines) (text (row_seen c.args.frame.now c.args.self.now items)) c.from_residual.result =
+    cut_in_more _ _ c.write_block.result c.from_residual.result _ _ c.in_err-write_block.was (search rules) (next_due g at.After-is_active)
+    (subst (λ (os : List Obs). Writes (paged (g.S.Sink.state c.loop-block.out) c.loop-block.lines) (paged after c.write_block.new.lines) (text os) c.write_block.result)
+    (seen_on g at.After-is_active c.if-is_active.true) c.write_block.ensures.written) in
+    subst (λ (os : List Obs). Writes before after (text os) c.from_residual.result)
     (row_is_seen c.args.frame.now source c.args.self.now y active items (by_number g at.After-deref-block-items) shown there)
-    (cut_in_more _ _ c.write_block.result c.from_residual.result _ _ c.in_err-write_block.was (search rules) (next_due g at.After-is_active)
-    (subst (λ (os : List Obs). Writes (g.S.Sink.state c.loop-block.out) (g.S.Sink.state c.write_block.new.out) (text os) c.write_block.result)
-    (seen_on g at.After-is_active c.if-is_active.true) c.write_block.ensures.written))
+    (from_none before after (text (row_seen c.args.frame.now c.args.self.now items)) c.from_residual.result
+    (none_kept after c.write_block.new.lines (text (row_seen c.args.frame.now c.args.self.now items)) c.from_residual.result _ (search rules) cut))
 
 pub loop-block-preserved : goal.loop-block-preserved
 loop-block-preserved g c =
@@ -73,15 +86,19 @@ loop-block-preserved g c =
     let f = c.args.frame.now in
     let s = c.args.self.now in
     let items = c.deref-block-items.result.now in
+    let before = g.S.Sink.state c.args.out.now in
+    let rest = row_seen f s (drop (c.loop-block.block-index + 1) items) in
     elim c.if-is_active.branch [
-      | then-is_active+in_ok-write_block w ↦ subst (λ (out : g.row.S.Denot). IsLeft (g.S.Sink.state c.args.out.now) (g.S.Sink.state out) s c.if-is_active.self (row_seen f s items) (row_seen f s (drop (c.loop-block.block-index + 1) items))) (sym w.out-is)
-          (subst (λ (t : Standing). IsLeft (g.S.Sink.state c.args.out.now) (g.S.Sink.state w.write_block.new.out) s t (row_seen f s items) (row_seen f s (drop (c.loop-block.block-index + 1) items))) (sym w.self-is)
+      | then-is_active+in_ok-write_block w ↦ subst (λ (out : g.row.S.Denot). IsLeft (paged before []) (paged (g.S.Sink.state out) c.if-is_active.lines) s c.if-is_active.self (row_seen f s items) rest) (sym w.out-is)
+          (subst (λ (waiting : List ℕ). IsLeft (paged before []) (paged (g.S.Sink.state w.write_block.new.out) waiting) s c.if-is_active.self (row_seen f s items) rest) (sym w.lines-is)
+          (subst (λ (t : Standing). IsLeft (paged before []) (paged (g.S.Sink.state w.write_block.new.out) w.write_block.new.lines) s t (row_seen f s items) rest) (sym w.self-is)
           (left_more _ _ w.write_block.result w.in_ok-write_block.field-0 w.in_ok-write_block.was (next_due g at)
-          (subst (λ (os : List Obs). Writes (g.S.Sink.state c.loop-block.out) (g.S.Sink.state w.write_block.new.out) (text os) w.write_block.result) (seen_on g at w.if-is_active.true) w.write_block.ensures.written)
-          (subst (λ (os : List Obs). w.write_block.new.self ≡ tallied c.loop-block.self os) (seen_on g at w.if-is_active.true) w.in_ok-write_block.ensures.counted)))
-      | else-is_active w ↦ subst (λ (out : g.row.S.Denot). IsLeft (g.S.Sink.state c.args.out.now) (g.S.Sink.state out) s c.if-is_active.self (row_seen f s items) (row_seen f s (drop (c.loop-block.block-index + 1) items))) (sym w.out-is)
-          (subst (λ (t : Standing). IsLeft (g.S.Sink.state c.args.out.now) (g.S.Sink.state c.loop-block.out) s t (row_seen f s items) (row_seen f s (drop (c.loop-block.block-index + 1) items))) (sym w.self-is)
-          (left_as _ (ap (λ (l : List Obs). l ++ row_seen f s (drop (c.loop-block.block-index + 1) items)) (seen_off g at w.if-is_active.false)) (next_due g at)))
+          (subst (λ (os : List Obs). Writes (paged (g.S.Sink.state c.loop-block.out) c.loop-block.lines) (paged (g.S.Sink.state w.write_block.new.out) w.write_block.new.lines) (text os) w.write_block.result) (seen_on g at w.if-is_active.true) w.write_block.ensures.written)
+          (subst (λ (os : List Obs). w.write_block.new.self ≡ tallied c.loop-block.self os) (seen_on g at w.if-is_active.true) w.in_ok-write_block.ensures.counted))))
+      | else-is_active w ↦ subst (λ (out : g.row.S.Denot). IsLeft (paged before []) (paged (g.S.Sink.state out) c.if-is_active.lines) s c.if-is_active.self (row_seen f s items) rest) (sym w.out-is)
+          (subst (λ (waiting : List ℕ). IsLeft (paged before []) (paged (g.S.Sink.state c.loop-block.out) waiting) s c.if-is_active.self (row_seen f s items) rest) (sym w.lines-is)
+          (subst (λ (t : Standing). IsLeft (paged before []) (paged (g.S.Sink.state c.loop-block.out) c.loop-block.lines) s t (row_seen f s items) rest) (sym w.self-is)
+          (left_as _ (ap (λ (l : List Obs). l ++ rest) (seen_off g at w.if-is_active.false)) (next_due g at))))
     ]
 
 pub returns-clause-written : goal.returns-clause-written
@@ -90,19 +107,23 @@ returns-clause-written g c source y active shown among =
     let items = c.deref-block-items.result.now in
     let there = subst (AreAmong c.args.frame.now.net active) (sym c.deref-block-items.ensures.value) among in
     let none = ap (row_seen c.args.frame.now c.args.self.now) (drop_all c.loop-block.block-index items (omega arith)) in
-    subst (λ (os : List Obs). Writes {T = Unit {0}} {E = Failed} (g.S.Sink.state c.args.out.now) (g.S.Sink.state c.loop-block.out) (text os) (Ok tt))
+    let left = left_as [] none c.loop-block.invariant in
+    let before = g.S.Sink.state c.args.out.now in
+    let after = g.S.Sink.state c.give.new.out in
+    subst (λ (os : List Obs). Writes before after (text os) c.give.result)
     (row_is_seen c.args.frame.now source c.args.self.now y active items (by_number g at) shown there)
-    (all_written tt (left_as [] none c.loop-block.invariant))
+    (as_written before after c.give.new.self (text (row_seen c.args.frame.now c.args.self.now items)) c.give.result c.give.ensures.empty
+    (last_given c.give.result left.written c.give.ensures.given))
 
 pub returns-clause-counted : goal.returns-clause-counted
-returns-clause-counted g c source y active shown among =
+returns-clause-counted g c = on_ok c.give.result (λ source y active shown among.
     let at = (goal.at.returns-clause-counted g c).After-deref-block-items in
     let items = c.deref-block-items.result.now in
     let there = subst (AreAmong c.args.frame.now.net active) (sym c.deref-block-items.ensures.value) among in
     let none = ap (row_seen c.args.frame.now c.args.self.now) (drop_all c.loop-block.block-index items (omega arith)) in
     subst (λ (os : List Obs). c.loop-block.self ≡ tallied c.args.self.now os)
     (row_is_seen c.args.frame.now source c.args.self.now y active items (by_number g at) shown there)
-    (all_counted (left_as [] none c.loop-block.invariant))
+    (all_counted (left_as [] none c.loop-block.invariant)))
 
 pub returns-in_err-write_block-clause-same : goal.returns-in_err-write_block-clause-same
 returns-in_err-write_block-clause-same g c = same_then c.args.self.now c.loop-block.self c.write_block.new.self (left_same c.loop-block.invariant) c.write_block.ensures.same

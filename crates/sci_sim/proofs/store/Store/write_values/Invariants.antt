@@ -1,9 +1,10 @@
-use Rattle.std.proofs.Common.{drop}
+use Rattle.std.proofs.Common.{[], drop}
+use Rattle.sci_sim.specs.Paged.{paged}
 use Rattle.sci_sim.proofs.Writing.{IsLeft, row_seen}
 use Rattle.sci_sim.proofs.store.Store.write_values.Given as goal
 
 -- the marked blocks so far are written
 abbrev pub invariant-loop-block : goal.invariant-loop-block
 invariant-loop-block g l =
-    IsLeft (g.S.Sink.state l.initial.out) (g.S.Sink.state l.out) l.initial.self l.self (row_seen l.frame l.initial.self l.block-items)
+    IsLeft (paged (g.S.Sink.state l.initial.out) []) (paged (g.S.Sink.state l.out) l.lines) l.initial.self l.self (row_seen l.frame l.initial.self l.block-items)
     (row_seen l.frame l.initial.self (drop l.block-index l.block-items))

@@ -1,0 +1,81 @@
+// Pieces of a line, each put behind what stands before it. Each call tells where its piece ends.
+ghost use Rattle.std.specs.Prelude.{◌≡◌, ◌+◌, ◌<◌, ◌≤◌, ◌++◌, ◌∷◌, [], codes, length, take};
+ghost use Rattle.std.specs.Fmt.{decimal, signed_decimal};
+
+use itoa::write_digits;
+
+/// How many digits a number has that has at most four.
+fn few_digits(n: u64) -> usize
+    requires { n < 10000 }
+    ensures { result ≡ length (decimal n) }
+{
+    if n < 10 {
+        1
+    } else if n < 100 {
+        2
+    } else if n < 1000 {
+        3
+    } else {
+        4
+    }
+}
+
+/// How many digits a number has.
+fn digits(n: u64) -> usize
+    ensures { result ≡ length (decimal n) }
+{
+    let mut left = n;
+    let mut count = 0;
+    while left >= 10000 {
+        left /= 10000;
+        count += 4;
+    }
+    count + few_digits(left)
+}
+
+/// A byte.
+pub fn byte_at(text: &mut [u8], at: usize, byte: u8) -> usize
+    requires { at < length text.old }
+    ensures text { take result text.new ≡ take at text.old ++ byte ∷ [] }
+    ensures end { result ≡ at + 1 }
+{
+    text[at] = byte;
+    at + 1
+}
+
+/// The digits of a number, at most 20.
+fn digits_at(text: &mut [u8], at: usize, n: u64) -> usize
+    requires { at + 20 ≤ length text.old }
+    ensures text { take result text.new ≡ take at text.old ++ decimal n }
+    ensures start { at ≤ result }
+    ensures end { result ≤ at + 20 }
+{
+    let end = at + digits(n);
+    write_digits(n, text, end);
+    end
+}
+
+/// A number with its sign, at most 21 bytes.
+pub fn number_at(text: &mut [u8], at: usize, n: i64) -> usize
+    requires { at + 21 ≤ length text.old }
+    ensures text { take result text.new ≡ take at text.old ++ signed_decimal n }
+    ensures start { at ≤ result }
+    ensures end { result ≤ at + 21 }
+{
+    if n < 0 {
+        let first = byte_at(text, at, b'-');
+        return digits_at(text, first, n.unsigned_abs());
+    }
+    digits_at(text, at, n.unsigned_abs())
+}
+
+/// A space, and a number behind it, at most 22 bytes.
+pub fn spaced_number_at(text: &mut [u8], at: usize, n: i64) -> usize
+    requires { at + 22 ≤ length text.old }
+    ensures text { take result text.new ≡ take at text.old ++ (codes " " ++ signed_decimal n) }
+    ensures start { at ≤ result }
+    ensures end { result ≤ at + 22 }
+{
+    let first = byte_at(text, at, b' ');
+    number_at(text, first, n)
+}
