@@ -1,12 +1,12 @@
 -- The chosen event's source reacts.
-use Rattle.std.proofs.Common.{◌≡◌, ℕ, zero, suc, ◌-◌, ◌<◌, ◌≤◌, inl, inr, List, ◌++◌, [], Some, true, false, nat_eq, refl, sym, ap, ◌∙◌, subst, arith, pos, eq-eqb, ne_eqb}
+use Rattle.std.proofs.Common.{◌≡◌, ℕ, zero, suc, ◌-◌, ◌<◌, ◌≤◌, inl, inr, List, ◌++◌, Some, false, refl, ap, ◌∙◌, subst, arith, pos, eq-eqb, ne_eqb}
 use Rattle.std.proofs.lemmas.Bool.{cases_lt}
 use Rattle.std.proofs.lemmas.List.{append-nil}
 use Rattle.sci_base.specs.declared.observation.Obs.{Obs}
 use Rattle.c_ast.specs.declared.Op.TheVariants.{Eq}
 use Rattle.c_ast.specs.Syntax.{var, bin, call, Block, done}
 use Rattle.c_mean.specs.Meaning.{World, truth, Around, Ran, How, going, undefined, over, halted, quietly, then_run, on_how, run_block}
-use Rattle.c_steps.specs.Places.{get, value_of}
+use Rattle.c_steps.specs.Places.{get}
 use Rattle.c_steps.specs.Texts.{May, upto}
 use Rattle.c_steps.specs.Runs.{LeftBy, Leaves}
 use Rattle.c_steps.proofs.Steps.{number_after, run_joined, run_done, then_same, then_going, if_runs, skip_runs, call_runs}

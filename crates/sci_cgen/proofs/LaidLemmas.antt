@@ -135,14 +135,6 @@ pub record LaidTo (n : Parts) (k : ℕ) (layouts : List Layout) (state : ℕ) : 
   pub within : k ≤ length n.specs
   pub states : state ≡ states_before n.specs k
 
-pub laid_none : (n : Parts) (layouts : List Layout) → layouts ≡ [] → LaidTo n 0 layouts 0
-laid_none n layouts e = record {
-  one_each = ap length e;
-  places = λ b h l. absurd (omega (arith, h, l));
-  within = omega arith;
-  states = omega arith;
-}
-
 -- one block more
 pub laid_next : (n : Parts) (k : ℕ) (old : List Layout) (state : ℕ) (one : Layout) (new : List Layout) (s : Spec) (len : ℕ) → LaidTo n k old state
     → k < length n.specs → plain_places one ≡ places_of n (k + 1) → new ≡ old ++ one ∷ [] → s ≡ spec_of n (k + 1) → len ≡ state_len_of s.kind s
@@ -166,12 +158,6 @@ laid_next n k old state one new s len h l e f g is = record {
               let here : b ≡ k + 1 = omega (arith, last, most) in
               numbered_new no_places (map plain_places old) (plain_places one) b (omega (arith, here, long, h.one_each)) ∙ (e ∙ ap (places_of n) (sym here))
         ]
-
-pub laid_all : (n : Parts) (k : ℕ) (layouts : List Layout) (state : ℕ) → k ≡ length n.specs → LaidTo n k layouts state → AreLaid n layouts
-laid_all n k layouts state e h = record {
-  one_each = h.one_each ∙ e;
-  places = λ b block. h.places b block.least (omega (arith, block.most, e));
-}
 
 -- ---- rows that are kept
 

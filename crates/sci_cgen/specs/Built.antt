@@ -1,5 +1,5 @@
 -- What the builder of a program goes by.
-use Rattle.std.specs.Prelude.{◌≡◌, ℕ, suc, ◌^◌, ◌<◌, Bool, false, List, [], map, length, slice_index_or, All}
+use Rattle.std.specs.Prelude.{◌≡◌, ℕ, ◌^◌, ◌<◌, Bool, false, List, [], map, length, All}
 use Rattle.sci_net.specs.Parts.{Parts, IsBlock, spec_of, numbered}
 use Rattle.sci_reaction.specs.Schedule.{Guard, Entry}
 use Rattle.sci_cgen_blocks.specs.declared.block_layout.Layout.{Layout}

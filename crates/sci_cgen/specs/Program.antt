@@ -1,18 +1,16 @@
 -- The C program of a net and its schedule.
-use Rattle.std.specs.Prelude.{ℕ, zero, suc, ◌+◌, ◌-◌, ◌^◌, ℤ, pos, negsuc, Bool, true, false, ◌&&◌, ◌||◌, not, nat_eq, nat_lt, List, [], ◌∷◌, ◌++◌, length, map, max, slice_index_or, if◌then◌else◌, Option, Some, None}
+use Rattle.std.specs.Prelude.{ℕ, zero, suc, ◌+◌, ◌-◌, ◌^◌, ℤ, pos, negsuc, Bool, true, false, ◌||◌, not, nat_eq, nat_lt, List, [], ◌∷◌, ◌++◌, length, map, max, slice_index_or, if◌then◌else◌, Some, None}
 use Rattle.std.specs.List.{list_any}
 use Rattle.std.specs.Int.{bit_at}
 use Rattle.sci_base.specs.Fit.{int_eq}
-use Rattle.sci_base.specs.Lists.{at}
 use Rattle.sci_forms.specs.declared.Kind.{Kind}
 use Rattle.sci_forms.specs.declared.Kind.TheVariants.{Select, AndLog}
 use Rattle.sci_forms.specs.declared.ports.Port.{Port as Output}
 use Rattle.sci_forms.specs.declared.spec.Spec.{Spec}
-use Rattle.sci_forms.specs.Ports.{elements, total}
+use Rattle.sci_forms.specs.Ports.{elements}
 use Rattle.sci_forms.specs.Forms.{is_sync, has_state}
 use Rattle.sci_forms.specs.Words.{state_len_of}
 use Rattle.sci_kinds.specs.Table.{first_state, first_held}
-use Rattle.sci_net.specs.declared.Feed.{Feed}
 use Rattle.sci_net.specs.declared.Source.{Source}
 use Rattle.sci_net.specs.declared.Source.TheVariants.{Start, Port}
 use Rattle.sci_net.specs.Parts.{Parts, spec_of}

@@ -1,5 +1,5 @@
 -- What the memory of the generated program shows of a net's run: between two reactions, and in the midst of one.
-use Rattle.std.specs.Prelude.{◌≡◌, ℕ, ◌+◌, ◌-◌, ◌<◌, ◌≤◌, ℤ, pos, negsuc, ◌||◌, List, [], drop, length, Bool, true, false, Some, Contains, if◌then◌else◌}
+use Rattle.std.specs.Prelude.{◌≡◌, ℕ, ◌+◌, ◌-◌, ◌<◌, ◌≤◌, ℤ, pos, ◌||◌, List, [], drop, Bool, true, false, Some, if◌then◌else◌}
 use Rattle.sci_base.specs.Lists.{at}
 use Rattle.sci_forms.specs.Ports.{total}
 use Rattle.sci_forms.specs.Forms.{is_sync}

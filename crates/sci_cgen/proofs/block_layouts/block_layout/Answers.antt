@@ -1,4 +1,4 @@
-use Rattle.std.proofs.Common.{◌≡◌, ◌<◌, ◌^◌, List, All, ap, sym, subst, ◌∙◌, arith, map}
+use Rattle.std.proofs.Common.{◌≡◌, ◌<◌, ◌^◌, All, ap, sym, subst, ◌∙◌, arith, map}
 use Rattle.sci_places.specs.declared.span.Span.{Span}
 use Rattle.sci_places.specs.Flat.{start_of}
 use Rattle.sci_places.specs.Layout.{BlockPlace}

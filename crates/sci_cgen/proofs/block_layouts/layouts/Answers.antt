@@ -1,4 +1,4 @@
-use Rattle.std.proofs.Common.{◌<◌, ◌+◌, length, arith}
+use Rattle.std.proofs.Common.{◌<◌, length, arith}
 use Rattle.sci_cgen.proofs.LaidLemmas.{states_small, laid_next}
 use Rattle.sci_cgen.proofs.block_layouts.layouts.Goals as goal
 

@@ -1,4 +1,4 @@
-use Rattle.std.proofs.Common.{arith, ◌<◌, ◌+◌, length, ◌∙◌}
+use Rattle.std.proofs.Common.{arith, ◌<◌, length, ◌∙◌}
 use Rattle.sci_places.proofs.Laid.{max_is}
 use Rattle.sci_cgen.proofs.DeclaredLemmas.{scratch_more}
 use Rattle.sci_cgen.proofs.declared_names.scratch_count.Goals as goal

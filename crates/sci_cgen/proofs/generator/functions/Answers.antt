@@ -1,4 +1,4 @@
-use Rattle.std.proofs.Common.{◌≡◌, suc, false, ◌++◌, map, length, slice_index_or, ap, ◌∙◌}
+use Rattle.std.proofs.Common.{suc, false, ◌++◌, map, length, slice_index_or, ap, ◌∙◌}
 use Rattle.c_ast.specs.View.{function_of}
 use Rattle.sci_net.specs.Sources.{sources_of}
 use Rattle.sci_sched.specs.Plain.{rows_of}

@@ -1,4 +1,4 @@
-use Rattle.std.proofs.Common.{arith, ◌≡◌, suc, ◌+◌, ◌++◌, map, length, slice_index_or, false, sym, ap, ◌∙◌}
+use Rattle.std.proofs.Common.{arith, ◌≡◌, suc, ◌+◌, ◌++◌, map, length, slice_index_or, false, ap, ◌∙◌}
 use Rattle.c_ast.specs.View.{function_of}
 use Rattle.sci_cgen.specs.Program.{functions_upto}
 use Rattle.sci_cgen.specs.Built.{marked_function}

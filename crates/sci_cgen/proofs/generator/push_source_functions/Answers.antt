@@ -1,4 +1,4 @@
-use Rattle.std.proofs.Common.{arith, ◌≡◌, ◌<◌, ◌++◌, map, length, sym, ap, ◌∙◌}
+use Rattle.std.proofs.Common.{arith, ◌≡◌, ◌<◌, ◌++◌, map, length, ap, ◌∙◌}
 use Rattle.c_ast.specs.View.{function_of}
 use Rattle.sci_net.specs.Sources.{sources_of, source_of}
 use Rattle.sci_sched.specs.Plain.{rows_of}

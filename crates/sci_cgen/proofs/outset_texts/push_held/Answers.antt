@@ -1,4 +1,4 @@
-use Rattle.std.proofs.Common.{arith, rules, w64, of_z, to_z, ◌+◌, ◌<◌, ℤ, negsuc, sym, ap, subst, ◌∙◌}
+use Rattle.std.proofs.Common.{arith, rules, w64, ◌+◌, ◌<◌, ℤ, negsuc, sym, ap, subst, ◌∙◌}
 use Rattle.std.specs.Prelude.{◌≤ℤ◌}
 use Rattle.std.proofs.lemmas.Int.{to_z-of_z}
 use Rattle.sci_forms.specs.Ports.{total}
