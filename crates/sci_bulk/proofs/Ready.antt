@@ -28,7 +28,7 @@ insides_append : (xs ys : List Object) → AreInsidesShort (objects_of xs) → A
 insides_append [] ys h k = k
 insides_append (x ∷ xs) ys h k = (h.0, insides_append xs ys h.1 k)
 
-same_list : (xs : List Object) → listed (objects_of xs) ≡ xs
+pub same_list : (xs : List Object) → listed (objects_of xs) ≡ xs
 same_list [] = refl
 same_list (x ∷ xs) = ap (λ (l : List Object). x ∷ l) (same_list xs)
 
