@@ -1,21 +1,20 @@
 -- A bulk diagram breaks no rule, and its run ends by the bound on events.
-use Rattle.std.proofs.Common.{◌≡◌, ◌≤◌, ◌<◌, ◌+◌, ◌*◌, ◌^◌, ◌++◌, ◌⊎◌, inl, inr, ℕ, zero, suc, List, [], ◌∷◌, length, Result, Ok, Err, refl, sym, ◌∙◌, ap, subst, arith}
+use Rattle.std.proofs.Common.{◌≡◌, ◌≤◌, ◌+◌, ◌*◌, ◌^◌, ◌++◌, inl, inr, ℕ, List, [], ◌∷◌, length, Ok, Err, sym, ap, subst, arith}
 use Rattle.sci_base.specs.Plain.{Violation}
 use Rattle.sci_base.specs.declared.observation.Obs.{Obs}
 use Rattle.sci_base.specs.declared.observation.Obs.TheVariants.{End}
 use Rattle.sci_base.specs.declared.observation.EndWord.TheVariants.{Events}
-use Rattle.sci_diagram.specs.Objects.{Objects, objects_of}
+use Rattle.sci_diagram.specs.Objects.{objects_of}
 use Rattle.sci_net.specs.Parts.{Parts}
 use Rattle.sci_net.specs.Sources.{sources_of, source_of}
 use Rattle.sci_reaction.specs.Memory.{Columns}
 use Rattle.sci_run.specs.Run.{IsRun}
-use Rattle.sci_sched.specs.Size.{size_of}
 use Rattle.sci_sched.specs.Answer.{IsPlanBreak}
 use Rattle.sci_flat.specs.Flat.{IsFlatNet}
 use Rattle.sci_infer.specs.Answer.{IsAnswer}
 use Rattle.sci_bulk.specs.declared.data_block.DataBlock.{DataBlock}
-use Rattle.sci_bulk.specs.Bulk.{data_blocks, drawing, bulk}
-use Rattle.sci_bulk.specs.Laws.{IsForward, IsRestless, IsAccepted, BulkIsAccepted, BulkEndsByEvents}
+use Rattle.sci_bulk.specs.Bulk.{data_blocks, drawing}
+use Rattle.sci_bulk.specs.Laws.{IsRestless, IsAccepted, BulkIsAccepted, BulkEndsByEvents}
 use Rattle.sci_bulk.proofs.Ready.{data_length}
 use Rattle.sci_bulk.proofs.Forward.{forward_is_free, forward_is_short}
 use Rattle.sci_bulk.proofs.Restless.{restless_ends_by_events}

@@ -1,12 +1,11 @@
 -- A bulk diagram gives a flat net: no rule on tags, blocks, links and feeding is broken.
-use Rattle.std.proofs.Common.{◌≡◌, ◌≤◌, ◌<◌, ◌+◌, ◌-◌, ◌++◌, ◌⊎◌, inl, inr, ℕ, zero, suc, List, [], ◌∷◌, length, map, Bool, true, false, Option, Some, None, Ok, Err, ℤ, pos, negsuc, refl, sym, ◌∙◌, ap, subst, arith}
-use Rattle.std.specs.Prelude.{slice_get, slice_index_or}
+use Rattle.std.proofs.Common.{◌≡◌, ◌≤◌, ◌<◌, ◌+◌, inl, inr, ℕ, zero, suc, List, [], ◌∷◌, length, false, Some, Ok, Err, pos, refl, sym, ◌∙◌, ap, subst, arith}
+use Rattle.std.specs.Prelude.{slice_get}
 use Rattle.sci_base.specs.Plain.{Violation}
 use Rattle.sci_base.specs.Outcome.{Outcome, ◌>>=◌}
-use Rattle.sci_diagram.specs.Objects.{Object, Objects, objects_of}
+use Rattle.sci_diagram.specs.Objects.{Objects, objects_of}
 use Rattle.sci_forms.specs.declared.spec.Spec.{Spec}
 use Rattle.sci_net.specs.declared.Wire.{Wire}
-use Rattle.sci_net.specs.declared.Feed.{Feed}
 use Rattle.sci_net.specs.Parts.{numbered, no_spec, is_sensor}
 use Rattle.sci_blocks.specs.declared.class.PortClass.TheVariants.{Input, Output, ActivationInput, ActivationOutput}
 use Rattle.sci_blocks.specs.Blocks.{Placed, placed, parts_of}
@@ -14,7 +13,7 @@ use Rattle.sci_blocks.specs.Wiring.{links_of}
 use Rattle.sci_goto.specs.Phase.{Tags, tags_of, no_tags}
 use Rattle.sci_flat.specs.Chain.{Step}
 use Rattle.sci_flat.specs.Ports.{Port, port}
-use Rattle.sci_flat.specs.Flat.{blocks, block_at, FedBy, IsWire, IsFeed}
+use Rattle.sci_flat.specs.Flat.{blocks, block_at, IsWire, IsFeed}
 use Rattle.sci_flat.specs.Refused.{HasInput, IsFed, IsTaken, BreaksBlocks, Breaks}
 use Rattle.sci_bulk.specs.declared.data_block.DataBlock.{DataBlock}
 use Rattle.sci_bulk.specs.declared.data_block.DataBlock.TheVariants.{One, Delay, Sum, Triple}
@@ -23,7 +22,7 @@ use Rattle.sci_bulk.proofs.Shapes.{each_spec, clock_spec, data_spec, specs_of}
 use Rattle.sci_bulk.proofs.Drawn.{IsDrawn, AreDrawn, drawn_at, each_number, specs_length, IsOf, is_clock, is_data, is_of, clock_number, data_number, data_within}
 use Rattle.sci_bulk.proofs.Placing.{placed_from, tags_kept, parts_kept, block_is, placed_length}
 use Rattle.sci_bulk.proofs.Linking.{links_kept}
-use Rattle.sci_bulk.proofs.Stepping.{steps_in, steps_into, single, chained, data_step, own_step, earlier_step}
+use Rattle.sci_bulk.proofs.Stepping.{steps_in, single, chained, data_step, own_step, earlier_step}
 
 all_blocks : (a : Outcome Tags) (b : Outcome (List Placed)) (c : Outcome (Unit {0})) (t : Tags) (ps : List Placed) → a ≡ Ok t → b ≡ Ok ps → c ≡ Ok tt → (a >>= λ _. b >>= λ qs. c >>= λ _. Ok qs) ≡ Ok ps
 all_blocks a b c t ps h k l = rw (h, k, l) refl

@@ -1,16 +1,14 @@
 -- The flat net of a bulk diagram is typed as it is declared, and keeps the rules on types and sizes.
-use Rattle.std.proofs.Common.{◌≡◌, ◌≤◌, ◌<◌, ◌+◌, ◌*◌, ◌++◌, ◌⊎◌, inl, inr, ℕ, zero, suc, List, [], ◌∷◌, length, map, Bool, true, false, Option, Some, None, Result, Ok, Err, ℤ, pos, negsuc, ◌<ℤ◌, ◌≤ℤ◌, refl, sym, ◌∙◌, ap, subst, arith, length-append}
+use Rattle.std.proofs.Common.{◌≡◌, ◌≤◌, ◌+◌, ◌*◌, ◌++◌, inl, inr, ℕ, zero, suc, List, [], ◌∷◌, length, map, Bool, true, false, Option, Some, None, Result, Ok, ℤ, pos, ◌<ℤ◌, refl, sym, ◌∙◌, ap, subst, arith, length-append}
 use Rattle.std.specs.Prelude.{slice_get, nat_le, if◌then◌else◌}
 use Rattle.std.proofs.lemmas.Int.{ints}
 use Rattle.std.proofs.lemmas.Bool.Decides.{nat_tests}
-use Rattle.std.proofs.lemmas.Option.{slice_get_within}
 use Rattle.sci_base.specs.Lists.{at}
 use Rattle.sci_base.specs.Plain.{Violation}
-use Rattle.sci_forms.specs.declared.broken.Broken.{Broken}
 use Rattle.sci_forms.specs.declared.ports.Port.{Port}
 use Rattle.sci_forms.specs.declared.spec.Spec.{Spec}
 use Rattle.sci_forms.specs.Forms.{or_else}
-use Rattle.sci_net.specs.Parts.{Parts, wire_of}
+use Rattle.sci_net.specs.Parts.{Parts}
 use Rattle.sci_net.specs.Net.{all_elements}
 use Rattle.sci_infer.specs.declared.parts.Part.{Part}
 use Rattle.sci_infer.specs.declared.parts.Side.{Side}
@@ -21,13 +19,13 @@ use Rattle.sci_infer.specs.declared.values.Verdict.{Verdict}
 use Rattle.sci_infer.specs.declared.values.Verdict.TheVariants.{Conflict, Open, Values}
 use Rattle.sci_infer.specs.Values.{declared_at}
 use Rattle.sci_infer.specs.Typing.{IsAllowed, IsAt, Fits, declared_of, Decides}
-use Rattle.sci_infer.specs.PortParts.{port_parts, side_parts, block_parts, parts_from, parts_in, AreWired, AreShared, AreTied}
+use Rattle.sci_infer.specs.PortParts.{side_parts, block_parts, parts_from, parts_in, AreTied}
 use Rattle.sci_infer.specs.Typed.{typed_port, typed_ports, typed_spec, typed_specs, typed_parts}
 use Rattle.sci_infer.specs.Broken.{Blamed, spec_broken, blamed, specs_broken, outs_large, specs_large, sum_large, net_broken}
 use Rattle.sci_infer.specs.Answer.{judged, answered, IsAnswer}
 use Rattle.sci_bulk.specs.declared.data_block.DataBlock.{DataBlock}
 use Rattle.sci_bulk.specs.declared.data_block.DataBlock.TheVariants.{One, Delay, Sum, Triple}
-use Rattle.sci_bulk.proofs.Shapes.{Each, each_append, each_spec, int32, clock_spec, data_spec, specs_of}
+use Rattle.sci_bulk.proofs.Shapes.{Each, each_append, each_spec, int32, data_spec, specs_of}
 use Rattle.sci_bulk.proofs.Drawn.{get_some, each_get}
 
 -- ---- lists

@@ -1,8 +1,8 @@
 -- The blocks of a bulk diagram: no tag, no port block, and each block keeps the form of its kind.
-use Rattle.std.proofs.Common.{◌≡◌, ◌≤◌, ◌<◌, ◌+◌, ◌++◌, ℕ, zero, suc, List, [], ◌∷◌, length, map, Ok, Err, refl, sym, ◌∙◌, ap, subst, arith}
+use Rattle.std.proofs.Common.{◌≡◌, ◌≤◌, ◌<◌, ◌+◌, ◌++◌, ℕ, zero, suc, List, [], ◌∷◌, length, map, Ok, refl, ◌∙◌, ap, arith}
 use Rattle.std.specs.Prelude.{slice_index_or}
 use Rattle.sci_base.specs.Outcome.{Outcome, ◌>>=◌}
-use Rattle.sci_diagram.specs.Objects.{Object, Objects, objects_of, listed}
+use Rattle.sci_diagram.specs.Objects.{Object, Objects, objects_of}
 use Rattle.sci_forms.specs.declared.spec.Spec.{Spec}
 use Rattle.sci_net.specs.Parts.{numbered, no_spec}
 use Rattle.sci_blocks.specs.declared.class.PortClass.{PortClass}
@@ -13,7 +13,7 @@ use Rattle.sci_goto.specs.Phase.{Standing, standing, standing_in, no_tags, tags_
 use Rattle.sci_goto.proofs.Untagged.{untagged_law}
 use Rattle.sci_bulk.specs.declared.data_block.DataBlock.{DataBlock}
 use Rattle.sci_bulk.specs.Bulk.{drawing}
-use Rattle.sci_bulk.proofs.Shapes.{Each, IsUntagged, all_untagged, IsUnnumbered, all_unnumbered, IsGiven, AreGiven, all_given, GivesNone, links_none, block_objects, link_objects, specs_of}
+use Rattle.sci_bulk.proofs.Shapes.{Each, IsUntagged, all_untagged, IsUnnumbered, all_unnumbered, AreGiven, all_given, GivesNone, links_none, block_objects, link_objects, specs_of}
 
 -- ---- no tags
 

@@ -1,33 +1,32 @@
 -- The net of a bulk diagram: values depend on those of earlier blocks alone, and each clock goes on.
-use Rattle.std.proofs.Common.{◌≡◌, ◌≤◌, ◌<◌, ◌+◌, ◌*◌, ◌^◌, ◌++◌, ◌⊎◌, inl, inr, ℕ, zero, suc, List, [], ◌∷◌, length, map, Bool, true, false, ◌&&◌, ◌||◌, Option, Some, None, Result, Ok, Err, ℤ, pos, negsuc, ◌*ℤ◌, refl, sym, ◌∙◌, ap, subst, arith, length-append, lit≤}
-use Rattle.std.specs.Prelude.{slice_get, slice_index_or, Contains, ◌↔◌, if◌then◌else◌}
+use Rattle.std.proofs.Common.{◌≡◌, ◌≤◌, ◌<◌, ◌+◌, ℕ, zero, suc, List, [], ◌∷◌, length, map, Bool, true, false, ◌&&◌, ◌||◌, Some, ℤ, pos, negsuc, ◌*ℤ◌, refl, sym, ◌∙◌, ap, subst, arith}
+use Rattle.std.specs.Prelude.{slice_index_or, Contains, if◌then◌else◌}
 use Rattle.sci_base.specs.declared.Ty.{Ty}
 use Rattle.sci_base.specs.declared.Mode.TheVariants.{Wrap}
 use Rattle.sci_base.specs.Fit.{fit, wrap, in_range}
-use Rattle.sci_diagram.specs.Objects.{Objects, objects_of}
+use Rattle.sci_diagram.specs.Objects.{objects_of}
 use Rattle.sci_forms.specs.declared.spec.Spec.{Spec}
 use Rattle.sci_forms.specs.Forms.{is_sync}
 use Rattle.sci_forms.specs.Words.{out_type, size, param}
 use Rattle.sci_kinds.specs.declared.Cell.{Cell}
 use Rattle.sci_kinds.specs.declared.Cell.TheVariants.{Value}
-use Rattle.sci_kinds.specs.Table.{Answer, Values, fitted, then_cell, cell, out, delay, sum_to, input}
+use Rattle.sci_kinds.specs.Table.{Values, fitted, then_cell, cell, out, delay, sum_to, input}
 use Rattle.sci_base.specs.Lists.{at}
 use Rattle.sci_net.specs.declared.Source.{Source}
 use Rattle.sci_net.specs.declared.Source.TheVariants.{Start, Port}
 use Rattle.sci_net.specs.declared.Feed.{Feed}
-use Rattle.sci_net.specs.Parts.{Parts, numbered, no_spec, spec_of, wire_of, feeds_of, is_sensor, IsBlock, IsInput, IsActivationInput}
-use Rattle.sci_net.specs.Sources.{block_sources, sources_from, sources_of}
-use Rattle.sci_reaction.specs.Links.{SuppliesThrough, Feeds}
-use Rattle.sci_reaction.specs.Active.{IsSync}
-use Rattle.sci_run.specs.Activity.{Activity, is_halt, halts_from, halts}
+use Rattle.sci_net.specs.Parts.{Parts, numbered, no_spec, spec_of, wire_of, is_sensor, IsActivationInput}
+use Rattle.sci_net.specs.Sources.{sources_from, sources_of}
+use Rattle.sci_reaction.specs.Links.{Feeds}
+use Rattle.sci_run.specs.Activity.{Activity, is_halt, halts_from}
 use Rattle.sci_run.specs.Programs.{firing_of}
 use Rattle.sci_blocks.specs.Blocks.{Placed}
-use Rattle.sci_flat.specs.Flat.{blocks, IsWire, IsFeed, IsFeedList, IsFlatNet}
+use Rattle.sci_flat.specs.Flat.{blocks, IsWire, IsFeed, IsFlatNet}
 use Rattle.sci_bulk.specs.declared.data_block.DataBlock.{DataBlock}
 use Rattle.sci_bulk.specs.declared.data_block.DataBlock.TheVariants.{One, Delay, Sum, Triple}
 use Rattle.sci_bulk.specs.Bulk.{clocks, drawing}
 use Rattle.sci_bulk.specs.Laws.{IsForward, IsRestless}
-use Rattle.sci_bulk.proofs.Shapes.{Each, each_append, each_spec, clock_spec, data_spec, specs_of}
+use Rattle.sci_bulk.proofs.Shapes.{Each, each_spec, clock_spec, data_spec, specs_of}
 use Rattle.sci_bulk.proofs.Drawn.{AreDrawn, each_number, specs_length, clock_number}
 use Rattle.sci_bulk.proofs.Placing.{placed_from, placed_specs}
 use Rattle.sci_bulk.proofs.Feeding.{same_value, never_sensor, blocks_kept, wire_earlier, own_feed}

@@ -1,17 +1,15 @@
 -- The objects of a bulk diagram by their shapes, and what holds of each shape.
-use Rattle.std.proofs.Common.{◌≡◌, ◌≤◌, ◌<◌, ◌+◌, ◌++◌, ℕ, zero, suc, List, [], ◌∷◌, length, map, codes, Bool, true, false, Option, Some, None, Ok, Err, ℤ, pos, negsuc, refl, sym, ◌∙◌, ap, subst, arith}
+use Rattle.std.proofs.Common.{◌≡◌, ◌++◌, ℕ, suc, List, [], ◌∷◌, map, codes, true, false, Ok, ℤ, pos, refl}
 use Rattle.std.specs.Str.{bytes_eq}
-use Rattle.sci_base.specs.Plain.{Fields}
-use Rattle.sci_base.specs.Outcome.{Outcome, ◌>>=◌}
-use Rattle.sci_diagram.specs.Objects.{Object, Objects, objects_of, listed}
+use Rattle.sci_diagram.specs.Objects.{Object}
 use Rattle.sci_forms.specs.declared.Kind.TheVariants.{Const, Summation, GainBlk, Dollar, EvtDly}
 use Rattle.sci_forms.specs.declared.ports.Port.{Port}
 use Rattle.sci_forms.specs.declared.spec.Spec.{Spec}
 use Rattle.sci_blocks.specs.declared.class.PortClass.{PortClass}
 use Rattle.sci_blocks.specs.declared.class.PortClass.TheVariants.{Input, Output, ActivationInput, ActivationOutput}
-use Rattle.sci_blocks.specs.Blocks.{Placed, placed, object_parts}
+use Rattle.sci_blocks.specs.Blocks.{placed, object_parts}
 use Rattle.sci_blocks.specs.Ports.{name_of, named_number, object_number}
-use Rattle.sci_goto.specs.Phase.{Standing, object_standing}
+use Rattle.sci_goto.specs.Phase.{object_standing}
 use Rattle.sci_bulk.specs.declared.data_block.DataBlock.{DataBlock}
 use Rattle.sci_bulk.specs.declared.data_block.DataBlock.TheVariants.{One, Delay, Sum, Triple}
 use Rattle.sci_bulk.specs.Bulk.{clocks, clock, data_object, activates, feeds, clock_link, links_into, links_from, drawing}

@@ -1,18 +1,17 @@
 -- The steps of a bulk diagram: one along each link. A chain from an output to an input is one of them.
-use Rattle.std.proofs.Common.{◌≡◌, ◌≤◌, ◌<◌, ◌+◌, ◌++◌, ◌⊎◌, inl, inr, ℕ, zero, suc, List, [], ◌∷◌, length, map, Bool, true, false, Option, Some, None, Ok, Err, ℤ, pos, negsuc, refl, sym, ◌∙◌, ap, subst, arith, append-nil}
+use Rattle.std.proofs.Common.{◌≡◌, ◌≤◌, ◌<◌, ◌+◌, ◌++◌, inl, inr, ℕ, zero, suc, List, [], ◌∷◌, map, Bool, true, false, Some, ℤ, pos, refl, sym, ◌∙◌, ap, subst, arith, append-nil}
 use Rattle.std.specs.Prelude.{slice_get, slice_index_or}
-use Rattle.std.specs.List.{zip}
 use Rattle.sci_base.specs.Outcome.{Outcome}
-use Rattle.sci_diagram.specs.Objects.{Object, Objects, objects_of}
+use Rattle.sci_diagram.specs.Objects.{Object, objects_of}
 use Rattle.sci_blocks.specs.declared.class.PortClass.{PortClass}
 use Rattle.sci_blocks.specs.declared.class.PortClass.TheVariants.{Input, Output, ActivationInput, ActivationOutput}
-use Rattle.sci_goto.specs.Phase.{Tags, tags_of}
+use Rattle.sci_goto.specs.Phase.{Tags}
 use Rattle.sci_flat.specs.Chain.{Step, Chain, stay, onward}
 use Rattle.sci_flat.specs.Ports.{Port, port, PortStep, steps_of, object_steps, tree_steps}
 use Rattle.sci_flat.specs.Tagged.{tag_steps, all_steps}
 use Rattle.sci_bulk.specs.declared.data_block.DataBlock.{DataBlock}
 use Rattle.sci_bulk.specs.declared.data_block.DataBlock.TheVariants.{One, Delay, Sum, Triple}
-use Rattle.sci_bulk.specs.Bulk.{clocks, clock, data_object, activates, feeds, clock_link, links_into, links_from, drawing}
+use Rattle.sci_bulk.specs.Bulk.{clocks, clock, data_object, activates, feeds, links_into, links_from, drawing}
 use Rattle.sci_bulk.proofs.Shapes.{Each, each_append, each_block, block_objects, link_objects}
 use Rattle.sci_bulk.proofs.Drawn.{IsDrawn, AreDrawn, eight}
 use Rattle.sci_bulk.proofs.Placing.{tags_kept}
