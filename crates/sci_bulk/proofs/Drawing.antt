@@ -1,5 +1,5 @@
 -- Data blocks are drawn one after the other.
-use Rattle.std.proofs.Common.{◌≡◌, ◌+◌, ◌-◌, ◌<◌, ◌++◌, ℕ, suc, List, [], ◌∷◌, refl, sym, ◌∙◌, ap, arith, add-one, append_assoc}
+use Rattle.std.proofs.Common.{◌≡◌, ◌+◌, ◌-◌, ◌<◌, ◌++◌, ℕ, suc, List, [], ◌∷◌, sym, ◌∙◌, ap, arith, add-one, append_assoc}
 use Rattle.sci_bulk.specs.declared.data_block.DataBlock.{DataBlock}
 use Rattle.sci_bulk.specs.Bulk.{data_block, behind_block, blocks_from}
 

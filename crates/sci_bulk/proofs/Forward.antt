@@ -1,5 +1,5 @@
 -- Nets without branches, whose values depend on those of earlier blocks alone: no loops, and short schedules.
-use Rattle.std.proofs.Common.{◌≡◌, ◌≤◌, ◌<◌, ◌+◌, ◌*◌, ◌⊎◌, inl, inr, ℕ, zero, suc, List, [], ◌∷◌, length, map, slice_index_or, Contains, Bool, true, false, eqb, refl, sym, ◌∙◌, ap, subst, arith, true≢false}
+use Rattle.std.proofs.Common.{◌≡◌, ◌≤◌, ◌<◌, ◌+◌, ◌*◌, inl, inr, ℕ, suc, List, [], ◌∷◌, length, slice_index_or, Contains, Bool, true, false, eqb, refl, sym, ap, arith}
 use Rattle.std.specs.List.{sum_by, list_any, IsDistinct}
 use Rattle.std.proofs.Math.Nat.{mul-suc}
 use Rattle.std.proofs.lemmas.List.Sums.{sum_by-cons}
@@ -12,12 +12,12 @@ use Rattle.sci_net.specs.declared.Source.{Source}
 use Rattle.sci_net.specs.Parts.{Parts}
 use Rattle.sci_net.specs.Sources.{sources_of, source_of}
 use Rattle.sci_reaction.specs.Depends.{Depends, IsLoopFree}
-use Rattle.sci_reaction.specs.Schedule.{Guard, Entry, blocks_of, IsEntry, IsRow, IsSchedule}
+use Rattle.sci_reaction.specs.Schedule.{Guard, Entry, blocks_of, IsEntry, IsRow}
 use Rattle.sci_reaction.proofs.Lists.{Has}
 use Rattle.sci_reaction.proofs.Spreading.{Spread-block}
 use Rattle.sci_reaction.proofs.OneResult.{irreflexive}
 use Rattle.sci_reaction.proofs.Rows.{Sorted, sorted_row, has-Contains}
-use Rattle.sci_sched.specs.Size.{entry_count, guards_in, guard_count, size_of}
+use Rattle.sci_sched.specs.Size.{entry_count, guards_in, guard_count}
 use Rattle.sci_bulk.specs.Laws.{IsForward, ForwardIsFree, ForwardIsShort}
 
 -- ---- lists

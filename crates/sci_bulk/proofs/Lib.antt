@@ -2,3 +2,12 @@ pub mod Drawing
 pub mod Ready
 pub mod Forward
 pub mod Restless
+pub mod Shapes
+pub mod Drawn
+pub mod Placing
+pub mod Linking
+pub mod Stepping
+pub mod Feeding
+pub mod Inferring
+pub mod Running
+pub mod Accepting

@@ -1,13 +1,13 @@
 -- A bulk diagram keeps the bounds of a diagram that is read.
-use Rattle.std.proofs.Common.{◌≡◌, ◌≤◌, ◌<◌, ◌+◌, ◌-◌, ◌*◌, ◌^◌, ◌++◌, ℕ, zero, suc, List, [], ◌∷◌, length, map, refl, sym, ◌∙◌, ap, arith, pos}
+use Rattle.std.proofs.Common.{◌≡◌, ◌≤◌, ◌+◌, ◌-◌, ◌*◌, ◌++◌, ℕ, zero, suc, List, [], ◌∷◌, length, map, refl, ◌∙◌, ap, arith, pos}
 use Rattle.std.proofs.lemmas.List.{length-append}
-use Rattle.sci_diagram.specs.Objects.{Object, Objects, objects_of, listed}
+use Rattle.sci_diagram.specs.Objects.{Object, objects_of, listed}
 use Rattle.sci_diagram.specs.Count.{blocks_in}
 use Rattle.sci_blocks.specs.Sizes.{AreInsidesShort}
 use Rattle.sci_flat.specs.Ready.{AreFieldsSmall, AreSmall, ports_in, IsReady}
 use Rattle.sci_bulk.specs.declared.data_block.DataBlock.{DataBlock}
 use Rattle.sci_bulk.specs.declared.data_block.DataBlock.TheVariants.{One, Delay, Sum, Triple}
-use Rattle.sci_bulk.specs.Bulk.{fields, behind_block, blocks_from, data_blocks, clocks, clock, data_object, clock_link, links_into, links_from, drawing, bulk}
+use Rattle.sci_bulk.specs.Bulk.{fields, behind_block, blocks_from, data_blocks, clocks, clock, data_object, clock_link, links_into, links_from, drawing}
 use Rattle.sci_bulk.specs.Laws.{BulkIsReady}
 
 -- ---- counts of lists
@@ -28,7 +28,7 @@ insides_append : (xs ys : List Object) → AreInsidesShort (objects_of xs) → A
 insides_append [] ys h k = k
 insides_append (x ∷ xs) ys h k = (h.0, insides_append xs ys h.1 k)
 
-same_list : (xs : List Object) → listed (objects_of xs) ≡ xs
+pub same_list : (xs : List Object) → listed (objects_of xs) ≡ xs
 same_list [] = refl
 same_list (x ∷ xs) = ap (λ (l : List Object). x ∷ l) (same_list xs)
 

@@ -1,11 +1,11 @@
 -- The run of a net that never rests ends by the bound on events.
-use Rattle.std.proofs.Common.{◌≡◌, ◌≢◌, ◌≤◌, ◌<◌, ◌+◌, ◌-◌, ◌*◌, ◌==◌, ◌++◌, ◌⊎◌, inl, inr, ℕ, zero, suc, ℤ, pos, negsuc, List, [], ◌∷◌, length, slice_index_or, Contains, Bool, true, false, cond, not, Option, Some, None, refl, sym, ◌∙◌, ap, subst, arith, append_assoc}
-use Rattle.std.specs.Prelude.{Ok, Err, nat_lt, filter, if◌then◌else◌}
+use Rattle.std.proofs.Common.{◌≡◌, ◌≢◌, ◌≤◌, ◌<◌, ◌+◌, ◌-◌, ◌*◌, ◌==◌, ◌++◌, ℕ, zero, suc, ℤ, pos, negsuc, List, [], ◌∷◌, length, slice_index_or, Contains, Bool, true, false, cond, not, Option, Some, None, refl, sym, ◌∙◌, ap, subst, arith, append_assoc}
+use Rattle.std.specs.Prelude.{Ok, nat_lt, filter, if◌then◌else◌}
 use Rattle.std.proofs.Math.Nat.{mul-suc}
 use Rattle.std.proofs.lemmas.Bool.{eqb-true}
 use Rattle.sci_base.specs.declared.observation.Obs.{Obs}
 use Rattle.sci_base.specs.declared.observation.Obs.TheVariants.{End}
-use Rattle.sci_base.specs.declared.observation.EndWord.TheVariants.{Halt, Events, Empty, Until}
+use Rattle.sci_base.specs.declared.observation.EndWord.TheVariants.{Halt, Events, Until}
 use Rattle.sci_base.specs.declared.observation.StopWord.{StopWord}
 use Rattle.sci_kinds.specs.Table.{Values, out, delay}
 use Rattle.sci_forms.specs.declared.spec.Spec.{Spec}
@@ -13,18 +13,17 @@ use Rattle.sci_forms.proofs.TestLemmas.{nat_lt_told}
 use Rattle.sci_net.specs.declared.Source.{Source}
 use Rattle.sci_net.specs.declared.Source.TheVariants.{Start, Port}
 use Rattle.sci_net.specs.declared.Feed.{Feed}
-use Rattle.sci_net.specs.Parts.{Parts, IsBlock, spec_of, is_sensor}
+use Rattle.sci_net.specs.Parts.{Parts, spec_of, is_sensor}
 use Rattle.sci_net.specs.Sources.{sources_of, source_of}
-use Rattle.sci_reaction.specs.Links.{Feeds}
 use Rattle.sci_reaction.specs.Active.{set_off}
 use Rattle.sci_reaction.specs.Memory.{Memory, Columns, next_value}
 use Rattle.sci_reaction.specs.Equations.{Signals, answer, sensed, values_or_word, input_in, all_inputs}
 use Rattle.sci_reaction.specs.Result.{Stopped, IsResult}
 use Rattle.sci_reaction.proofs.Spreading.{SetOff-block, Spread-block}
-use Rattle.sci_pending.specs.Pending.{Event, Pending, is_earlier, earlier, next, without, without_source, programmed, replaced}
+use Rattle.sci_pending.specs.Pending.{Event, Pending, is_earlier, earlier, next, without}
 use Rattle.sci_run.specs.Activity.{Activity, IsActivity, halts}
 use Rattle.sci_run.specs.Programs.{with_delay, with_delays, firing_of, first_pending, delay_of, next_pending}
-use Rattle.sci_run.specs.Run.{State, first_state, taken, Reacts, Stops, ReactionOutcome, Leads, StopsWith, IsOutcome, Over, Fires, in_time, comes_next, Then, EndsOr, Observes, IsRunFrom, IsRest, IsRun}
+use Rattle.sci_run.specs.Run.{State, first_state, taken, Reacts, ReactionOutcome, Leads, StopsWith, IsOutcome, Over, Fires, in_time, comes_next, Then, EndsOr, Observes, IsRunFrom, IsRest, IsRun}
 use Rattle.sci_bulk.specs.Laws.{IsRestless, RestlessEndsByEvents}
 
 abbrev EndsByEvents : List Obs → Type 0

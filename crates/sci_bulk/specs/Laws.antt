@@ -1,10 +1,15 @@
 -- Laws of bulk diagrams.
-use Rattle.std.specs.Prelude.{◌≡◌, ℕ, ℤ, pos, ◌+◌, ◌*◌, ◌<◌, ◌≤◌, false, List, [], ◌∷◌, ◌++◌, length, Contains}
+use Rattle.std.specs.Prelude.{◌≡◌, ℕ, ℤ, pos, ◌+◌, ◌*◌, ◌^◌, ◌<◌, ◌≤◌, false, List, [], ◌∷◌, ◌++◌, length, Contains, Ok, Err}
+use Rattle.sci_base.specs.Plain.{Violation}
 use Rattle.sci_base.specs.declared.observation.Obs.{Obs}
 use Rattle.sci_base.specs.declared.observation.Obs.TheVariants.{End}
 use Rattle.sci_base.specs.declared.observation.EndWord.TheVariants.{Events}
 use Rattle.sci_kinds.specs.Table.{Values, out, delay}
+use Rattle.sci_diagram.specs.Objects.{Objects}
 use Rattle.sci_flat.specs.Ready.{IsReady}
+use Rattle.sci_flat.specs.Flat.{IsFlatNet}
+use Rattle.sci_flat.specs.Refused.{Breaks as IsNotFlat}
+use Rattle.sci_infer.specs.Answer.{IsAnswer}
 use Rattle.sci_net.specs.declared.Source.{Source}
 use Rattle.sci_net.specs.declared.Source.TheVariants.{Port}
 use Rattle.sci_net.specs.declared.Feed.{Feed}
@@ -19,6 +24,7 @@ use Rattle.sci_run.specs.Activity.{Activity, halts}
 use Rattle.sci_run.specs.Programs.{firing_of}
 use Rattle.sci_run.specs.Run.{IsRun}
 use Rattle.sci_sched.specs.Size.{size_of}
+use Rattle.sci_sched.specs.Answer.{IsPlanBreak}
 use Rattle.sci_bulk.specs.Bulk.{bulk}
 
 -- numbers are in range, and there aren't too many blocks and ports
@@ -58,3 +64,21 @@ abbrev pub RestlessEndsByEvents : Type 0
 RestlessEndsByEvents =
     (n : Parts) (ticks until limit : ℕ) (i : Columns) (os : List Obs) → IsRestless n ticks → ticks + ticks * limit ≤ until → IsRun n i until limit os
     → (seen : List Obs) × (os ≡ seen ++ End Events ∷ [])
+
+-- ---- bulk diagrams
+
+-- A diagram that breaks no rule: none on tags, blocks, links and feeding; none on types and sizes, on the way from its flat net to its typed
+-- net; none on loops and the length of schedules.
+pub record IsAccepted (t : Objects) : Type 0 where
+  pub flat : (v : Violation) → IsNotFlat t v → ⊥
+  pub typed : (n : Parts) (v : Violation) → IsFlatNet t n → IsAnswer n (Err v) → ⊥
+  pub planned : (n m : Parts) (v : Violation) → IsFlatNet t n → IsAnswer n (Ok m) → IsPlanBreak m v → ⊥
+
+abbrev pub BulkIsAccepted : Type 0
+BulkIsAccepted = (seed size : ℕ) → 1 ≤ size → size ≤ 2000 → IsAccepted (bulk seed size)
+
+-- the run of its typed net to the last date ends by the bound on events
+abbrev pub BulkEndsByEvents : Type 0
+BulkEndsByEvents =
+    (seed size : ℕ) (n m : Parts) (i : Columns) (limit : ℕ) (os : List Obs) → 1 ≤ size → size ≤ 2000 → limit ≤ 1000000
+    → IsFlatNet (bulk seed size) n → IsAnswer n (Ok m) → IsRun m i (2 ^ 62) limit os → (seen : List Obs) × (os ≡ seen ++ End Events ∷ [])

@@ -1,5 +1,5 @@
 // Laws of bulk diagrams.
-ghost use Rattle.sci_bulk.specs.Laws.{BulkIsReady, ForwardIsFree, ForwardIsShort, RestlessEndsByEvents};
+ghost use Rattle.sci_bulk.specs.Laws.{BulkIsReady, ForwardIsFree, ForwardIsShort, RestlessEndsByEvents, BulkIsAccepted, BulkEndsByEvents};
 
 /// Every bulk diagram keeps the bounds of a diagram that is read.
 pub fn bulk_is_ready()
@@ -17,4 +17,11 @@ pub fn forward_nets()
 /// on time is no less than all their delays.
 pub fn restless_nets()
     ensures { RestlessEndsByEvents }
+{}
+
+/// Every bulk diagram keeps all rules behind the reading of its file, and the run of its net, however many events up to a million may fire, ends by
+/// the bound on events.
+pub fn bulk_is_accepted()
+    ensures accepted { BulkIsAccepted }
+    ensures ends { BulkEndsByEvents }
 {}

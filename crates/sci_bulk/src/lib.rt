@@ -7,4 +7,4 @@ mod laws;
 mod objects;
 
 pub use diagram::bulk_diagram;
-pub use laws::{bulk_is_ready, forward_nets, restless_nets};
+pub use laws::{bulk_is_accepted, bulk_is_ready, forward_nets, restless_nets};

@@ -18,3 +18,4 @@ mod Lengths
 mod Bulked
 mod Coded
 mod RunsAlike
+mod BulkRuns

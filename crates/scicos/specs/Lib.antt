@@ -20,3 +20,4 @@ pub mod Prepare
 pub mod Headline
 pub mod Laws
 pub mod Ran
+pub mod BulkRuns

@@ -1,4 +1,5 @@
 ghost use Rattle.scicos.specs.Laws.{OneAnswer, OneAnswerOfBytes};
+ghost use Rattle.scicos.specs.BulkRuns.{BulkPrintsItsLine};
 ghost use Rattle.scicos.specs.Ran.{CodeRunsAlike, CodeRunsOnlySo};
 
 /// Of the words and the files' bytes at most one answer is due, with one list of names that are read for it, and the files tell their bytes;
@@ -14,4 +15,10 @@ pub fn one_answer_is_due()
 pub fn code_runs_alike()
     ensures alike { CodeRunsAlike }
     ensures only { CodeRunsOnlySo }
+{}
+
+/// What is due of `bulk` is always the line of the diagram's counts and of its run, which ends by the bound on events: a bulk diagram breaks no
+/// rule.
+pub fn bulk_prints_its_line()
+    ensures { BulkPrintsItsLine }
 {}
