@@ -19,7 +19,7 @@ def answer(program, words, diagram, inputs='[]'):
 
 def parts(page):
     """The fenced parts of the page: each one's words and its text."""
-    return [(first.split(), body) for first, body in re.findall(r'^```(\w.*)\n(.*?)^```$', page, re.M | re.S)]
+    return [(first.split(), body) for first, body in re.findall(r'^```(\w[^\n]*)\n(.*?)^```$', page, re.M | re.S)]
 
 
 def wrong_traces(program, page):
@@ -91,7 +91,7 @@ def wrong_refusals(program, page):
     wrong = []
     for words, body in parts(page):
         if words[0] == 'refused':
-            for diagram, line in re.findall(r'(^\{"objs".*?\}\]\})\n(\d+ .*)$', body, re.M | re.S):
+            for diagram, line in re.findall(r'(^\{"objs".*?\}\]\})\n(\d+ [^\n]*)$', body, re.M | re.S):
                 run = answer(program, ['check', 'd'], diagram)
                 if run != ('', 'refused %s\n' % line, 1):
                     wrong.append('%r in place of %r' % (run, line))
@@ -110,4 +110,5 @@ def formats(program):
     """The page on the files says what the program does."""
     with open(os.path.join(HERE, '..', 'docs', 'FORMAT.md')) as file:
         page = file.read()
-    return '; '.join(wrong_traces(program, page) + wrong_blocks(program, page) + wrong_refusals(program, page) + kinds_shown(page))
+    unread = [] if 2 * len(parts(page)) == len(re.findall(r'^```', page, re.M)) else ['parts of the page are not read']
+    return '; '.join(unread + wrong_traces(program, page) + wrong_blocks(program, page) + wrong_refusals(program, page) + kinds_shown(page))
