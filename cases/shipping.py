@@ -1,0 +1,70 @@
+"""The page on targets: its host and examples/paced-host.c are C without a warning, a paced run has the trace and takes its time, and sizes are told."""
+import os
+import re
+import shutil
+import subprocess
+import tempfile
+import time
+
+HERE = os.path.dirname(os.path.abspath(__file__))
+TOP = os.path.join(HERE, '..')
+EXAMPLES = os.path.join(TOP, 'examples')
+FLAGS = ['-std=c99', '-Wall', '-Wextra', '-pedantic', '-Werror', '-O2']
+
+
+def text(*path):
+    with open(os.path.join(*path)) as file:
+        return file.read()
+
+
+def compiled(words, work):
+    """What the compiler says of these words."""
+    run = subprocess.run(['gcc'] + words, cwd=work, capture_output=True, timeout=120)
+    return '' if run.returncode == 0 else run.stderr.decode()
+
+
+def wrong_run(program, work):
+    """What is wrong with a run of twenty-one events in a tenth of a second."""
+    diagram, bounds = os.path.join(EXAMPLES, 'counter.json'), ['100', '1000']
+    due = subprocess.run([program, 'simulate', diagram, os.path.join(EXAMPLES, 'no-inputs.json')] + bounds, capture_output=True, timeout=120)
+    begun = time.monotonic()
+    run = subprocess.run([os.path.join(work, 'paced'), '1000000'] + bounds, stdin=subprocess.DEVNULL, capture_output=True, timeout=120)
+    taken = time.monotonic() - begun
+    same = (run.stdout, run.returncode) == (due.stdout, 0) and due.returncode == 0 and re.fullmatch(rb'at most \d+ ns late\n', run.stderr)
+    return '' if same and taken >= 0.1 else '%r after %f seconds in place of %r' % (run, taken, due)
+
+
+def paced(program):
+    """A generated program with the paced host: each event waits for its date."""
+    if shutil.which('gcc') is None:
+        return ''
+    with tempfile.TemporaryDirectory() as work:
+        with open(os.path.join(work, 'd.c'), 'wb') as file:
+            file.write(subprocess.run([program, 'ccode', os.path.join(EXAMPLES, 'counter.json')], capture_output=True, timeout=120).stdout)
+        host = os.path.join(EXAMPLES, 'paced-host.c')
+        return (compiled(FLAGS + ['-D_POSIX_C_SOURCE=200809L', '-c', '-o', 'host.o', host], work)
+                or compiled(FLAGS + ['-Wno-unused-function', '-Wno-unused-variable', '-o', 'paced', 'd.c', 'host.o'], work)
+                or wrong_run(program, work))
+
+
+def targets(program):
+    """The host on the page is C, and the page tells of each function that a generated program declares."""
+    page = text(TOP, 'docs', 'SHIPPING.md')
+    named = re.findall(r'^extern .*?(sci_\w+)\(', text(EXAMPLES, 'primes.c'), re.M)
+    wrong = ['%s is not on the page' % name for name in named if '| `%s(' % name not in page]
+    if shutil.which('gcc') is not None:
+        with tempfile.TemporaryDirectory() as work:
+            for number, part in enumerate(re.findall(r'^```c\n(.*?)^```$', page, re.M | re.S)):
+                with open(os.path.join(work, '%d.c' % number), 'w') as file:
+                    file.write(part)
+                wrong.append(compiled(FLAGS + ['-c', '%d.c' % number], work))
+    return '; '.join(told for told in wrong + ([] if len(named) == 9 else ['not nine functions']) if told)
+
+
+def sizes(program):
+    """The table of sizes has a row of five numbers for a diagram."""
+    if shutil.which('gcc') is None or shutil.which('size') is None:
+        return ''
+    run = subprocess.run([os.path.join(TOP, 'tools', 'sizes'), program, os.path.join(EXAMPLES, 'counter.json')], capture_output=True, timeout=120)
+    same = run.returncode == 0 and re.search(r'^\| counter\.json \| 4 (\| \d+ ){4}\|$', run.stdout.decode(), re.M)
+    return '' if same else repr(run)
