@@ -1,0 +1,99 @@
+"""Drawings: the links of some diagrams, and of each example that every input is fed once and that what an event activates is in its schedule."""
+import json
+import os
+import re
+import subprocess
+import sys
+import tempfile
+
+from formats import HERE, parts
+from refusals import CLOCK, FROM, block, constant, event, gain, superblock, wire
+
+TOP = os.path.join(HERE, '..')
+EXAMPLES = os.path.join(TOP, 'examples')
+LINKS = {
+    'tags.json': ('b1>b1 b1>b2 b1>b7', 'b2>b4.2 b3>b4.1 b4>b5 b4>b6.1 b5>b8.1 b6>b7 b6>b8.2 b7>b6.2 b8>b9'),
+    'superblocks.json': ('b1>b2 b1>b3 b3>b4', ''),
+}
+# inputs that cross, a tag that is given both within and everywhere, and two branches
+INSIDE = [block('IN_f', outs=[1], ipar=2), block('IN_f', outs=[1], ipar=1), gain(), block('GOTO', [1], ipar=[7, 1]), FROM, gain(),
+          wire((1, 1), (3, 1)), wire((2, 1), (4, 1)), wire((5, 1), (6, 1))]
+CROSSED = [CLOCK, constant(1), constant(2), superblock(INSIDE, ins=[1, 1]), wire((2, 1), (4, 1)), wire((3, 1), (4, 2)),
+           block('GOTO', [1], ipar=[7, 3]), FROM, constant(3), block('IFTHEL_f', [1], evtin=1, evtout=2), block('HALT_f', evtin=1), block('HALT_f', evtin=1),
+           wire((9, 1), (7, 1)), wire((8, 1), (10, 1)), event((1, 1), (1, 1)), event((1, 1), (10, 1)), event((10, 1), (11, 1)), event((10, 2), (12, 1))]
+BRANCHED = ('b1>b1 b1>b7 b7.1>b8 b7.2>b9', 'b2>b5 b3>b4 b6>b7')
+
+
+def drawn(program, words, diagram):
+    """The text of a drawing, and what is said beside it."""
+    run = subprocess.run([sys.executable, '-B', os.path.join(TOP, 'tools', 'draw')] + words + [program, diagram], capture_output=True, timeout=120)
+    return run.stdout.decode(), run.stderr.decode(), run.returncode
+
+
+def links(text):
+    """Of each link whether it is of activations, and its block, output, block and input."""
+    for start, end, marks in re.findall(r'^  b(\d+) -> b(\d+)(.*);$', text, re.M):
+        tail, head = (re.search(side + 'label="(\\d+)"', marks) for side in ('tail', 'head'))
+        yield 'dashed' in marks, int(start), int(tail.group(1)) if tail else 1, int(end), int(head.group(1)) if head else 1
+
+
+def wrong_links(program, content, due):
+    """What is wrong with the links that are drawn of a diagram: those of activations, and the others."""
+    with tempfile.TemporaryDirectory() as work:
+        with open(os.path.join(work, 'd'), 'w') as file:
+            file.write(content)
+        text, said, status = drawn(program, ['--text'], os.path.join(work, 'd'))
+    given = [[], []]
+    for start, end, marks in re.findall(r'^  (b\d+) -> (b\d+)(.*);$', text, re.M):
+        tail, head = (re.search(side + 'label="(\\d+)"', marks) for side in ('tail', 'head'))
+        given['dashed' not in marks].append('%s%s>%s%s' % (start, '.' + tail.group(1) if tail else '', end, '.' + head.group(1) if head else ''))
+    same = (tuple(' '.join(part) for part in given), said, status) == (due, '', 0)
+    return [] if same else ['%r in place of %r, %r' % (given, due, said)]
+
+
+def inputs_of(diagram, place):
+    """How many regular inputs the block at a place has."""
+    for at in place[:-1]:
+        diagram = diagram['objs'][at - 1]['model']['rpar']
+    ports = diagram['objs'][place[-1] - 1]['model'].get('in', [])
+    return len(ports) if isinstance(ports, list) else 1
+
+
+def wrong_wiring(program, content):
+    """What is wrong with the drawing of a diagram beside what `map` and `schedule` say."""
+    with tempfile.TemporaryDirectory() as work:
+        diagram = os.path.join(work, 'd')
+        with open(diagram, 'w') as file:
+            file.write(content)
+        text, said, _ = drawn(program, ['--text'], diagram)
+        blocks, rows = (subprocess.run([program, word, diagram], capture_output=True, timeout=120).stdout.decode() for word in ('map', 'schedule'))
+    places = {int(row.split()[0]): [int(at) for at in row.split()[1].split('/')] for row in blocks.splitlines()}
+    due = sorted((block, port + 1) for block, place in places.items() for port in range(inputs_of(json.loads(content), place)))
+    fed = sorted((end, entry) for active, _, _, end, entry in links(text) if not active)
+    sources = {row.split('\n')[0]: [int(line.split()[0]) for line in row.split('\n')[1:-1]] for row in re.split('^source ', rows, flags=re.M)[1:]}
+    missing = [link for link in links(text) if link[0] and link[3] not in sources.get('%d.%d' % link[1:3], [link[3]])]
+    return [] if (fed, missing, said) == (due, [], '') else ['%r in place of %r, %r, %s of %s' % (fed, due, missing, said, content)]
+
+
+def coloured(program):
+    """The blocks of a source, and those under a condition, have their colours."""
+    text, said, status = drawn(program, ['--text', '--source', '1', '1'], os.path.join(EXAMPLES, 'branches.json'))
+    due = {'1': 'gold', '2': 'gold', '3': 'gold', '4': 'lightyellow', '5': 'lightyellow', '6': 'lightyellow'}
+    same = (dict(re.findall(r'^  b(\d+) \[.*fillcolor=(\w+)\];$', text, re.M)), said, status) == (due, '', 0) and 'at 6\\nint32[1x1]\\nif 3.1 or 3.2' in text
+    return [] if same else [text + said]
+
+
+def drawing(program):
+    """Drawings are as the first line of this file says; what is refused isn't drawn."""
+    wrong = coloured(program) + wrong_links(program, json.dumps({'objs': CROSSED}), BRANCHED)
+    for name in sorted(os.listdir(EXAMPLES)):
+        if name.endswith('.json') and name not in ('no-inputs.json', 'readings.json', 'loop.json'):
+            with open(os.path.join(EXAMPLES, name)) as file:
+                content = file.read()
+            wrong += wrong_wiring(program, content)
+            wrong += wrong_links(program, content, LINKS[name]) if name in LINKS else []
+    with open(os.path.join(TOP, 'docs', 'FORMAT.md')) as file:
+        for words, body in parts(file.read()):
+            wrong += wrong_wiring(program, body) if words[0] == 'diagram' else []
+    refused = drawn(program, ['--text'], os.path.join(EXAMPLES, 'loop.json'))
+    return '; '.join(wrong + ([] if refused == ('', 'refused 24 AlgebraicLoop at 3 1 1 3 4\n', 1) else [repr(refused)]))
