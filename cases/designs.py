@@ -1,4 +1,5 @@
 """The designs in the folders of examples/: what each must do, in plain Python, beside what the program does."""
+import itertools
 import json
 import os
 import random
@@ -162,13 +163,26 @@ def seen(trace, key):
     return found
 
 
+def apart(what, given, due):
+    """Where two lists come apart first, or nothing."""
+    for k, (one, other) in enumerate(itertools.zip_longest(given, due)):
+        if one != other:
+            return ['%s: number %d is %r in place of %r' % (what, k + 1, one, other)]
+    return []
+
+
+def lines(run):
+    """A run's lines, and what else it answers."""
+    return run[0].splitlines(keepends=True) + [run[1:]]
+
+
 def wrong_values(name, trace, columns, until):
     due = DESIGNS[name](columns, until)
-    return ['%s: %r in place of %r' % (key, seen(trace, key), due[key]) for key in due if seen(trace, key) != due[key]]
+    return sum((apart(key, seen(trace, key), due[key]) for key in due), [])
 
 
 def wrong_runs(program, name, bounds):
-    """Both runs of the diagram, and those of its C, give one trace: on the inputs beside it that beside it, and what is due on them and on longer ones."""
+    """The run on the inputs beside the diagram gives the trace beside it; that and a run on longer ones are what is due, and the C runs alike."""
     columns, until = longer(name)
     diagram, own = 'examples/%s/diagram.json' % name, 'examples/%s/inputs.json' % name
     with tempfile.TemporaryDirectory() as work:
@@ -181,9 +195,9 @@ def wrong_runs(program, name, bounds):
         wrong = ['ccode: %r' % errors] if errors or status else []
         runs = [answer(program, 'simulate', diagram, own, *bounds), answer(program, 'simulate', diagram, other, str(until), '100000')]
         given = [answer(program, 'crun', source, own, *bounds), answer(program, 'crun', source, other, str(until), '100000')]
-    wrong += ['simulate: %r' % (runs[0],)] if runs[0] != (text(name, 'trace.txt'), '', 0) else []
+    wrong += apart('simulate', lines(runs[0]), lines((text(name, 'trace.txt'), '', 0))) + apart('longer', [runs[1][1:]], [('', 0)])
     wrong += wrong_values(name, runs[0][0], json.loads(text(name, 'inputs.json')), int(bounds[0])) + wrong_values(name, runs[1][0], columns, until)
-    return wrong + ['crun: %r in place of %r' % (run, due) for run, due in zip(given, runs) if run != due]
+    return wrong + sum((apart('crun', lines(run), lines(due)) for run, due in zip(given, runs)), [])
 
 
 def wrong_design(program, name):
@@ -195,7 +209,7 @@ def wrong_design(program, name):
         return ['the commands of the page are %r' % commands]
     blocks = [' '.join(line.split()[:3]) for line in answer(program, 'map', command[2])[0].splitlines()]
     rows = [' '.join(row) for row in re.findall(r'^\| (\d+) \| (\S+) \| (\w+) \|', page, re.M)]
-    return wrong_runs(program, name, commands[0][-2:]) + (['the table has %r in place of %r' % (rows, blocks)] if rows != blocks else [])
+    return wrong_runs(program, name, commands[0][-2:]) + apart('the table', rows, blocks)
 
 
 def designs(program):
