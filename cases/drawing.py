@@ -8,6 +8,7 @@ import tempfile
 
 from formats import HERE, parts
 from refusals import CLOCK, FROM, block, constant, event, gain, superblock, wire
+from schema import example_files
 
 TOP = os.path.join(HERE, '..')
 EXAMPLES = os.path.join(TOP, 'examples')
@@ -48,7 +49,7 @@ def wrong_links(program, content, due):
         tail, head = (re.search(side + 'label="(\\d+)"', marks) for side in ('tail', 'head'))
         given['dashed' not in marks].append('%s%s>%s%s' % (start, '.' + tail.group(1) if tail else '', end, '.' + head.group(1) if head else ''))
     same = (tuple(' '.join(part) for part in given), said, status) == (due, '', 0)
-    return [] if same else ['%r in place of %r, %r' % (given, due, said)]
+    return [] if same else ['%r in place of %r, %r' % (given, due, said[-200:])]
 
 
 def inputs_of(diagram, place):
@@ -72,7 +73,7 @@ def wrong_wiring(program, content):
     fed = sorted((end, entry) for active, _, _, end, entry in links(text) if not active)
     sources = {row.split('\n')[0]: [int(line.split()[0]) for line in row.split('\n')[1:-1]] for row in re.split('^source ', rows, flags=re.M)[1:]}
     missing = [link for link in links(text) if link[0] and link[3] not in sources.get('%d.%d' % link[1:3], [link[3]])]
-    return [] if (fed, missing, said) == (due, [], '') else ['%r in place of %r, %r, %s of %s' % (fed, due, missing, said, content)]
+    return [] if (fed, missing, said) == (due, [], '') else ['%r in place of %r, %r, %s of %s' % (fed, due, missing, said[-200:], content[:200])]
 
 
 def coloured(program):
@@ -86,12 +87,11 @@ def coloured(program):
 def drawing(program):
     """Drawings are as the first line of this file says; what is refused isn't drawn."""
     wrong = coloured(program) + wrong_links(program, json.dumps({'objs': CROSSED}), BRANCHED)
-    for name in sorted(os.listdir(EXAMPLES)):
-        if name.endswith('.json') and name not in ('no-inputs.json', 'readings.json', 'loop.json'):
-            with open(os.path.join(EXAMPLES, name)) as file:
-                content = file.read()
-            wrong += wrong_wiring(program, content)
-            wrong += wrong_links(program, content, LINKS[name]) if name in LINKS else []
+    for path in example_files():
+        with open(path) as file:
+            content = file.read()
+        name = os.path.basename(path)
+        wrong += wrong_wiring(program, content) + (wrong_links(program, content, LINKS[name]) if name in LINKS else [])
     with open(os.path.join(TOP, 'docs', 'FORMAT.md')) as file:
         for words, body in parts(file.read()):
             wrong += wrong_wiring(program, body) if words[0] == 'diagram' else []

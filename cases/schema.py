@@ -58,12 +58,20 @@ def page_diagrams(page):
                 yield {'objs': objs + links}
 
 
+def example_files():
+    """The files of the examples that break no rule, the designs among them."""
+    for name in sorted(os.listdir(EXAMPLES)):
+        if os.path.exists(os.path.join(EXAMPLES, name, 'diagram.json')):
+            yield os.path.join(EXAMPLES, name, 'diagram.json')
+        elif name.endswith('.json') and name not in ('no-inputs.json', 'readings.json', 'loop.json'):
+            yield os.path.join(EXAMPLES, name)
+
+
 def accepted():
     """Diagrams that the program accepts: the examples, those of the page, and those at a limit that aren't large."""
-    for name in sorted(os.listdir(EXAMPLES)):
-        if name.endswith('.json') and name not in ('no-inputs.json', 'readings.json', 'loop.json'):
-            with open(os.path.join(EXAMPLES, name)) as file:
-                yield json.load(file)
+    for name in example_files():
+        with open(name) as file:
+            yield json.load(file)
     with open(os.path.join(DOCS, 'FORMAT.md')) as file:
         yield from page_diagrams(file.read())
     yield from ({'objs': objs} for _, objs, _ in LIMITS if len(json.dumps(objs)) < 5000)

@@ -1,7 +1,7 @@
 -- What a bulk diagram comes to.
-use Rattle.std.proofs.Common.{◌≡◌, ◌≤◌, ◌^◌, min, ℕ, zero, suc, ℤ, List, [], length, Contains, refl, sym, ◌∙◌, ap, subst, inl, inr, arith, Result, Ok, Err, Bool}
+use Rattle.std.proofs.Common.{◌≡◌, ◌≤◌, ◌^◌, min, ℕ, zero, suc, ℤ, List, [], length, Contains, refl, sym, ◌∙◌, ap, subst, arith, Result, Ok, Err, Bool}
 use Rattle.std.specs.Prelude.{IfOk}
-use Rattle.sci_base.specs.Plain.{Violation}
+use Rattle.sci_base.specs.Plain.{Violation, violation_of}
 use Rattle.sci_base.specs.declared.stop.Stop.{Stop}
 use Rattle.sci_base.specs.declared.stop.Stop.TheVariants as base
 use Rattle.sci_base.specs.declared.observation.Obs.{Obs}
@@ -33,18 +33,16 @@ use Rattle.sci_sim.specs.declared.end.RunEnd.{RunEnd}
 use Rattle.sci_sim.specs.declared.end.RunEnd.TheVariants.{End as Ended, Stop as Stopped}
 use Rattle.sci_bulk.specs.Bulk.{bulk as bulk_tree}
 use Rattle.sci_bulk.proofs.Ready.{bulk_is_ready}
-use Rattle.sci_verdict.specs.Verdict.{plan_of, TreeAccepts, TreeBreaks, tree_no_plan, IsTreeChecked}
+use Rattle.sci_bulk.proofs.Accepting.{bulk_is_accepted}
+use Rattle.sci_verdict.specs.Verdict.{plan_of, TreeAccepts, TreeBreaks, tree_not_flat, tree_not_typed, tree_no_net, tree_no_plan, IsTreeChecked}
 use Rattle.sci_verdict.specs.declared.checked.Checked.{Checked}
 use Rattle.sci_verdict.proofs.Verdicts.{tree_given_is_net}
-use Rattle.scicos.specs.Answer.{refused}
 use Rattle.scicos.specs.Bulk.{bulk_line, IsBulkLine, IsBulkAnswer, counted_line, IsCounted}
 use Rattle.scicos.specs.Words.{bulk}
 use Rattle.scicos.specs.Due.{course_of}
-use Rattle.scicos.specs.Prepare.{stop_answer, LooksAt}
+use Rattle.scicos.specs.Prepare.{LooksAt}
 use Rattle.scicos.specs.declared.bulk.BulkCounts.{BulkCounts}
-use Rattle.scicos.specs.declared.look.LookStop.{LookStop}
 use Rattle.scicos.specs.declared.look.LookStop.TheVariants as stops
-use Rattle.scicos.specs.declared.prepare.Prepared.{Prepared}
 use Rattle.scicos.specs.declared.prepare.Prepared.TheVariants.{Bulk}
 use Rattle.scicos.proofs.Lengths.{run_short}
 use Rattle.scicos.proofs.Courses.{of_made, lacks_made}
@@ -58,23 +56,28 @@ made_ready t seed size is least most = subst IsReady (sym is) (bulk_is_ready see
 pub made_judged : (t : Objects) (seed size : ℕ) (r : Result Checked Stop) → t ≡ bulk_tree seed size → IsTreeChecked t r → IsTreeChecked (bulk_tree seed size) r
 made_judged t seed size r is h = subst (λ (u : Objects). IsTreeChecked u r) is h
 
-broken : (seed size : ℕ) (e : Stop) → IsTreeChecked (bulk_tree seed size) (Err e) → IsCounted seed size (Err e)
-broken seed size (base.Refused r) h = h
-broken seed size base.Memory h = tt
+never_broken : (seed size : ℕ) → 1 ≤ size → size ≤ 2000 → (v : Violation) → TreeBreaks (bulk_tree seed size) v → ⊥
+never_broken seed size least most v (tree_no_net (tree_not_flat h)) = (bulk_is_accepted seed size least most).flat v h
+never_broken seed size least most v (tree_no_net (tree_not_typed n flat h)) = (bulk_is_accepted seed size least most).typed n v flat h
+never_broken seed size least most v (tree_no_plan n given h) = (bulk_is_accepted seed size least most).planned given.declared n v given.flat given.inferred h
 
-pub stopped_judging : (seed size : ℕ) (e : Stop) (r : Result Checked Stop) (s : Result BulkCounts Stop) → r ≡ Err e → s ≡ Err e → IsTreeChecked (bulk_tree seed size) r → IsCounted seed size s
-stopped_judging seed size e r s is was h =
-    subst (λ (q : Result BulkCounts Stop). IsCounted seed size q) (sym was) (broken seed size e (subst (λ (q : Result Checked Stop). IsTreeChecked (bulk_tree seed size) q) is h))
+broken : (seed size : ℕ) → 1 ≤ size → size ≤ 2000 → (e : Stop) → IsTreeChecked (bulk_tree seed size) (Err e) → IsCounted seed size (Err e)
+broken seed size least most (base.Refused r) h = never_broken seed size least most (violation_of r) h
+broken seed size least most base.Memory h = tt
+
+pub stopped_judging : (seed size : ℕ) → 1 ≤ size → size ≤ 2000 → (e : Stop) (r : Result Checked Stop) (s : Result BulkCounts Stop) → r ≡ Err e → s ≡ Err e → IsTreeChecked (bulk_tree seed size) r → IsCounted seed size s
+stopped_judging seed size least most e r s is was h =
+    subst (λ (q : Result BulkCounts Stop). IsCounted seed size q) (sym was) (broken seed size least most e (subst (λ (q : Result Checked Stop). IsTreeChecked (bulk_tree seed size) q) is h))
 
 pub was_accepted : (seed size : ℕ) (c : Checked) (r : Result Checked Stop) → r ≡ Ok c → IsTreeChecked (bulk_tree seed size) r → TreeAccepts (bulk_tree seed size) (plan_of c)
 was_accepted seed size c r is h = subst (λ (q : Result Checked Stop). IsTreeChecked (bulk_tree seed size) q) is h
 
-unplanned : (seed size : ℕ) (c : Checked) (e : Stop) → TreeAccepts (bulk_tree seed size) (plan_of c) → IsPlanStop c.net e → IsCounted seed size (Err e)
-unplanned seed size c (base.Refused r) accepted h = tree_no_plan c.net accepted.given h
-unplanned seed size c base.Memory accepted h = tt
+unplanned : (seed size : ℕ) → 1 ≤ size → size ≤ 2000 → (c : Checked) (e : Stop) → TreeAccepts (bulk_tree seed size) (plan_of c) → IsPlanStop c.net e → IsCounted seed size (Err e)
+unplanned seed size least most c (base.Refused r) accepted h = never_broken seed size least most (violation_of r) (tree_no_plan c.net accepted.given h)
+unplanned seed size least most c base.Memory accepted h = tt
 
-pub stopped_measuring : (seed size : ℕ) (c : Checked) (e : Stop) (s : Result BulkCounts Stop) → s ≡ Err e → TreeAccepts (bulk_tree seed size) (plan_of c) → IsPlanStop c.net e → IsCounted seed size s
-stopped_measuring seed size c e s was accepted h = subst (λ (q : Result BulkCounts Stop). IsCounted seed size q) (sym was) (unplanned seed size c e accepted h)
+pub stopped_measuring : (seed size : ℕ) → 1 ≤ size → size ≤ 2000 → (c : Checked) (e : Stop) (s : Result BulkCounts Stop) → s ≡ Err e → TreeAccepts (bulk_tree seed size) (plan_of c) → IsPlanStop c.net e → IsCounted seed size s
+stopped_measuring seed size least most c e s was accepted h = subst (λ (q : Result BulkCounts Stop). IsCounted seed size q) (sym was) (unplanned seed size least most c e accepted h)
 
 -- ---- the run
 
@@ -159,11 +162,7 @@ all_counted seed size c length_of r counts accepted measured ran blocks sources 
 
 pub counted_looks : (seed size : ℕ) (s : FolderState) (banks : List Meaning) (counts : BulkCounts) → IsBulkLine seed size (counted_line counts) → LooksAt s s banks (course_of (bulk seed size)) (Ok (Bulk counts))
 counted_looks seed size s banks counts h =
-    record { reaches = λ a is. of_made s (IsBulkAnswer seed size) a (inl (counted_line counts, h, is)); prepared = tt; lacks = λ may. absurd may }
-
-pub broken_looks : (seed size : ℕ) (s : FolderState) (banks : List Meaning) (e : LookStop) (v : Violation) (r : Result Prepared LookStop) → r ≡ Err e → stop_answer e ≡ refused v → TreeBreaks (bulk_tree seed size) v
-    → LooksAt s s banks (course_of (bulk seed size)) r
-broken_looks seed size s banks e v r is told h = stopped_looks s s banks (course_of (bulk seed size)) r e is (of_made s (IsBulkAnswer seed size) (stop_answer e) (inr (v, h, told)))
+    record { reaches = λ a is. of_made s (IsBulkAnswer seed size) a (counted_line counts, h, is); prepared = tt; lacks = λ may. absurd may }
 
 pub lacks_looks : (seed size : ℕ) (s : FolderState) (banks : List Meaning) → LooksAt s s banks (course_of (bulk seed size)) (Err stops.Memory)
 lacks_looks seed size s banks = stopped_looks s s banks (course_of (bulk seed size)) (Err stops.Memory) stops.Memory refl (lacks_made s (IsBulkAnswer seed size))

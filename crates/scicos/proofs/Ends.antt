@@ -10,7 +10,6 @@ use Rattle.c_mean.specs.Answering.{end_of}
 use Rattle.scicos.specs.Words.{Request, report, simulate, code, run_c, host, bulk, files_of}
 use Rattle.scicos.specs.Answer.{Answer, IsDone, run_status, c_status}
 use Rattle.scicos.specs.Course.{Slot, Course, gives, makes, reads, DueOn, AsksFront}
-use Rattle.scicos.specs.Bulk.{IsBulkAnswer}
 use Rattle.scicos.specs.Due.{course_of}
 
 pub status-is : {a b : Answer} → a ≡ b → a.status ≡ b.status
@@ -31,18 +30,10 @@ done_c End = inl refl
 done_c Stop = inr (inl refl)
 done_c (Undefined n) = inr (inr refl)
 
--- done, or refused with nothing on out
-abbrev pub IsJudged : Answer → Type 0
-IsJudged a = IsDone a.status ⊎ ((a.status ≡ 1) × (a.out ≡ []))
-
-bulk_judged : (seed size : ℕ) (a : Answer) → IsBulkAnswer seed size a → IsJudged a
-bulk_judged seed size a (inl h) = inl (inl (status-is h.2))
-bulk_judged seed size a (inr h) = inr (status-is h.2, out-is h.2)
-
--- whatever passes, these files are read, and the command is done, or refused where what it makes breaks a rule
+-- whatever passes, these files are read, and the command is done
 abbrev pub Ends : Course → List (List ℕ) → Type 0
 Ends (gives due) files = (files ≡ []) × ((a : Answer) → due a → IsDone a.status)
-Ends (makes due) files = (files ≡ []) × ((a : Answer) → due a → IsJudged a)
+Ends (makes due) files = (files ≡ []) × ((a : Answer) → due a → IsDone a.status)
 Ends (reads A slot d accepts breaks next) [] = ⊥
 Ends (reads A slot d accepts breaks next) (f ∷ files) = (f ≡ d) × ((made : A) → Ends (next made) files)
 
@@ -52,7 +43,7 @@ ends_of (simulate d i until limit) = (refl, λ p. (refl, λ columns. (refl, λ a
 ends_of (code d) = (refl, λ p. (refl, λ a is. inl (status-is is.told)))
 ends_of (run_c c i until limit) = (refl, λ program. (refl, λ columns. (refl, λ a is. done_by (status-is is) (done_c (end_of (meaning program columns (pos until) (pos limit)).how)))))
 ends_of host = (refl, λ a is. inl (status-is is))
-ends_of (bulk seed size) = (refl, bulk_judged seed size)
+ends_of (bulk seed size) = (refl, λ a is. inl (status-is is.2))
 
 -- An answer that is due tells that all files were read and the command is done, or refuses, with nothing on out.
 pub data Kind (files names : List (List ℕ)) (a : Answer) : Type 0 where
@@ -63,13 +54,9 @@ kind_behind : (d f : List ℕ) (files rest names : List (List ℕ)) (a : Answer)
 kind_behind d f files rest names a same is (printed done all) = printed done (cc (same, is, all))
 kind_behind d f files rest names a same is (turned_down status none) = turned_down status none
 
-kind_made : (files names : List (List ℕ)) (a : Answer) → names ≡ files → IsJudged a → Kind files names a
-kind_made files names a all (inl done) = printed done all
-kind_made files names a all (inr none) = turned_down none.0 none.1
-
 pub kind_of : (told : Files) (course : Course) (bytes files names : List (List ℕ)) (a : Answer) → Ends course files → DueOn told course bytes names a → Kind files names a
 kind_of told (gives due) bytes files names a ends h = printed (ends.1 a h.0) (h.1 ∙ sym ends.0)
-kind_of told (makes due) bytes files names a ends h = kind_made files names a (h.1 ∙ sym ends.0) (ends.1 a h.0)
+kind_of told (makes due) bytes files names a ends h = printed (ends.1 a h.0) (h.1 ∙ sym ends.0)
 kind_of told (reads A slot d accepts breaks next) [] files names a ends h = absurd h
 kind_of told (reads A slot d accepts breaks next) (b ∷ bytes) [] names a ends h = absurd ends
 kind_of told (reads A slot d accepts breaks next) (b ∷ bytes) (f ∷ files) names a ends (holds, inl h) = turned_down (status-is h.2) (out-is h.2)

@@ -125,11 +125,8 @@ one_line seed size s t h k =
     let same : h.observed ≡ k.observed = one_trace k.plan.net [] net k.accepted.planned.free (2 ^ 62) 1000 h.observed k.observed run k.run in
     h.told ∙ (ap (λ (p : Plan). run_line p h.observed) plan ∙ (ap (run_line k.plan) same ∙ sym k.told))
 
-one_bulk : (seed size : ℕ) (a b : Answer) → IsBulkAnswer seed size a → IsBulkAnswer seed size b → AreOneAnswer a b
-one_bulk seed size a b (inl h) (inl k) = inl (h.2 ∙ (ap prints (one_line seed size h.0 k.0 h.1 k.1) ∙ sym k.2))
-one_bulk seed size a b (inl h) (inr k) = absurd (one_tree_verdict.not_both (bulk_tree seed size) h.1.plan k.0 h.1.accepted k.1)
-one_bulk seed size a b (inr h) (inl k) = absurd (one_tree_verdict.not_both (bulk_tree seed size) k.1.plan h.0 k.1.accepted h.1)
-one_bulk seed size a b (inr h) (inr k) = refused_alike a b h.0 k.0 h.2 k.2 (one_tree_verdict.one_break (bulk_tree seed size) h.0 k.0 h.1 k.1)
+one_bulk : (seed size : ℕ) (a b : Answer) → IsBulkAnswer seed size a → IsBulkAnswer seed size b → a ≡ b
+one_bulk seed size a b h k = h.2 ∙ (ap prints (one_line seed size h.0 k.0 h.1 k.1) ∙ sym k.2)
 
 -- ---- one answer of a course
 
@@ -151,7 +148,7 @@ same_are_one files (x ∷ xs) = ((λ d h k. refl), same_are_one files xs)
 -- one answer is due of it, whatever passes
 abbrev IsOneCourse : Course → Type 0
 IsOneCourse (gives due) = (a b : Answer) → due a → due b → a ≡ b
-IsOneCourse (makes due) = (a b : Answer) → due a → due b → AreOneAnswer a b
+IsOneCourse (makes due) = (a b : Answer) → due a → due b → a ≡ b
 IsOneCourse (reads A slot d accepts breaks next) = IsOneVerdict accepts breaks × ((bytes : List ℕ) (made : A) → accepts bytes made → IsOneCourse (next made))
 
 one_course_of : (c : Request) → IsOneCourse (course_of c)
@@ -165,7 +162,7 @@ one_course_of (bulk seed size) = one_bulk seed size
 
 one_due_on : (files : Files) (course : Course) (xs ys names others : List (List ℕ)) (a b : Answer) → IsOneCourse course → AreOne files xs ys → DueOn files course xs names a → DueOn files course ys others b → Same a b names others
 one_due_on files (gives due) xs ys names others a b one same h k = (inl (one a b h.0 k.0), h.1 ∙ sym k.1)
-one_due_on files (makes due) xs ys names others a b one same h k = (one a b h.0 k.0, h.1 ∙ sym k.1)
+one_due_on files (makes due) xs ys names others a b one same h k = (inl (one a b h.0 k.0), h.1 ∙ sym k.1)
 one_due_on files (reads A slot d accepts breaks next) [] ys names others a b one same h k = absurd h
 one_due_on files (reads A slot d accepts breaks next) (x ∷ xs) [] names others a b one same h k = absurd k
 one_due_on files (reads A slot d accepts breaks next) (x ∷ xs) (y ∷ ys) names others a b one same (p, inl h) (q, inl k) =

@@ -1,6 +1,5 @@
 -- What is due of a bulk diagram: its counts and those of its run.
-use Rattle.std.specs.Prelude.{ℕ, ◌≡◌, ◌⊎◌, ◌^◌, List, [], ◌++◌, length, codes, decimal, Result, Ok, Err}
-use Rattle.sci_base.specs.Plain.{Violation}
+use Rattle.std.specs.Prelude.{ℕ, ◌≡◌, ◌^◌, List, [], ◌++◌, length, codes, decimal, Result, Ok, Err}
 use Rattle.sci_base.specs.Stops.{StopsBy}
 use Rattle.sci_base.specs.declared.stop.Stop.{Stop}
 use Rattle.sci_base.specs.declared.observation.Obs.{Obs}
@@ -8,9 +7,9 @@ use Rattle.sci_net.specs.Sources.{sources_of}
 use Rattle.sci_sched.specs.Size.{entry_count, guard_count}
 use Rattle.sci_run.specs.Run.{IsRun}
 use Rattle.sci_sim.specs.Written.{sum_of}
-use Rattle.sci_verdict.specs.Verdict.{Plan, TreeAccepts, TreeBreaks}
+use Rattle.sci_verdict.specs.Verdict.{Plan, TreeAccepts}
 use Rattle.sci_bulk.specs.Bulk.{bulk}
-use Rattle.scicos.specs.Answer.{Answer, prints, refused}
+use Rattle.scicos.specs.Answer.{Answer, prints}
 use Rattle.scicos.specs.declared.bulk.BulkCounts.{BulkCounts}
 
 -- how many blocks, sources, schedule entries, guards and observations there are, and the sum of the values observed
@@ -32,16 +31,15 @@ pub record IsBulkLine (seed size : ℕ) (line : List ℕ) : Type 0 where
   pub run : IsRun plan.net [] (2 ^ 62) 1000 observed
   pub told : line ≡ run_line plan observed
 
--- its line; or the first rule that it breaks
+-- it is told
 abbrev pub IsBulkAnswer : ℕ → ℕ → Answer → Type 0
-IsBulkAnswer seed size a =
-    ((line : List ℕ) × IsBulkLine seed size line × (a ≡ prints line)) ⊎ ((v : Violation) × TreeBreaks (bulk seed size) v × (a ≡ refused v))
+IsBulkAnswer seed size a = (line : List ℕ) × IsBulkLine seed size line × (a ≡ prints line)
 
 -- the line of what was counted
 abbrev pub counted_line : BulkCounts → List ℕ
 counted_line c = bulk_line c.blocks c.sources c.entries c.guards c.lines c.sum
 
--- what is counted, or a rule that is broken; want of memory may come at any time
+-- what is counted, since no rule is broken; want of memory may come at any time
 abbrev pub IsCounted : ℕ → ℕ → Result BulkCounts Stop → Type 0
 IsCounted seed size (Ok c) = IsBulkLine seed size (counted_line c)
-IsCounted seed size (Err e) = StopsBy (TreeBreaks (bulk seed size)) e
+IsCounted seed size (Err e) = StopsBy (λ v. ⊥) e

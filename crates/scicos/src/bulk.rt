@@ -68,8 +68,8 @@ fn run_net(
     Ok(ready)
 }
 
-/// Makes the bulk diagram of a seed and a size, judges it and runs it on the banks of the library. The answer is what is counted, or the
-/// first rule that it breaks.
+/// Makes the bulk diagram of a seed and a size, judges it and runs it on the banks of the library. The answer is what is counted: no such
+/// diagram breaks a rule.
 pub fn count_bulk(
     alloc: Global,
     seed: u32,

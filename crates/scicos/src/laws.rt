@@ -1,5 +1,5 @@
 ghost use Rattle.scicos.specs.Laws.{OneAnswer, OneAnswerOfBytes};
-ghost use Rattle.scicos.specs.BulkRuns.{BulkPrintsItsLine};
+ghost use Rattle.scicos.specs.BulkRuns.{BulkEndsByEvents};
 ghost use Rattle.scicos.specs.Ran.{CodeRunsAlike, CodeRunsOnlySo};
 
 /// Of the words and the files' bytes at most one answer is due, with one list of names that are read for it, and the files tell their bytes;
@@ -17,8 +17,7 @@ pub fn code_runs_alike()
     ensures only { CodeRunsOnlySo }
 {}
 
-/// What is due of `bulk` is always the line of the diagram's counts and of its run, which ends by the bound on events: a bulk diagram breaks no
-/// rule.
-pub fn bulk_prints_its_line()
-    ensures { BulkPrintsItsLine }
+/// The run of which `bulk` tells ends by the bound on events.
+pub fn bulk_ends_by_events()
+    ensures { BulkEndsByEvents }
 {}

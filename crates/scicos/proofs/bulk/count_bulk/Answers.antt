@@ -3,12 +3,12 @@ use Rattle.scicos.proofs.Bulked.{stopped_judging, was_accepted, stopped_measurin
 use Rattle.scicos.proofs.bulk.count_bulk.Goals as goal
 
 pub returns-in_err-checked-clause-counted : goal.returns-in_err-checked-clause-counted
-returns-in_err-checked-clause-counted g c = stopped_judging c.args.seed c.args.size _ c.judged.result c.from_residual.result c.in_err-checked.was (search rules) c.judged.ensures
+returns-in_err-checked-clause-counted g c = stopped_judging c.args.seed c.args.size c.requires.least c.requires.most _ c.judged.result c.from_residual.result c.in_err-checked.was (search rules) c.judged.ensures
 
 pub returns-in_err-length-clause-counted : goal.returns-in_err-length-clause-counted
 returns-in_err-length-clause-counted g c =
     let accepted = was_accepted c.args.seed c.args.size c.in_ok-checked.checked c.judged.result c.in_ok-checked.was c.judged.ensures in
-    stopped_measuring c.args.seed c.args.size c.in_ok-checked.checked _ c.from_residual-in_err-length.result (search rules) accepted c.in_err-length.ensures.stop
+    stopped_measuring c.args.seed c.args.size c.requires.least c.requires.most c.in_ok-checked.checked _ c.from_residual-in_err-length.result (search rules) accepted c.in_err-length.ensures.stop
 
 pub run_net-requires-clause-plan : goal.run_net-requires-clause-plan
 run_net-requires-clause-plan g c = (was_accepted c.args.seed c.args.size c.in_ok-checked.checked c.judged.result c.in_ok-checked.was c.judged.ensures).planned
