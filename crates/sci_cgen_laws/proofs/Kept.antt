@@ -1,0 +1,372 @@
+-- A generated program assigns values in the functions of blocks and at the beginning of main alone, and shows nothing else as values.
+use Rattle.std.proofs.Common.{◌≡◌, ℕ, zero, suc, ◌+◌, ◌-◌, ◌<◌, inl, inr, List, [], ◌∷◌, ◌++◌, length, Contains, Bool, true, false, ◌||◌, not, nat_eq, nat_lt, if◌then◌else◌, refl, sym, ap, subst, arith, ℤ, pos, negsuc, slice_index_or}
+use Rattle.std.specs.Int.{bit_at}
+use Rattle.std.proofs.lemmas.Bool.{and_from}
+use Rattle.std.proofs.lemmas.List.Elements.{Contains-append_cases}
+use Rattle.sci_base.specs.Fit.{int_eq}
+use Rattle.sci_forms.specs.declared.ports.Port.{Port as Output}
+use Rattle.sci_forms.specs.Ports.{elements}
+use Rattle.sci_forms.specs.Forms.{is_sync, has_state}
+use Rattle.sci_forms.specs.Words.{state_len_of}
+use Rattle.sci_kinds.specs.Table.{first_state, first_held}
+use Rattle.sci_net.specs.declared.Source.{Source}
+use Rattle.sci_net.specs.declared.Source.TheVariants.{Start, Port}
+use Rattle.sci_net.specs.Parts.{Parts, spec_of}
+use Rattle.sci_net.specs.Sources.{sources_of, source_of}
+use Rattle.sci_reaction.specs.Schedule.{Guard, Entry}
+use Rattle.sci_run.specs.Activity.{is_halt}
+use Rattle.sci_places.specs.Flat.{start_of}
+use Rattle.c_ast.specs.declared.Name.{Name}
+use Rattle.c_ast.specs.declared.Op.TheVariants.{Lt, Gt}
+use Rattle.c_ast.specs.Syntax.{Exp, bin, var, scalar, cell, Told, start, event, value, finish, stop, Statement, set, ask, choice, loop, call, tell, Block, done, next, Function}
+use Rattle.c_mean.specs.Meaning.{same_name}
+use Rattle.c_steps.specs.Texts.{May, number, joined, upto, statement_within, block_within}
+use Rattle.c_steps.proofs.Memory.{and_left, and_right}
+use Rattle.c_steps.proofs.Texts.{joined_within}
+use Rattle.sci_cgen_blocks.specs.Texts.{values, states, masks, body_text, next_text, branch_expression}
+use Rattle.sci_cgen_blocks.specs.Meant.{body_may}
+use Rattle.sci_cgen_blocks.proofs.Assigned.{body_within}
+use Rattle.sci_due.specs.Due.{dates, orders, best as chosen_name, scan as scan_name}
+use Rattle.sci_due.specs.Texts.{at_best}
+use Rattle.sci_cgen.specs.Names.{branches, until_name, halt_name, settle_name, choose_name}
+use Rattle.sci_cgen.specs.Program.{natural, one, is_active, mark, is_taken, end_where, has_halt, texts, text_where, only_where, port_count, places_of, is_scheduled, block_function, with_bit, with_bits, guard_text, call_text, entry_text, header_text, row_text, source_function, clear_text, has_sync, elements_shown, outputs_shown, values_shown, delay_text, state_text, halt_text, settle_text, halted_text, fire_text, event_text, turn_text, begun_text, list_begun, held_begun, state_begun, firing_at, programmed_before, firing_begun, source_begun, main_text, functions_upto, functions_where, other_functions, functions}
+use Rattle.sci_cgen.proofs.Parted.{reads, masked, guarded, called, all_shown, all_delays, all_states, all_halts, all_held, first_states, all_begun, until_asked, where_ports, fires_source, ending, running, own, blocks, sources, settle_function, clear_function, choose_function, before}
+use Rattle.sci_cgen_laws.specs.Values.{spares_values, are_sets, told_well, statement_shows_values, shows_values, IsBlockFunction, ProgramKeepsValues}
+
+-- ---- texts put together
+
+joined_all : (a b c : Block) → joined (joined a b) c ≡ joined a (joined b c)
+joined_all done b c = refl
+joined_all (next s a) b c = ap (next s) (joined_all a b c)
+
+joined_shows : (a b : Block) → shows_values a ≡ true → shows_values b ≡ true → shows_values (joined a b) ≡ true
+joined_shows done b p q = q
+joined_shows (next s a) b p q = and_from _ _ (and_left _ (shows_values a) p) (joined_shows a b (and_right (statement_shows_values s) _ p) q)
+
+joined_sets : (a b : Block) → are_sets a ≡ true → are_sets b ≡ true → are_sets (joined a b) ≡ true
+joined_sets done b p q = q
+joined_sets (next (set x e) a) b p q = joined_sets a b p q
+joined_sets (next (ask x e) a) b p q = cc
+joined_sets (next (choice e x y) a) b p q = cc
+joined_sets (next (loop x n s) a) b p q = cc
+joined_sets (next (call f) a) b p q = cc
+joined_sets (next (tell t) a) b p q = cc
+
+upto_sets : (f : ℕ → Block) (n : ℕ) → ((k : ℕ) → are_sets (f k) ≡ true) → are_sets (upto f n) ≡ true
+upto_sets f zero h = refl
+upto_sets f (suc n) h = joined_sets (upto f n) (f n) (upto_sets f n h) (h n)
+
+-- a text of assignments shows nothing
+sets_show : (a : Block) → are_sets a ≡ true → shows_values a ≡ true
+sets_show done h = refl
+sets_show (next (set x e) a) h = sets_show a h
+sets_show (next (ask x e) a) h = cc
+sets_show (next (choice e x y) a) h = cc
+sets_show (next (loop x n s) a) h = cc
+sets_show (next (call f) a) h = cc
+sets_show (next (tell t) a) h = cc
+
+-- a text that may show nothing shows no value
+module _ (may : May) (silent : may.show ≡ false) where
+  told_shows : (t : Told) → statement_within may (tell t) ≡ true → told_well t ≡ true
+  told_shows start h = refl
+  told_shows (event a b c) h = refl
+  told_shows (value a b c d) h = absurd (never may.show silent h)
+    where
+      never : (s : Bool) → s ≡ false → s || false ≡ true → ⊥
+      never true e g = cc
+      never false e g = cc
+  told_shows (finish a) h = refl
+  told_shows (stop a b c) h = refl
+
+  mutual
+    statement_silent : (s : Statement) → statement_within may s ≡ true → statement_shows_values s ≡ true
+    statement_silent (set x e) h = refl
+    statement_silent (ask x e) h = refl
+    statement_silent (choice e a b) h = and_from _ _ (block_silent a (and_left _ (block_within may b) h)) (block_silent b (and_right (block_within may a) _ h))
+    statement_silent (loop x n s) h = block_silent s (and_right (may.assign x) _ h)
+    statement_silent (call f) h = refl
+    statement_silent (tell t) h = told_shows t h
+
+    block_silent : (b : Block) → block_within may b ≡ true → shows_values b ≡ true
+    block_silent done h = refl
+    block_silent (next s b) h =
+        and_from _ _ (statement_silent s (and_left _ (block_within may b) h)) (block_silent b (and_right (statement_within may s) _ h))
+
+-- ---- texts that assign no value, and show values alone as values
+
+abbrev Kept : Block → Type 0
+Kept t = (block_within spares_values t ≡ true) × (shows_values t ≡ true)
+
+both : (a b : Block) → Kept a → Kept b → Kept (joined a b)
+both a b p q = (joined_within spares_values a b p.0 q.0, joined_shows a b p.1 q.1)
+
+each : (f : ℕ → Block) (n : ℕ) → ((k : ℕ) → Kept (f k)) → Kept (upto f n)
+each f zero h = (refl, refl)
+each f (suc n) h = both (upto f n) (f n) (each f n h) (h n)
+
+all : {A : Type 0} (f : A → Block) (xs : List A) → ((x : A) → Kept (f x)) → Kept (texts f xs)
+all f [] h = (refl, refl)
+all f (x ∷ xs) h = both (f x) (texts f xs) (h x) (all f xs h)
+
+where_kept : (test : Bool) (t : Block) → Kept t → Kept (text_where test t)
+where_kept true t h = h
+where_kept false t h = (refl, refl)
+
+only_kept : (e : Exp) (t : Block) → Kept t → Kept (only_where e t)
+only_kept e t h = (rw h.0 refl, rw h.1 refl)
+
+either_kept : (test : Bool) (a b : Block) → Kept a → Kept b → Kept (if test then a else b)
+either_kept true a b p q = p
+either_kept false a b p q = q
+
+-- ---- the text of one reaction
+
+header_kept : (s : Source) → Kept (header_text s)
+header_kept Start = (refl, refl)
+header_kept (Port q) = (refl, refl)
+
+module _ (n : Parts) where
+  bits_kept : (b mask m : ℕ) → Kept (with_bits b mask m)
+  bits_kept b mask m = each (λ p. text_where (nat_eq (bit_at mask p) 1) (with_bit b p)) m
+      (λ p. where_kept (nat_eq (bit_at mask p) 1) (with_bit b p) (refl, refl))
+
+  guard_kept : (e : Entry) (g : Guard) → Kept (guard_text n e g)
+  guard_kept e g =
+      let marks = text_where (not e.always) (mark e.block) in
+      let bits = with_bits e.block g.mask (spec_of n e.block).evtin in
+      only_kept (is_taken g) (joined marks (text_where (reads n e) bits))
+      (both marks (text_where (reads n e) bits) (where_kept (not e.always) (mark e.block) (refl, refl))
+      (where_kept (reads n e) bits (bits_kept e.block g.mask (spec_of n e.block).evtin)))
+
+  call_kept : (b : ℕ) → Kept (call_text n b)
+  call_kept b =
+      where_kept (is_sync (spec_of n b).kind) (one (set (cell branches (natural (b - 1))) (branch_expression (spec_of n b) (places_of n b)))) (refl, refl)
+
+  entry_kept : (e : Entry) → Kept (entry_text n e)
+  entry_kept e =
+      let body = only_where (is_active e.block) (call_text n e.block) in
+      both (text_where e.always (mark e.block)) (joined (masked n e) (joined (guarded n e) (called n e)))
+      (where_kept e.always (mark e.block) (refl, refl))
+      (both (masked n e) (joined (guarded n e) (called n e))
+      (where_kept (reads n e) (one (set (cell masks (natural (e.block - 1))) (natural e.mask))) (refl, refl))
+      (both (guarded n e) (called n e)
+      (where_kept (not e.always || reads n e) (texts (guard_text n e) e.guards) (all (guard_text n e) e.guards (guard_kept e)))
+      (either_kept e.always (call_text n e.block) body (call_kept e.block) (only_kept (is_active e.block) (call_text n e.block) (call_kept e.block)))))
+
+  row_kept : (s : Source) (row : List Entry) → Kept (row_text n s row)
+  row_kept s row = both (header_text s) (texts (entry_text n) row) (header_kept s) (all (entry_text n) row entry_kept)
+
+  -- ---- behind its values
+
+  elements_kept : (b p e o m : ℕ) → Kept (elements_shown b p e o m)
+  elements_kept b p e o zero = (refl, refl)
+  elements_kept b p e o (suc m) = elements_kept b p (e + 1) (o + 1) m
+
+  outputs_kept : (b p o : ℕ) (qs : List Output) → Kept (outputs_shown b p o qs)
+  outputs_kept b p o [] = (refl, refl)
+  outputs_kept b p o (q ∷ qs) =
+      both (elements_shown b p 1 o (elements q)) (outputs_shown b (p + 1) (o + elements q) qs) (elements_kept b p 1 o (elements q))
+      (outputs_kept b (p + 1) (o + elements q) qs)
+
+  shown_kept : (b : ℕ) → Kept (values_shown n b)
+  shown_kept b =
+      let shown = outputs_shown b 1 (start_of n b) (spec_of n b).outs in
+      where_kept (nat_lt 0 (length (spec_of n b).outs)) (only_where (is_active b) shown)
+      (only_kept (is_active b) shown (outputs_kept b 1 (start_of n b) (spec_of n b).outs))
+
+  delay_kept : (i : ℕ) (s : Source) → Kept (delay_text n i s)
+  delay_kept i Start = (refl, refl)
+  delay_kept i (Port q) = (refl, refl)
+
+  next_kept : (b : ℕ) → Kept (next_text (spec_of n b) (places_of n b))
+  next_kept b = each _ (state_len_of (spec_of n b).kind (spec_of n b)) (λ i. (refl, refl))
+
+  state_kept : (b : ℕ) → Kept (state_text n b)
+  state_kept b =
+      let text = next_text (spec_of n b) (places_of n b) in
+      where_kept (has_state (spec_of n b).kind) (only_where (is_active b) text) (only_kept (is_active b) text (next_kept b))
+
+  halt_kept : (b : ℕ) → Kept (halt_text n b)
+  halt_kept b =
+      where_kept (is_halt (spec_of n b).kind) (only_where (is_active b) (one (set (scalar halt_name) (natural 1)))) (refl, refl)
+
+  settle_kept : Kept (settle_text n)
+  settle_kept =
+      both (all_shown n) (joined (all_delays n) (joined (all_states n) (all_halts n)))
+      (each (λ k. values_shown n (suc k)) (length n.specs) (λ k. shown_kept (suc k)))
+      (both (all_delays n) (joined (all_states n) (all_halts n))
+      (each (λ k. delay_text n (suc k) (source_of n (suc k))) (port_count n) (λ k. delay_kept (suc k) (source_of n (suc k))))
+      (both (all_states n) (all_halts n) (each (λ k. state_text n (suc k)) (length n.specs) (λ k. state_kept (suc k)))
+      (each (λ k. halt_text n (suc k)) (length n.specs) (λ k. halt_kept (suc k)))))
+
+  -- ---- before a reaction
+
+  clear_kept : Kept (clear_text n)
+  clear_kept =
+      let h = where_kept (has_sync n) (one (set (cell branches (var scan_name)) (natural 0))) (refl, refl) in
+      (and_from _ true h.0 refl, and_from _ true h.1 refl)
+
+  -- ---- the run
+
+  halted_kept : Kept (halted_text n)
+  halted_kept = where_kept (has_halt n) (end_where (var halt_name) 0) (refl, refl)
+
+  fire_kept : Kept (fire_text n)
+  fire_kept = both (upto fires_source (port_count n)) (one (call settle_name)) (each fires_source (port_count n) (λ k. (refl, refl))) (refl, refl)
+
+  abbrev early : Block
+  early = end_where (bin Lt (var chosen_name) (natural 0)) 2
+
+  abbrev late : Block
+  late = end_where (bin Gt (at_best dates) (var until_name)) 3
+
+  event_kept : Kept (event_text n)
+  event_kept =
+      either_kept (nat_lt 0 (port_count n)) (next (call choose_name) (joined early (joined late (fire_text n)))) (one (tell (finish (natural 2))))
+      fire_kept (refl, refl)
+
+  turn_kept : Kept (turn_text n)
+  turn_kept = both (halted_text n) (event_text n) halted_kept event_kept
+
+  ending_kept : Kept (ending n)
+  ending_kept = both (halted_text n) (one (tell (finish (natural 1)))) halted_kept (refl, refl)
+
+  running_kept : Kept (running n)
+  running_kept = (and_from _ _ turn_kept.0 ending_kept.0, and_from _ _ turn_kept.1 ending_kept.1)
+
+  -- ---- before the run
+
+  begun_kept : (a : Name) (k : ℕ) (z : ℤ) → not (same_name values a) ≡ true → Kept (begun_text a k z)
+  begun_kept a k z h = where_kept (not (int_eq z (pos 0))) (one (set (cell a (natural k)) (number z))) (and_from _ true h refl, refl)
+
+  list_kept : (a : Name) (k : ℕ) (zs : List ℤ) → not (same_name values a) ≡ true → Kept (list_begun a k zs)
+  list_kept a k [] h = (refl, refl)
+  list_kept a k (z ∷ zs) h = both (begun_text a k z) (list_begun a (k + 1) zs) (begun_kept a k z h) (list_kept a (k + 1) zs h)
+
+  firing_kept : (i order : ℕ) (z : ℤ) → Kept (firing_begun i order z)
+  firing_kept i order (pos d) =
+      both (begun_text dates (i - 1) (pos d)) (begun_text orders (i - 1) (pos order)) (begun_kept dates (i - 1) (pos d) refl)
+      (begun_kept orders (i - 1) (pos order) refl)
+  firing_kept i order (negsuc d) = (refl, refl)
+
+  -- behind the values with which it begins
+  abbrev outset_rest : Block
+  outset_rest = joined (first_states n) (joined (all_begun n) (where_ports n))
+
+  outset_kept : Kept outset_rest
+  outset_kept =
+      both (first_states n) (joined (all_begun n) (where_ports n))
+      (each (λ k. state_begun n (suc k)) (length n.specs)
+      (λ k. list_kept states (places_of n (suc k)).state (first_state (spec_of n (suc k))) refl))
+      (both (all_begun n) (where_ports n)
+      (each (λ k. source_begun n (suc k)) (port_count n)
+      (λ k. firing_kept (suc k) (programmed_before n (suc k)) (firing_at n (source_of n (suc k)))))
+      (where_kept (nat_lt 0 (port_count n)) (until_asked n) (refl, refl)))
+
+  abbrev main_rest : Block
+  main_rest = joined outset_rest (running n)
+
+  rest_kept : Kept main_rest
+  rest_kept = both outset_rest (running n) outset_kept running_kept
+
+  begun_sets : (a : Name) (k : ℕ) (z : ℤ) → are_sets (begun_text a k z) ≡ true
+  begun_sets a k z = by_test (not (int_eq z (pos 0)))
+    where
+      by_test : (t : Bool) → are_sets (text_where t (one (set (cell a (natural k)) (number z)))) ≡ true
+      by_test true = refl
+      by_test false = refl
+
+  list_sets : (a : Name) (k : ℕ) (zs : List ℤ) → are_sets (list_begun a k zs) ≡ true
+  list_sets a k [] = refl
+  list_sets a k (z ∷ zs) = joined_sets (begun_text a k z) (list_begun a (k + 1) zs) (begun_sets a k z) (list_sets a (k + 1) zs)
+
+  held_sets : are_sets (all_held n) ≡ true
+  held_sets =
+      upto_sets (λ k. held_begun n (suc k)) (length n.specs) (λ k. list_sets values (start_of n (suc k)) (first_held (spec_of n (suc k))))
+
+  main_is : main_text n ≡ joined (all_held n) main_rest
+  main_is = joined_all (all_held n) outset_rest (running n)
+
+  main_shows : shows_values (main_text n) ≡ true
+  main_shows =
+      subst (λ (t : Block). shows_values t ≡ true) (sym main_is)
+      (joined_shows (all_held n) main_rest (sets_show (all_held n) held_sets) rest_kept.1)
+
+-- ---- functions
+
+-- what holds of each function of a list
+module _ (P : Function → Type 0) where
+  abbrev Of : List Function → Type 0
+  Of fs = (f : Function) → Contains fs f → P f
+
+  of_none : Of []
+  of_none f c = absurd (omega (arith, c.1))
+
+  of_first : (g : Function) (fs : List Function) → P g → Of fs → Of (g ∷ fs)
+  of_first g fs h rest f (zero, l, e) = subst P e h
+  of_first g fs h rest f (suc i, l, e) = rest f (i, omega (arith, l), e)
+
+  of_both : (xs ys : List Function) → Of xs → Of ys → Of (xs ++ ys)
+  of_both xs ys p q f c = elim (Contains-append_cases xs ys f c) [
+    | inl a ↦ p f a
+    | inr b ↦ q f b
+  ]
+
+  of_upto : (g : ℕ → Function) (m : ℕ) → ((k : ℕ) → k < m → P (g k)) → Of (functions_upto g m)
+  of_upto g zero h = of_none
+  of_upto g (suc m) h =
+      of_both (functions_upto g m) (g m ∷ []) (of_upto g m (λ k l. h k (omega (arith, l)))) (of_first (g m) [] (h m (omega arith)) of_none)
+
+  of_where : (test : Bool) (fs : List Function) → Of fs → Of (functions_where test fs)
+  of_where true fs h = h
+  of_where false fs h = of_none
+
+  -- the functions of a program
+  of_program : (n : Parts) (rows : List (List Entry)) → ((k : ℕ) → k < length n.specs → P (own n rows k)) → P (settle_function n) → P (clear_function n)
+      → P (choose_function n) → ((i : ℕ) → P (source_function n rows i)) → Of (functions n rows)
+  of_program n rows own_holds settles clears chooses sourced =
+      of_both (blocks n rows ++ other_functions n) (sources n rows)
+      (of_both (blocks n rows) (other_functions n) (of_upto (own n rows) (length n.specs) own_holds)
+      (of_first (settle_function n) (functions_where (nat_lt 0 (port_count n)) (before n)) settles
+      (of_where (nat_lt 0 (port_count n)) (before n)
+      (of_first (clear_function n) (choose_function n ∷ []) clears (of_first (choose_function n) [] chooses of_none)))))
+      (of_upto (source_function n rows) (length (sources_of n)) (λ i l. sourced i))
+
+module _ (n : Parts) (rows : List (List Entry)) where
+  source_kept : (i : ℕ) → Kept (source_function n rows i).body
+  source_kept i = row_kept n (source_of n i) (slice_index_or rows i [])
+
+  own_shows : (b : ℕ) → shows_values (block_function n rows b).body ≡ true
+  own_shows b = by_test (is_scheduled rows b)
+    where
+      by_test : (t : Bool) → shows_values (text_where t (body_text (spec_of n b) (places_of n b))) ≡ true
+      by_test true = block_silent (body_may (spec_of n b)) refl (body_text (spec_of n b) (places_of n b)) (body_within (spec_of n b) (places_of n b))
+      by_test false = refl
+
+  -- it assigns no value, where it isn't a block's
+  abbrev Spares : Function → Type 0
+  Spares f = (IsBlockFunction n f → ⊥) → block_within spares_values f.body ≡ true
+
+  abbrev Shows : Function → Type 0
+  Shows f = shows_values f.body ≡ true
+
+  all_spare : (f : Function) → Contains (functions n rows) f → Spares f
+  all_spare =
+      of_program Spares n rows (λ k l none. absurd (none (suc k, record { least = omega arith; most = omega (arith, l) }, refl)))
+      (λ none. (settle_kept n).0) (λ none. (clear_kept n).0) (λ none. refl) (λ i none. (source_kept i).0)
+
+  all_show : (f : Function) → Contains (functions n rows) f → Shows f
+  all_show = of_program Shows n rows (λ k l. own_shows (suc k)) (settle_kept n).1 (clear_kept n).1 refl (λ i. (source_kept i).1)
+
+pub program_keeps_values : ProgramKeepsValues
+program_keeps_values n rows net schedule = record {
+  others = all_spare n rows;
+  begin = all_held n;
+  rest = main_rest n;
+  main = main_is n;
+  begins = held_sets n;
+  spares = (rest_kept n).0;
+  shown = all_show n rows;
+  shown_by_main = main_shows n;
+}
