@@ -182,7 +182,8 @@ def wrong_values(name, trace, columns, until):
 
 
 def wrong_runs(program, name, bounds):
-    """The run on the inputs beside the diagram gives the trace beside it; that and a run on longer ones are what is due, and the C runs alike."""
+    """The run on the inputs beside the diagram gives the trace beside it; that and a run on longer ones are what is due; the C is that beside it, and runs
+    alike."""
     columns, until = longer(name)
     diagram, own = 'examples/%s/diagram.json' % name, 'examples/%s/inputs.json' % name
     with tempfile.TemporaryDirectory() as work:
@@ -192,7 +193,7 @@ def wrong_runs(program, name, bounds):
             file.write(made)
         with open(other, 'w') as file:
             json.dump(columns, file)
-        wrong = ['ccode: %r' % errors] if errors or status else []
+        wrong = apart('ccode', lines((made, errors, status)), lines((text(name, 'program.c'), '', 0)))
         runs = [answer(program, 'simulate', diagram, own, *bounds), answer(program, 'simulate', diagram, other, str(until), '100000')]
         given = [answer(program, 'crun', source, own, *bounds), answer(program, 'crun', source, other, str(until), '100000')]
     wrong += apart('simulate', lines(runs[0]), lines((text(name, 'trace.txt'), '', 0))) + apart('longer', [runs[1][1:]], [('', 0)])
@@ -201,20 +202,22 @@ def wrong_runs(program, name, bounds):
 
 
 def wrong_design(program, name):
-    """The page's one command is the run that is looked at, and its table is the program's map."""
-    page = text(name, 'README.md')
+    """The page's commands are the run that is looked at and the same with the C; its table is the program's map."""
+    page, folder = text(name, 'README.md'), 'examples/' + name
     commands = [line.split() for line in re.findall(r'^    (\S.*)$', page, re.M)]
-    command = ['./scicos', 'simulate', 'examples/%s/diagram.json' % name, 'examples/%s/inputs.json' % name]
-    if len(commands) != 1 or commands[0][:-2] != command:
+    bounds = commands[0][-2:] if commands else []
+    due = ['./scicos simulate %s/diagram.json %s/inputs.json' % (folder, folder), './scicos host > host.c',
+           'gcc -std=c99 -O2 -o %s %s/program.c host.c && ./%s %s/inputs.json' % (name, folder, name, folder)]
+    if commands != [due[0].split() + bounds, due[1].split(), due[2].split() + bounds]:
         return ['the commands of the page are %r' % commands]
-    blocks = [' '.join(line.split()[:3]) for line in answer(program, 'map', command[2])[0].splitlines()]
+    blocks = [' '.join(line.split()[:3]) for line in answer(program, 'map', folder + '/diagram.json')[0].splitlines()]
     rows = [' '.join(row) for row in re.findall(r'^\| (\d+) \| (\S+) \| (\w+) \|', page, re.M)]
-    return wrong_runs(program, name, commands[0][-2:]) + apart('the table', rows, blocks)
+    return wrong_runs(program, name, bounds) + apart('the table', rows, blocks)
 
 
 def designs(program):
-    """Each folder of examples/ is a design that does what it must, and the list of examples names it."""
-    folders = {name for name in os.listdir(EXAMPLES) if os.path.isdir(os.path.join(EXAMPLES, name))}
+    """Each folder of examples/ but the one of pictures is a design that does what it must, and the list of examples names it."""
+    folders = {name for name in os.listdir(EXAMPLES) if os.path.isdir(os.path.join(EXAMPLES, name))} - {'pictures'}
     listed = set(re.findall(r'^\| \[`([\w-]+)`\]', text('README.md'), re.M))
     wrong = [] if folders == listed == set(DESIGNS) else ['the folders are %r, the list has %r' % (folders, listed)]
     for name in sorted(DESIGNS):

@@ -1,7 +1,10 @@
-"""Drawings: the links of some diagrams, and of each example that every input is fed once and that what an event activates is in its schedule."""
+"""Drawings: the links of some diagrams, and of each example that every input is fed once, that what an event activates is in its schedule, and that its
+picture shows what is drawn."""
+import html
 import json
 import os
 import re
+import shutil
 import subprocess
 import sys
 import tempfile
@@ -82,6 +85,51 @@ def coloured(program):
     due = {'1': 'gold', '2': 'gold', '3': 'gold', '4': 'lightyellow', '5': 'lightyellow', '6': 'lightyellow'}
     same = (dict(re.findall(r'^  b(\d+) \[.*fillcolor=(\w+)\];$', text, re.M)), said, status) == (due, '', 0) and 'at 6\\nint32[1x1]\\nif 3.1 or 3.2' in text
     return [] if same else [text + said]
+
+
+def labels(marks):
+    """The texts of a block or a link in a drawing's text."""
+    found = re.findall(r'label="((?:[^"\\]|\\.)*)"', marks)
+    return sorted(re.sub(r'\\(.)', r'\1', line) for label in found for line in label.split('\\n'))
+
+
+def wanted(text):
+    """What a picture has to show of a drawing's text: of each block and each link whether it is dashed, and its texts."""
+    ends = re.findall(r'^  (b\d+(?: -> b\d+)?)(.*);$', text, re.M)
+    return sorted((name.replace(' ', ''), 'dashed' in marks, labels(marks)) for name, marks in ends)
+
+
+def shown(picture):
+    """The same of a picture."""
+    parts_of = re.findall(r'^<g id="\w+" class="(?:node|edge)">\n<title>(.*?)</title>\n(.*?)^</g>', picture, re.M | re.S)
+    texts = [(html.unescape(name), part, re.findall(r'^<text .*?>(.*)</text>$', part, re.M)) for name, part in parts_of]
+    return sorted((name, 'stroke-dasharray' in part, sorted(map(html.unescape, lines))) for name, part, lines in texts)
+
+
+def picture_of(path):
+    """The file of an example's picture, its page, and what stands there."""
+    folder, name = os.path.split(path)
+    if name == 'diagram.json':
+        return os.path.join(folder, 'picture.svg'), os.path.join(folder, 'README.md'), ['\n![The blocks and their links](picture.svg)\n']
+    name = name[:-len('.json')]
+    words = ['| `%s.json` | [picture][%s] |' % (name, name), '\n[%s]: pictures/%s.svg\n' % (name, name)]
+    return os.path.join(EXAMPLES, 'pictures', name + '.svg'), os.path.join(EXAMPLES, 'README.md'), words
+
+
+def pictures(program):
+    """Each example's picture shows the blocks and links that are drawn now, and a page has it; where Graphviz is installed it draws such pictures."""
+    wrong = []
+    for path in example_files():
+        due = wanted(drawn(program, ['--text'], path)[0])
+        picture, page, words = picture_of(path)
+        with open(picture) as file:
+            found = [file.read()]
+        found += [drawn(program, [], path)[0]] if shutil.which('dot') else []
+        wrong += ['%s shows %r in place of %r' % (picture, shown(content), due) for content in found if shown(content) != due or '<!--' in content]
+        with open(page) as file:
+            content = file.read()
+        wrong += ['%s has no %s' % (page, part.strip()) for part in words if part not in content]
+    return '; '.join(wrong)
 
 
 def drawing(program):

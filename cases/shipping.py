@@ -1,4 +1,5 @@
 """The page on targets: its host and examples/paced-host.c are C without a warning, a paced run has the trace and takes its time, and sizes are told."""
+import glob
 import os
 import re
 import shutil
@@ -62,9 +63,20 @@ def targets(program):
 
 
 def sizes(program):
-    """The table of sizes has a row of five numbers for a diagram."""
+    """The table of sizes has a row of five numbers for a diagram, and the one on the page is what is printed of the designs."""
     if shutil.which('gcc') is None or shutil.which('size') is None:
         return ''
     run = subprocess.run([os.path.join(TOP, 'tools', 'sizes'), program, os.path.join(EXAMPLES, 'counter.json')], capture_output=True, timeout=120)
     same = run.returncode == 0 and re.search(r'^\| counter\.json \| 4 (\| \d+ ){4}\|$', run.stdout.decode(), re.M)
-    return '' if same else repr(run)
+    return wrong_table(program) if same else repr(run)
+
+
+def wrong_table(program):
+    """What is wrong with the page's table of the designs: with the compiler that it names all numbers are compared, else those of blocks and lines."""
+    diagrams = sorted(glob.glob(os.path.join(EXAMPLES, '*', 'diagram.json')))
+    run = subprocess.run([os.path.join(TOP, 'tools', 'sizes'), program] + diagrams, capture_output=True, timeout=120)
+    page, version = text(TOP, 'docs', 'SHIPPING.md'), subprocess.run(['gcc', '--version'], capture_output=True).stdout.decode().split('\n')[0]
+    cells = 6 if '`%s`' % version in page and os.uname().machine == 'x86_64' else 3
+    row = re.compile(r'^\| ([\w-]+)' + r' \| (\d+)' * 5 + r' \|$', re.M)
+    given, due = ([found[:cells] for found in row.findall(table)] for table in (page, run.stdout.decode()))
+    return '' if given == due and due else '%r in place of %r' % (given, due)
