@@ -27,7 +27,7 @@ use Rattle.sci_cgen.specs.Names.{block_name}
 use Rattle.sci_cgen.specs.Program.{text_where, port_count, places_of, states_before, is_scheduled, block_function, source_function, functions_upto, functions_where, other_functions, functions, program}
 use Rattle.sci_cgen.specs.Laws.{named_so}
 use Rattle.sci_cgen.proofs.Parted.{own, blocks, sources, before as before_events}
-use Rattle.sci_cgen.proofs.Sizes.{in_bounds, state_within}
+use Rattle.sci_cgen.proofs.Sizes.{in_bounds, input_within, state_within}
 use Rattle.sci_cgen_laws.specs.Values.{AreApart, ProgramHasPlaces}
 
 -- ---- the function of a block's name
@@ -181,9 +181,11 @@ program_has_places n rows net free schedule = record {
   in_values = λ b is. block_within n b is;
   in_states = λ b is. state_within n net b is;
   in_masks = λ b is. omega (arith, is.least, is.most);
-  outs = outs_of n;
-  states = states_of n;
-  masks = masks_of n;
+  in_ins = λ b k e is l r. input_within n net b k e is l r;
+  arrays = ((0, omega arith, refl), (1, omega arith, refl), (2, omega arith, refl));
+  out_places = outs_of n;
+  state_places = states_of n;
+  mask_places = masks_of n;
   ins = λ b k e is l r. ap (λ (j : ℕ). j + e) (starts_at n net b k is l);
   fed = λ b k is has l through. fed_by_other n net rows free schedule b k is has l through;
 }

@@ -10,10 +10,10 @@ use Rattle.sci_run.specs.Laws.{AreLoopFree}
 use Rattle.c_ast.specs.Syntax.{Exp, num, element, Told, value, Statement, set, choice, loop, tell, Block, done, next, Function, Whole}
 use Rattle.c_mean.specs.Meaning.{same_name}
 use Rattle.c_steps.specs.Texts.{joined, May, block_within}
-use Rattle.sci_cgen_blocks.specs.Texts.{values, input_place, body_text}
+use Rattle.sci_cgen_blocks.specs.Texts.{values, states, masks, input_place, body_text}
 use Rattle.sci_cgen_blocks.specs.Meant.{AreInBounds}
 use Rattle.sci_cgen.specs.Names.{block_name}
-use Rattle.sci_cgen.specs.Program.{program, places_of, is_scheduled, states_before}
+use Rattle.sci_cgen.specs.Program.{program, places_of, is_scheduled, states_before, array}
 use Rattle.sci_cgen.specs.Laws.{named_so}
 
 -- ---- values
@@ -83,11 +83,15 @@ pub record HasPlaces (n : Parts) (rows : List (List Entry)) (p : Whole) : Type 0
   pub in_values : (b : ℕ) → IsBlock n b → (places_of n b).outs + total (spec_of n b).outs ≤ all_elements n.specs
   pub in_states : (b : ℕ) → IsBlock n b → (places_of n b).state + state_len_of (spec_of n b).kind (spec_of n b) ≤ states_before n.specs (length n.specs)
   pub in_masks : (b : ℕ) → IsBlock n b → (places_of n b).mask < length n.specs
-  pub outs : (b c : ℕ) → IsBlock n b → IsBlock n c → b ≢ c
+  pub in_ins : (b k e : ℕ) → IsBlock n b → k < length (spec_of n b).ins → e < elements (port_at (spec_of n b).ins k)
+      → input_place (places_of n b) k e < all_elements n.specs
+  pub arrays : Contains p.decls (array values (all_elements n.specs))
+      × Contains p.decls (array states (states_before n.specs (length n.specs))) × Contains p.decls (array masks (length n.specs))
+  pub out_places : (b c : ℕ) → IsBlock n b → IsBlock n c → b ≢ c
       → AreApart (places_of n b).outs (total (spec_of n b).outs) (places_of n c).outs (total (spec_of n c).outs)
-  pub states : (b c : ℕ) → IsBlock n b → IsBlock n c → b ≢ c
+  pub state_places : (b c : ℕ) → IsBlock n b → IsBlock n c → b ≢ c
       → AreApart (places_of n b).state (state_len_of (spec_of n b).kind (spec_of n b)) (places_of n c).state (state_len_of (spec_of n c).kind (spec_of n c))
-  pub masks : (b c : ℕ) → IsBlock n b → IsBlock n c → b ≢ c → (places_of n b).mask ≢ (places_of n c).mask
+  pub mask_places : (b c : ℕ) → IsBlock n b → IsBlock n c → b ≢ c → (places_of n b).mask ≢ (places_of n c).mask
   pub ins : (b k e : ℕ) → IsBlock n b → k < length (spec_of n b).ins → e < elements (port_at (spec_of n b).ins k)
       → input_place (places_of n b) k e
       ≡ (places_of n (wire_of n b (suc k)).block).outs + before (spec_of n (wire_of n b (suc k)).block).outs ((wire_of n b (suc k)).port - 1) + e
