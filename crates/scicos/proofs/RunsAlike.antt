@@ -1,5 +1,5 @@
 -- The C of a diagram runs as the diagram does.
-use Rattle.std.proofs.Common.{◌≡◌, ◌≤◌, ◌^◌, ℕ, ℤ, pos, List, [], ◌∷◌, inl, inr, refl, sym, ◌∙◌, ap, subst, arith, Option, Some, None, Ok, Err, Bool, true, false, length, rules, if◌then◌else◌}
+use Rattle.std.proofs.Common.{◌≡◌, ◌≤◌, ◌^◌, ◌⊎◌, ℕ, ℤ, pos, List, [], ◌∷◌, inl, inr, refl, sym, ◌∙◌, ap, subst, arith, Option, Some, None, Ok, Err, Bool, true, false, length, rules, if◌then◌else◌}
 use Rattle.std.specs.Prelude.{nat_lt}
 use Rattle.sci_base.specs.Plain.{Violation}
 use Rattle.sci_base.specs.Outcome.{◌>>=◌}
@@ -10,20 +10,21 @@ use Rattle.sci_needs.specs.Needs.{needs_of}
 use Rattle.sci_needs.proofs.Sensors.{needs_exact}
 use Rattle.sci_needs.proofs.Columns.{columns_in_range}
 use Rattle.sci_run.proofs.Finish.{run_is_over}
+use Rattle.sci_run.proofs.Traces.{some_trace}
 use Rattle.c_ast.specs.Syntax.{Whole}
 use Rattle.c_ast.specs.Spelling.{spelling}
 use Rattle.c_mean.specs.Meaning.{meaning}
 use Rattle.c_read.proofs.Uniqueness.{one_spelled, not_both}
 use Rattle.sci_verdict.specs.Verdict.{Plan, Accepts}
-use Rattle.sci_verdict.proofs.Verdicts.{one_verdict}
+use Rattle.sci_verdict.proofs.Verdicts.{one_verdict, given_is_net}
 use Rattle.scicos.specs.Inputs.{AcceptsColumns, BreaksColumns}
 use Rattle.scicos.specs.Program.{AcceptsC, BreaksC}
-use Rattle.scicos.specs.Answer.{Answer, IsDone, refused, ran, c_ran, IsTraceOf}
+use Rattle.scicos.specs.Answer.{Answer, IsDone, refused, ran, run_status, c_ran, IsTraceOf}
 use Rattle.scicos.specs.Code.{IsCodeOf}
 use Rattle.scicos.specs.Course.{Holds, c_slot, inputs_slot, Fails, DueOn}
 use Rattle.scicos.specs.Words.{Request, simulate, code, run_c, spelled, InBounds}
 use Rattle.scicos.specs.Due.{behind_diagram, behind_program, course_of, Due}
-use Rattle.scicos.specs.Ran.{AreAnswers, CodeRunsAlike, CodeRunsOnlySo}
+use Rattle.scicos.specs.Ran.{AreAnswers, CodeRunsAlike, CodeRunsOnlySo, IsGenerated, CodeIsDefined}
 use Rattle.scicos.proofs.Ends.{status-is}
 use Rattle.scicos.proofs.OneAnswer.{same_command}
 use Rattle.scicos.proofs.Traced.{ran_alike}
@@ -174,3 +175,30 @@ pub code_runs_only_so : CodeRunsOnlySo
 code_runs_only_so d i c j until limit diagram inputs simulated coded ran files names h due =
     let r = runs_so d i until limit diagram inputs simulated coded h in
     only_so c j until limit inputs simulated coded ran files names r h.short (due_course files (run_c c j until limit) _ names ran (h.until_within, h.limit_within) due)
+
+-- ---- it is nowhere without meaning
+
+trace_of : (d : List ℕ) (until limit : ℕ) (diagram inputs : List ℕ) (coded : Answer) → IsGenerated d until limit diagram inputs coded
+    → (a : Answer) × IsSimulated until limit diagram inputs a
+trace_of d until limit diagram inputs coded h =
+    let net = h.plan.net in
+    let trace = some_trace net h.columns (given_is_net diagram net h.accepted.given) h.accepted.planned.free until limit in
+    (ran trace.0, record { plan = h.plan; accepted = h.accepted; columns = h.columns; short = h.inputs_short; read = h.read; trace = (trace.0, trace.1, refl) })
+
+ends_or_stops : (stopped : Bool) → (run_status stopped ≡ 0) ⊎ (run_status stopped ≡ 6)
+ends_or_stops false = inl refl
+ends_or_stops true = inr refl
+
+status_of : (until limit : ℕ) (diagram inputs : List ℕ) (a b : Answer) → IsSimulated until limit diagram inputs a → b ≡ a → (b.status ≡ 0) ⊎ (b.status ≡ 6)
+status_of until limit diagram inputs a b s same =
+    let told : b ≡ ran s.trace.0 = same ∙ s.trace.2 in
+    subst (λ (x : Answer). (x.status ≡ 0) ⊎ (x.status ≡ 6)) (sym told) (ends_or_stops _)
+
+pub code_is_defined : CodeIsDefined
+code_is_defined d c j until limit diagram inputs coded ran files names h due =
+    let t = trace_of d until limit diagram inputs coded h in
+    let k = is_coded h.code_files d diagram h.code_names coded h.written (due_course h.code_files (code d) _ h.code_names coded tt h.code_due) in
+    let plan : k.plan ≡ t.1.plan = one_verdict.one_made diagram k.plan t.1.plan k.accepted t.1.accepted in
+    let r = program_runs_so until limit diagram inputs t.0 coded t.1 (subst (λ (p : Plan). IsCodeOf p coded) plan k.code_of) h.until_within h.limit_within in
+    let same = only_so c j until limit inputs t.0 coded ran files names r h.short (due_course files (run_c c j until limit) _ names ran (h.until_within, h.limit_within) due) in
+    status_of until limit diagram inputs t.0 ran t.1 same

@@ -1,6 +1,6 @@
 ghost use Rattle.scicos.specs.Laws.{OneAnswer, OneAnswerOfBytes};
 ghost use Rattle.scicos.specs.BulkRuns.{BulkEndsByEvents};
-ghost use Rattle.scicos.specs.Ran.{CodeRunsAlike, CodeRunsOnlySo};
+ghost use Rattle.scicos.specs.Ran.{CodeIsDefined, CodeRunsAlike, CodeRunsOnlySo};
 
 /// Of the words and the files' bytes at most one answer is due, with one list of names that are read for it, and the files tell their bytes;
 /// but that any loop of the least source that has one may be told.
@@ -11,7 +11,7 @@ pub fn one_answer_is_due()
 
 /// Where `simulate` on a diagram and an input file is due to run, and the bytes that are due of `ccode` on this diagram are no more than a C file
 /// may have, `crun` on these bytes, with the same input file and the same bounds, is due the same answer, and no other: the same bytes and the
-/// same status, which is 0 or 6, and never 7.
+/// same status.
 pub fn code_runs_alike()
     ensures alike { CodeRunsAlike }
     ensures only { CodeRunsOnlySo }
@@ -20,4 +20,10 @@ pub fn code_runs_alike()
 /// The run of which `bulk` tells ends by the bound on events.
 pub fn bulk_ends_by_events()
     ensures { BulkEndsByEvents }
+{}
+
+/// Where a diagram is accepted and an input file has what its sensors need, what is due of `crun` on the bytes that are due of `ccode` has status 0
+/// or 6, and never 7.
+pub fn code_is_defined()
+    ensures { CodeIsDefined }
 {}
