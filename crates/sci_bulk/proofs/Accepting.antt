@@ -1,10 +1,13 @@
 -- A bulk diagram breaks no rule, and its run ends by the bound on events.
-use Rattle.std.proofs.Common.{◌≡◌, ◌≤◌, ◌+◌, ◌*◌, ◌^◌, ◌++◌, inl, inr, ℕ, List, [], ◌∷◌, length, Ok, Err, sym, ap, subst, arith}
+use Rattle.std.specs.Prelude.{nat_le}
+use Rattle.std.proofs.lemmas.Bool.Decides.{nat_tests}
+use Rattle.std.proofs.Common.{◌≡◌, ◌≤◌, ◌+◌, ◌*◌, ◌^◌, ◌++◌, inl, inr, true, ℕ, List, [], ◌∷◌, length, Ok, Err, refl, sym, ap, subst, arith}
 use Rattle.sci_base.specs.Plain.{Violation}
 use Rattle.sci_base.specs.declared.observation.Obs.{Obs}
 use Rattle.sci_base.specs.declared.observation.Obs.TheVariants.{End}
 use Rattle.sci_base.specs.declared.observation.EndWord.TheVariants.{Events}
-use Rattle.sci_diagram.specs.Objects.{objects_of}
+use Rattle.sci_diagram.specs.Objects.{Objects, objects_of}
+use Rattle.sci_diagram.specs.Count.{blocks_in, links_in, counted}
 use Rattle.sci_net.specs.Parts.{Parts}
 use Rattle.sci_net.specs.Sources.{sources_of, source_of}
 use Rattle.sci_reaction.specs.Memory.{Columns}
@@ -15,13 +18,21 @@ use Rattle.sci_infer.specs.Answer.{IsAnswer}
 use Rattle.sci_bulk.specs.declared.data_block.DataBlock.{DataBlock}
 use Rattle.sci_bulk.specs.Bulk.{data_blocks, drawing}
 use Rattle.sci_bulk.specs.Laws.{IsRestless, IsAccepted, BulkIsAccepted, BulkEndsByEvents}
-use Rattle.sci_bulk.proofs.Ready.{data_length}
+use Rattle.sci_bulk.proofs.Ready.{data_length, link_count}
+use Rattle.sci_bulk.proofs.Ready.{block_count as object_count}
 use Rattle.sci_bulk.proofs.Forward.{forward_is_free, forward_is_short}
 use Rattle.sci_bulk.proofs.Restless.{restless_ends_by_events}
 use Rattle.sci_bulk.proofs.Drawn.{AreDrawn, all_drawn}
 use Rattle.sci_bulk.proofs.Feeding.{keeps_rules}
 use Rattle.sci_bulk.proofs.Inferring.{own_answer}
 use Rattle.sci_bulk.proofs.Running.{specs_are, block_count, source_count, forward, restless}
+
+within_bounds : (t : Objects) → blocks_in t ≤ 2048 → links_in t ≤ 16384 → counted t ≡ Ok t
+unfolding counted
+within_bounds t blocks links =
+    let few_blocks : nat_le (blocks_in t) 2048 ≡ true = grind (arith, nat_tests, blocks) in
+    let few_links : nat_le (links_in t) 16384 ≡ true = grind (arith, nat_tests, links) in
+    rw few_blocks (rw few_links refl)
 
 module _ (ds : List DataBlock) (drawn : AreDrawn 1 ds) (most : length ds ≤ 2000) where
   same_net : (n m : Parts) → IsFlatNet (objects_of (drawing ds)) n → IsAnswer n (Ok m) → m ≡ n
@@ -41,6 +52,7 @@ module _ (ds : List DataBlock) (drawn : AreDrawn 1 ds) (most : length ds ≤ 200
 
   accepted : IsAccepted (objects_of (drawing ds))
   accepted = record {
+    few = within_bounds (objects_of (drawing ds)) (omega (arith, object_count ds, most)) (omega (arith, link_count ds, most));
     flat = keeps_rules ds drawn;
     typed = always_typed;
     planned = λ n m v flat a h. no_plan_break n v flat (subst (λ (k : Parts). IsPlanBreak k v) (same_net n m flat a) h);

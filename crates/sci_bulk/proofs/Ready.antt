@@ -2,7 +2,7 @@
 use Rattle.std.proofs.Common.{◌≡◌, ◌≤◌, ◌+◌, ◌-◌, ◌*◌, ◌++◌, ℕ, zero, suc, List, [], ◌∷◌, length, map, refl, ◌∙◌, ap, arith, pos}
 use Rattle.std.proofs.lemmas.List.{length-append}
 use Rattle.sci_diagram.specs.Objects.{Object, objects_of, listed}
-use Rattle.sci_diagram.specs.Count.{blocks_in}
+use Rattle.sci_diagram.specs.Count.{blocks_in, links_in}
 use Rattle.sci_blocks.specs.Sizes.{AreInsidesShort}
 use Rattle.sci_flat.specs.Ready.{AreFieldsSmall, AreSmall, ports_in, IsReady}
 use Rattle.sci_bulk.specs.declared.data_block.DataBlock.{DataBlock}
@@ -15,6 +15,10 @@ use Rattle.sci_bulk.specs.Laws.{BulkIsReady}
 blocks_append : (xs ys : List Object) → blocks_in (objects_of (xs ++ ys)) ≡ blocks_in (objects_of xs) + blocks_in (objects_of ys)
 blocks_append [] ys = omega arith
 blocks_append (x ∷ xs) ys = let e = blocks_append xs ys in omega (arith, e)
+
+links_append : (xs ys : List Object) → links_in (objects_of (xs ++ ys)) ≡ links_in (objects_of xs) + links_in (objects_of ys)
+links_append [] ys = omega arith
+links_append (x ∷ xs) ys = let e = links_append xs ys in omega (arith, e)
 
 ports_append : (xs ys : List Object) → ports_in (objects_of (xs ++ ys)) ≡ ports_in (objects_of xs) + ports_in (objects_of ys)
 ports_append [] ys = omega arith
@@ -40,6 +44,13 @@ data_count (One ∷ ds) = let e = data_count ds in omega (arith, e)
 data_count (Delay c a ∷ ds) = let e = data_count ds in omega (arith, e)
 data_count (Sum a b ∷ ds) = let e = data_count ds in omega (arith, e)
 data_count (Triple a ∷ ds) = let e = data_count ds in omega (arith, e)
+
+data_links : (ds : List DataBlock) → links_in (objects_of (map data_object ds)) ≡ 0
+data_links [] = refl
+data_links (One ∷ ds) = let e = data_links ds in omega (arith, e)
+data_links (Delay c a ∷ ds) = let e = data_links ds in omega (arith, e)
+data_links (Sum a b ∷ ds) = let e = data_links ds in omega (arith, e)
+data_links (Triple a ∷ ds) = let e = data_links ds in omega (arith, e)
 
 data_long : (ds : List DataBlock) → length (map data_object ds) ≡ length ds
 data_long [] = refl
@@ -81,6 +92,18 @@ into_counts o (Delay c a) = (refl, refl, omega arith)
 into_counts o (Sum a b) = (refl, refl, omega arith)
 into_counts o (Triple a) = (refl, refl, omega arith)
 
+into_links : (o : ℕ) (d : DataBlock) → links_in (objects_of (links_into o d)) ≤ 2
+into_links o One = omega arith
+into_links o (Delay c a) = omega arith
+into_links o (Sum a b) = omega arith
+into_links o (Triple a) = omega arith
+
+all_links : (o : ℕ) (ds : List DataBlock) → links_in (objects_of (links_from o ds)) ≤ 2 * length ds
+all_links o [] = omega arith
+all_links o (d ∷ ds) =
+    let e = links_append (links_into o d) (links_from (suc o) ds) in
+    omega (arith, e, into_links o d, all_links (suc o) ds)
+
 into_small : (o : ℕ) (d : DataBlock) → AreSmall (objects_of (links_into o d)) × AreInsidesShort (objects_of (links_into o d))
 into_small o One = (tt, tt)
 into_small o (Delay c a) = ((tt, (tt, tt)), (tt, (tt, tt)))
@@ -116,7 +139,14 @@ module _ (ds : List DataBlock) where
   behind_clocks : List Object
   behind_clocks = map data_object ds ++ (map clock_link clocks ++ links_from 9 ds)
 
-  block_count : blocks_in (objects_of (drawing ds)) ≡ 8 + length ds
+  pub link_count : links_in (objects_of (drawing ds)) ≤ 8 + 2 * length ds
+  link_count =
+      let a = links_append (map clock clocks) (map data_object ds ++ (map clock_link clocks ++ links_from 9 ds)) in
+      let b = links_append (map data_object ds) (map clock_link clocks ++ links_from 9 ds) in
+      let c = links_append (map clock_link clocks) (links_from 9 ds) in
+      omega (arith, a, b, c, data_links ds, all_links 9 ds)
+
+  pub block_count : blocks_in (objects_of (drawing ds)) ≡ 8 + length ds
   block_count =
       let a = blocks_append (map clock clocks) (map data_object ds ++ (map clock_link clocks ++ links_from 9 ds)) in
       let b = blocks_append (map data_object ds) (map clock_link clocks ++ links_from 9 ds) in

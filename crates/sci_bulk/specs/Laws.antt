@@ -6,6 +6,7 @@ use Rattle.sci_base.specs.declared.observation.Obs.TheVariants.{End}
 use Rattle.sci_base.specs.declared.observation.EndWord.TheVariants.{Events}
 use Rattle.sci_kinds.specs.Table.{Values, out, delay}
 use Rattle.sci_diagram.specs.Objects.{Objects}
+use Rattle.sci_diagram.specs.Count.{counted}
 use Rattle.sci_flat.specs.Ready.{IsReady}
 use Rattle.sci_flat.specs.Flat.{IsFlatNet}
 use Rattle.sci_flat.specs.Refused.{Breaks as IsNotFlat}
@@ -67,9 +68,10 @@ RestlessEndsByEvents =
 
 -- ---- bulk diagrams
 
--- A diagram that breaks no rule: none on tags, blocks, links and feeding; none on types and sizes, on the way from its flat net to its typed
--- net; none on loops and the length of schedules.
+-- A diagram that breaks no rule: it has no more blocks and links than a file's may have; none on tags, blocks, links and feeding; none on types
+-- and sizes, on the way from its flat net to its typed net; none on loops and the length of schedules.
 pub record IsAccepted (t : Objects) : Type 0 where
+  pub few : counted t ≡ Ok t
   pub flat : (v : Violation) → IsNotFlat t v → ⊥
   pub typed : (n : Parts) (v : Violation) → IsFlatNet t n → IsAnswer n (Err v) → ⊥
   pub planned : (n m : Parts) (v : Violation) → IsFlatNet t n → IsAnswer n (Ok m) → IsPlanBreak m v → ⊥
