@@ -37,14 +37,15 @@ use Rattle.sci_bulk.proofs.Accepting.{bulk_is_accepted}
 use Rattle.sci_verdict.specs.Verdict.{plan_of, TreeAccepts, TreeBreaks, tree_not_flat, tree_not_typed, tree_no_net, tree_no_plan, IsTreeChecked}
 use Rattle.sci_verdict.specs.declared.checked.Checked.{Checked}
 use Rattle.sci_verdict.proofs.Verdicts.{tree_given_is_net}
+use Rattle.scicos.specs.Counts.{CountsRun, CountsBulk}
 use Rattle.scicos.specs.Bulk.{bulk_line, IsBulkLine, IsBulkAnswer, counted_line, IsCounted}
 use Rattle.scicos.specs.Words.{bulk}
-use Rattle.scicos.specs.Due.{course_of}
 use Rattle.scicos.specs.Prepare.{LooksAt}
 use Rattle.scicos.specs.declared.bulk.BulkCounts.{BulkCounts}
 use Rattle.scicos.specs.declared.look.LookStop.TheVariants as stops
 use Rattle.scicos.specs.declared.prepare.Prepared.TheVariants.{Bulk}
 use Rattle.scicos.proofs.Lengths.{run_short}
+use Rattle.scicos.proofs.Counting.{run_counts}
 use Rattle.scicos.proofs.Courses.{of_made, lacks_made}
 use Rattle.scicos.proofs.Looking.{stopped_looks}
 
@@ -126,6 +127,30 @@ pub has_run : (n m : Parts) (i : Columns) (rows : List (List Entry)) (r : Runnin
 has_run n m i rows r banks a b q none same net plan written finished =
     ran_sure n m rows r banks a b q same net plan (subst (λ (cs : Columns). WritesRun m cs a b q) none written) (subst (λ (cs : Columns). FinishesRun m cs r banks q) none finished)
 
+-- ---- the counts of the banks
+
+counts_to : (n m : Parts) (r : Running) (banks : List Meaning) (a b : Bool) (os : List Obs) (q : Result RunEnd Failed) → r.fixed.net ≡ n → IsNet n → Writes (direct None 0 a) (direct None 0 b) (text os) q → FinishesRun m [] r banks q
+    → CountsRun n [] (2 ^ 62) 1000 banks
+counts_to n m r banks a b os (Ok e) same net w h = run_counts n [] (2 ^ 62) 1000 r banks h.0 e h.2 same net (omega arith)
+counts_to n m r banks a b os (Err e) same net w h = absurd (omega (arith, w.cause))
+
+counts_sure : (n m : Parts) (rows : List (List Entry)) (r : Running) (banks : List Meaning) (a b : Bool) (q : Result RunEnd Failed) → m ≡ n → IsNet n → IsPlan n rows → WritesRun m [] a b q → FinishesRun m [] r banks q → r.fixed.net ≡ m
+    → CountsRun n [] (2 ^ 62) 1000 banks
+counts_sure n m rows r banks a b q same net plan written finished stays =
+    let trace = some_trace n [] net plan.free (2 ^ 62) 1000 in
+    let os = trace.0 in
+    let run = subst (λ (k : Parts). IsRun k [] (2 ^ 62) 1000 os) (sym same) trace.1 in
+    counts_to n m r banks a b os q (stays ∙ same) net (written os run) finished
+
+pub has_counts : (n m : Parts) (i : Columns) (rows : List (List Entry)) (r : Running) (banks : List Meaning) (a b : Bool) (q : Result RunEnd Failed) → i ≡ [] → m ≡ n → IsNet n → IsPlan n rows
+    → ((os : List Obs) → IsRun m i (2 ^ 62) 1000 os → Writes (direct None 0 a) (direct None 0 b) (text os) q)
+    → IfOk q (λ e. (os : List Obs) × IsRun m i (2 ^ 62) 1000 os × IsFinished i (2 ^ 62) 1000 r banks os e) → r.fixed.net ≡ m → CountsRun n [] (2 ^ 62) 1000 banks
+has_counts n m i rows r banks a b q none same net plan written finished stays =
+    counts_sure n m rows r banks a b q same net plan (subst (λ (cs : Columns). WritesRun m cs a b q) none written) (subst (λ (cs : Columns). FinishesRun m cs r banks q) none finished) stays
+
+pub bulk_counts : (seed size : ℕ) (c : Checked) (banks : List Meaning) → TreeAccepts (bulk_tree seed size) (plan_of c) → CountsRun c.net [] (2 ^ 62) 1000 banks → CountsBulk seed size banks
+bulk_counts seed size c banks accepted counts = (plan_of c, accepted, counts)
+
 -- ---- the counts
 
 lines_counted : (n : ℕ) → lines_after 0 n ≡ min n 18446744073709551615
@@ -160,9 +185,15 @@ all_counted seed size c length_of r counts accepted measured ran blocks sources 
 
 -- ---- what the command comes to
 
-pub counted_looks : (seed size : ℕ) (s : FolderState) (banks : List Meaning) (counts : BulkCounts) → IsBulkLine seed size (counted_line counts) → LooksAt s s banks (course_of (bulk seed size)) (Ok (Bulk counts))
-counted_looks seed size s banks counts h =
-    record { reaches = λ a is. of_made s (IsBulkAnswer seed size) a (counted_line counts, h, is); prepared = tt; lacks = λ may. absurd may }
+pub counted_looks : (seed size : ℕ) (s : FolderState) (banks : List Meaning) (counts : BulkCounts) → IsBulkLine seed size (counted_line counts) → CountsBulk seed size banks → LooksAt s s banks (bulk seed size) (Ok (Bulk counts))
+counted_looks seed size s banks counts h active =
+    record {
+      reaches = λ a is.
+          let reached = of_made s (IsBulkAnswer seed size) a (counted_line counts, h, is) in
+          (reached.0, reached.1, λ after done left. subst (λ (l : List Meaning). CountsBulk seed size l) (sym left) active);
+      prepared = tt;
+      lacks = λ may. absurd may;
+    }
 
-pub lacks_looks : (seed size : ℕ) (s : FolderState) (banks : List Meaning) → LooksAt s s banks (course_of (bulk seed size)) (Err stops.Memory)
-lacks_looks seed size s banks = stopped_looks s s banks (course_of (bulk seed size)) (Err stops.Memory) stops.Memory refl (lacks_made s (IsBulkAnswer seed size))
+pub lacks_looks : (seed size : ℕ) (s : FolderState) (banks : List Meaning) → LooksAt s s banks (bulk seed size) (Err stops.Memory)
+lacks_looks seed size s banks = stopped_looks s s banks (bulk seed size) (Err stops.Memory) stops.Memory refl (lacks_made s (IsBulkAnswer seed size))

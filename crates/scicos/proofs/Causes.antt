@@ -1,15 +1,17 @@
 -- The cause of each status, from what a call comes to and what it writes.
-use Rattle.std.proofs.Common.{◌≡◌, ◌≤◌, ◌<◌, ◌++◌, ℕ, List, [], ◌∷◌, ◌⊎◌, inl, inr, refl, sym, ◌∙◌, ap, subst, arith}
+use Rattle.std.proofs.Common.{◌≡◌, ◌≤◌, ◌<◌, ◌++◌, ℕ, List, [], ◌∷◌, ◌⊎◌, inl, inr, refl, sym, ◌∙◌, ap, arith}
 use Rattle.std.proofs.lemmas.List.{append-nil}
+use Rattle.sci_bank.specs.Bank.{Meaning}
 use Rattle.sci_io.specs.Causes.{Rose}
 use Rattle.sci_io.specs.Files.{FolderState}
 use Rattle.sci_io.specs.Taken.{SinkState}
 use Rattle.scicos.specs.Words.{Request, Spells, NoCommand, files_of}
 use Rattle.scicos.specs.Answer.{Answer, IsDone}
-use Rattle.scicos.specs.Course.{gives, reads, TakesMemory, AsksFront}
+use Rattle.scicos.specs.Course.{AsksFront}
 use Rattle.scicos.specs.Due.{course_of, Due}
-use Rattle.scicos.specs.Reached.{ReadFault, ReachesOf, ReachesBy, AsksFrontOf}
-use Rattle.scicos.specs.Written.{Given, CutShort, Written}
+use Rattle.scicos.specs.Counts.{HaveCounted}
+use Rattle.scicos.specs.Reached.{ReachesOf, ReachesBy, AsksFrontOf}
+use Rattle.scicos.specs.Written.{Given, Written}
 use Rattle.scicos.specs.Headline.{Quiet, GivesDue, AsksMemory, AsksInOrder, AsksAll, Meets}
 use Rattle.scicos.proofs.Ends.{status-is, out-is, done_by, ends_of, Kind, printed, turned_down, kind_of, front_of, front_files}
 
@@ -167,9 +169,15 @@ quiet_out words bytes old new a (gave c names sp d k (turned_down h o)) not = o
 quiet_out words bytes old new a (faulted r s o) not = o
 quiet_out words bytes old new a (lacked f s o) not = o
 
--- with the bytes of the files that it came to
-pub met_by : (words : List (List ℕ)) (old new : FolderState) (out out' err err' : SinkState) (s : ℕ) (bytes : List (List ℕ)) (a : Answer) → ReachesBy words old new bytes a → Written a out out' err err' s → Meets words old new out out' err err' s
-met_by words old new out out' err err' s bytes a reached written =
+-- a status by which the command is done is that of its answer
+pub done_answer : (a : Answer) (out out' err err' : SinkState) (s : ℕ) → Split a out out' err err' s → IsDone s → IsDone a.status
+done_answer a out out' err err' s (inl w) done = done_by (sym w.0) done
+done_answer a out out' err err' s (inr w) done = absurd ((is_other s (omega (arith, w.0)) (omega (arith, w.0))).0 done)
+
+-- with the bytes of the files that it came to, and the banks that it leaves
+pub met_by : (words : List (List ℕ)) (old new : FolderState) (out out' err err' : SinkState) (banks : List Meaning) (s : ℕ) (bytes : List (List ℕ)) (a : Answer) → ReachesBy words old new bytes a → Written a out out' err err' s
+    → (IsDone a.status → IsDone s → HaveCounted words bytes banks) → Meets words old new out out' err err' banks s
+met_by words old new out out' err err' banks s bytes a reached written counted =
     let cm = came words bytes old new a reached in
     let w = split a out out' err err' s written in
     let whole : (s ≡ 4 → ⊥) → (s ≡ a.status) × Given out out' a.out × Given err err' a.err = λ not4. elim w [ inl x ↦ x | inr x ↦ absurd (not4 x.0) ] in
@@ -179,6 +187,7 @@ met_by words old new out out' err err' s bytes a reached written =
       answer = (a, reached, written);
       complete = complete_of words bytes old new a out out' err err' s cm w;
       done = gives_done words bytes old new a out out' err err' s cm w;
+      counts = λ done. counted (done_answer a out out' err err' s w done) done;
       refused = gives_refusal words bytes old new a out out' err err' s cm w;
       usage = λ is. usage_cause words bytes old new a cm (at 2 is (λ e. omega (arith, e)));
       no_command = λ never. elim w [ inl x ↦ inl (x.0 ∙ no_command_of words bytes old new a reached never) | inr x ↦ inr x.0 ];

@@ -1,6 +1,5 @@
 -- Of each command: whatever passes, its files are read, and it is done.
-use Rattle.std.proofs.Common.{◌≡◌, ℕ, List, [], ◌∷◌, ◌++◌, ◌⊎◌, inl, inr, refl, sym, ◌∙◌, ap, subst, Bool, true, false, pos}
-use Rattle.sci_base.specs.Plain.{Violation}
+use Rattle.std.proofs.Common.{◌≡◌, ◌≤◌, ℕ, List, [], ◌∷◌, ◌++◌, inl, inr, refl, sym, ◌∙◌, ap, subst, Bool, true, false, pos, arith}
 use Rattle.sci_io.specs.Files.{Files}
 use Rattle.sci_trace.specs.Lines.{stops}
 use Rattle.c_mean.specs.declared.start.CEnd.{CEnd}
@@ -9,7 +8,7 @@ use Rattle.c_mean.specs.Meaning.{meaning}
 use Rattle.c_mean.specs.Answering.{end_of}
 use Rattle.scicos.specs.Words.{Request, report, simulate, code, run_c, host, bulk, files_of}
 use Rattle.scicos.specs.Answer.{Answer, IsDone, run_status, c_status}
-use Rattle.scicos.specs.Course.{Slot, Course, gives, makes, reads, DueOn, AsksFront}
+use Rattle.scicos.specs.Course.{Course, gives, makes, reads, DueOn, AsksFront}
 use Rattle.scicos.specs.Due.{course_of}
 
 pub status-is : {a b : Answer} → a ≡ b → a.status ≡ b.status
@@ -20,6 +19,12 @@ out-is h = ap (λ (c : Answer). c.out) h
 
 pub done_by : {s t : ℕ} → s ≡ t → IsDone t → IsDone s
 done_by is h = subst IsDone (sym is) h
+
+-- 1 to 5 are of no command that was done
+pub undone : (s : ℕ) → 1 ≤ s → s ≤ 5 → IsDone s → ⊥
+undone s least most (inl h) = omega (arith, h, least)
+undone s least most (inr (inl h)) = omega (arith, h, most)
+undone s least most (inr (inr h)) = omega (arith, h, most)
 
 done_run : (b : Bool) → IsDone (run_status b)
 done_run false = inl refl

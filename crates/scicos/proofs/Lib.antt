@@ -12,6 +12,7 @@ mod Probing
 mod Courses
 mod Looking
 mod Simulated
+mod Counting
 mod Steps
 mod Pieces
 mod Lengths

@@ -1,31 +1,33 @@
 -- What a simulation comes to, and that its net can run.
-use Rattle.std.proofs.Common.{◌≡◌, ◌≤◌, ◌^◌, ℕ, ℤ, List, [], sym, subst, Result, Ok, Err}
+use Rattle.std.proofs.Common.{◌≡◌, ◌≤◌, ◌^◌, ℕ, ℤ, List, [], ◌∷◌, sym, subst, Result, Ok, Err}
 use Rattle.sci_base.specs.declared.observation.Obs.{Obs}
 use Rattle.sci_io.specs.Files.{FolderState}
 use Rattle.sci_trace.specs.Columns.{Needed}
 use Rattle.sci_net.specs.Parts.{Parts}
-use Rattle.sci_reaction.specs.Memory.{Columns, AreColumns}
+use Rattle.sci_net.specs.Net.{IsNet}
+use Rattle.sci_reaction.specs.Memory.{AreColumns}
 use Rattle.sci_run.specs.Run.{IsRun}
 use Rattle.sci_run.proofs.Traces.{some_trace}
 use Rattle.sci_bank.specs.Bank.{Meaning}
 use Rattle.sci_needs.specs.Needs.{needs_of, AreOfSensors}
 use Rattle.sci_needs.proofs.Columns.{columns_in_range}
-use Rattle.sci_sim.specs.At.{Running, IsAtStart}
+use Rattle.sci_sim.specs.At.{IsAtStart}
 use Rattle.sci_verdict.specs.Verdict.{Plan, Accepts, Breaks, plan_of}
 use Rattle.sci_verdict.specs.declared.checked.Checked.{Checked}
 use Rattle.sci_verdict.proofs.Verdicts.{given_is_net}
 use Rattle.scicos.specs.Answer.{Answer, no_memory, IsTraceOf}
-use Rattle.scicos.specs.Course.{diagram_slot, inputs_slot, Course, gives}
+use Rattle.scicos.specs.Course.{diagram_slot, inputs_slot, gives}
 use Rattle.scicos.specs.Words.{simulate}
 use Rattle.scicos.specs.Due.{behind_diagram, course_of}
 use Rattle.scicos.specs.Inputs.{AcceptsColumns, BreaksColumns}
 use Rattle.scicos.specs.Judged.{AcceptsChecked}
 use Rattle.scicos.specs.Look.{IsLooked}
-use Rattle.scicos.specs.Reached.{ComesTo, ReachesTo}
+use Rattle.scicos.specs.Counts.{CountsRun}
+use Rattle.scicos.specs.Reached.{ComesTo, ReachesTo, ReachesCounting}
 use Rattle.scicos.specs.Prepare.{stop_answer, IsReadyToRun}
 use Rattle.scicos.specs.declared.look.LookStop.{LookStop}
 use Rattle.scicos.specs.declared.prepare.Simulation.{Simulation}
-use Rattle.scicos.proofs.Courses.{due_now, lacks_now, of_files}
+use Rattle.scicos.proofs.Courses.{due_by, lacks_now, passes_by, reaches_by, of_files}
 use Rattle.scicos.proofs.Looking.{first_passes, next_stops, looked_for}
 
 -- ---- what it comes to, where its diagram passes
@@ -65,20 +67,32 @@ module _ (file inputs_file : List ℕ) (until limit : ℕ) (old mid : FolderStat
     pub lacks_run : (columns : List (List ℤ)) → q ≡ Ok columns → new.files ≡ mid.files → ReachesTo old new (course_of (simulate file inputs_file until limit)) no_memory
     lacks_run columns was same = passes_both columns no_memory was same (lacks_now new (gives (λ a. IsTraceOf checked.net columns until limit a)))
 
-    pub traced : (columns : List (List ℤ)) (net : Parts) (a : Answer) → q ≡ Ok columns → new.files ≡ mid.files → net ≡ checked.net → IsTraceOf net columns until limit a
-        → ReachesTo old new (course_of (simulate file inputs_file until limit)) a
-    traced columns net a was same of h =
-        passes_both columns a was same
-        (due_now new (λ a. IsTraceOf checked.net columns until limit a) a (subst (λ (n : Parts). IsTraceOf n columns until limit a) of h))
+    -- and the run is counted in the banks that are left
+    pub traced : (columns : List (List ℤ)) (net : Parts) (a : Answer) (Left : List Meaning → Type 0) → q ≡ Ok columns → new.files ≡ mid.files → net ≡ checked.net → IsTraceOf net columns until limit a
+        → ((banks : List Meaning) → Left banks → CountsRun net columns until limit banks) → ReachesCounting old new (simulate file inputs_file until limit) a Left
+    traced columns net a Left was same of h counts =
+        let first = subst (λ (x : Result Checked LookStop). IsLooked AcceptsChecked Breaks diagram_slot old mid file x) is looked in
+        let second = subst (λ (x : Result (List (List ℤ)) LookStop). IsLooked (AcceptsColumns (needs_of checked.net)) (BreaksColumns (needs_of checked.net)) inputs_slot mid new inputs_file x) was read_for in
+        let due : List (List ℤ) → Answer → Type 0 = λ cs b. IsTraceOf checked.net cs until limit b in
+        let end = due_by new (due columns) a (subst (λ (n : Parts). IsTraceOf n columns until limit a) of h) in
+        let behind_first =
+        passes_by (List (List ℤ)) inputs_slot inputs_file (AcceptsColumns (needs_of checked.net)) (BreaksColumns (needs_of checked.net)) (λ cs. gives (due cs)) mid new new [] a second.0.0 columns second.0.1 second.0.2 second.1 same end in
+        let whole =
+        passes_by Plan diagram_slot file Accepts Breaks (behind_diagram inputs_file until limit) old mid new (second.0.0 ∷ []) a first.0.0 (plan_of checked) first.0.1 first.0.2 first.1 kept behind_first in (
+          first.0.0 ∷ second.0.0 ∷ [],
+          reaches_by old new (course_of (simulate file inputs_file until limit)) (first.0.0 ∷ second.0.0 ∷ []) a tt whole,
+          λ banks done left. (plan_of checked, first.0.2.1, columns, second.0.2.1, subst (λ (n : Parts). CountsRun n columns until limit banks) of (counts banks left)),
+        )
 
 -- ---- its net can run
 
-ready_for : (n : Parts) (banks : List Meaning) (s : Simulation) → IsAtStart n s.ready banks → AreColumns n s.inputs → s.until ≤ 2 ^ 62 → s.limit ≤ 1000000
+ready_for : (n : Parts) (banks : List Meaning) (s : Simulation) → IsAtStart n s.ready banks → IsNet n → AreColumns n s.inputs → s.until ≤ 2 ^ 62 → s.limit ≤ 1000000
     → (os : List Obs) × IsRun n s.inputs s.until s.limit os → IsReadyToRun banks s
-ready_for n banks s start columns until limit trace =
+ready_for n banks s start net columns until limit trace =
     let same = sym start.net in
     record {
       start = subst (λ (m : Parts). IsAtStart m s.ready banks) same start;
+      net = subst IsNet same net;
       columns = subst (λ (m : Parts). AreColumns m s.inputs) same columns;
       until = until;
       limit = limit;
@@ -90,5 +104,6 @@ pub ready_to_run : (checked : Checked) (bytes file : List ℕ) (banks : List Mea
 ready_to_run checked bytes file banks s needs accepted of_net sensors read start until limit =
     let columns = columns_in_range checked.net file s.inputs (subst (λ (ds : List Needed). AreOfSensors checked.net ds) of_net sensors)
     (subst (λ (ds : List Needed). AcceptsColumns ds file s.inputs) of_net read) in
-    let trace = some_trace checked.net s.inputs (given_is_net bytes checked.net accepted.given) accepted.planned.free s.until s.limit in
-    ready_for checked.net banks s start columns until limit trace
+    let net = given_is_net bytes checked.net accepted.given in
+    let trace = some_trace checked.net s.inputs net accepted.planned.free s.until s.limit in
+    ready_for checked.net banks s start net columns until limit trace

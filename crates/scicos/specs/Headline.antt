@@ -1,5 +1,6 @@
 -- What the top call promises of a call of it.
 use Rattle.std.specs.Prelude.{ℕ, ◌≡◌, ◌<◌, ◌⊎◌, ◌++◌, List}
+use Rattle.sci_bank.specs.Bank.{Meaning}
 use Rattle.sci_io.specs.Causes.{Rose}
 use Rattle.sci_io.specs.Files.{FolderState}
 use Rattle.sci_io.specs.Taken.{SinkState}
@@ -7,6 +8,7 @@ use Rattle.scicos.specs.Words.{Request, Spells, NoCommand, files_of}
 use Rattle.scicos.specs.Answer.{Answer, IsDone}
 use Rattle.scicos.specs.Course.{TakesMemory}
 use Rattle.scicos.specs.Due.{course_of, Due}
+use Rattle.scicos.specs.Counts.{HaveCounted}
 use Rattle.scicos.specs.Reached.{ReachesBy, AsksFrontOf}
 use Rattle.scicos.specs.Written.{Given, Written}
 
@@ -31,8 +33,8 @@ AsksInOrder words bytes folder folder' = (folder'.asked ≡ folder.asked) ⊎ ((
 abbrev pub AsksAll : List (List ℕ) → FolderState → FolderState → Type 0
 AsksAll words folder folder' = (c : Request) × Spells words c × (folder'.asked ≡ folder.asked ++ files_of c)
 
--- Of a call on these words, with the folder and the two sinks before and after, and its status.
-pub record Meets (words : List (List ℕ)) (folder folder' : FolderState) (out out' err err' : SinkState) (status : ℕ) : Type 0 where
+-- Of a call on these words, with the folder and the two sinks before and after, the library's banks behind it, and its status.
+pub record Meets (words : List (List ℕ)) (folder folder' : FolderState) (out out' err err' : SinkState) (banks : List Meaning) (status : ℕ) : Type 0 where
   -- the bytes of the command's files, in the order in which they are read: those that the folder tells of each, where it tells
   pub bytes : List (List ℕ)
   -- the answer that is due of them, or a read fault, or want of memory, is written as far as the sinks take it
@@ -40,6 +42,8 @@ pub record Meets (words : List (List ℕ)) (folder folder' : FolderState) (out o
   -- where no fault rose, it is the one that is due, memory aside
   pub complete : Quiet folder.faults folder'.faults → Quiet out.faults out'.faults → Quiet err.faults err'.faults → GivesDue words bytes folder folder' out out' err err' status ⊎ (status ≡ 5)
   pub done : IsDone status → GivesDue words bytes folder folder' out out' err err' status × AsksAll words folder folder'
+  -- and the banks have counted the run, where the command does one
+  pub counts : IsDone status → HaveCounted words bytes banks
   pub refused : status ≡ 1 → GivesDue words bytes folder folder' out out' err err' status
   pub usage : status ≡ 2 → NoCommand words
   pub no_command : NoCommand words → (status ≡ 2) ⊎ (status ≡ 4)

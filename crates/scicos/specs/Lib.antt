@@ -9,6 +9,7 @@ pub mod Bulk
 pub mod Code
 pub mod Course
 pub mod Due
+pub mod Counts
 pub mod Reached
 pub mod Written
 pub mod Deliver

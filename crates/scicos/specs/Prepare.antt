@@ -3,6 +3,7 @@ use Rattle.std.specs.Prelude.{◌≡◌, ◌≤◌, ◌<◌, ◌^◌, List, leng
 use Rattle.sci_base.specs.Plain.{violation_of}
 use Rattle.sci_io.specs.Files.{FolderState}
 use Rattle.sci_base.specs.declared.observation.Obs.{Obs}
+use Rattle.sci_net.specs.Net.{IsNet}
 use Rattle.sci_reaction.specs.Memory.{AreColumns}
 use Rattle.sci_run.specs.Run.{IsRun}
 use Rattle.sci_bank.specs.Bank.{Meaning}
@@ -13,8 +14,10 @@ use Rattle.c_ast.specs.Bounds.{IsWhole}
 use Rattle.c_mean.specs.Meaning.{meaning}
 use Rattle.scicos.specs.Answer.{Answer, usage, prints, refused, read_fault, no_memory, IsTraceOf, c_ran}
 use Rattle.scicos.specs.Bulk.{counted_line}
-use Rattle.scicos.specs.Course.{Course}
-use Rattle.scicos.specs.Reached.{ReachesTo}
+use Rattle.scicos.specs.Words.{Request}
+use Rattle.scicos.specs.Due.{course_of}
+use Rattle.scicos.specs.Counts.{CountsRun}
+use Rattle.scicos.specs.Reached.{ReachesTo, ReachesCounting}
 use Rattle.scicos.specs.Judged.{told_text, HasRows}
 use Rattle.scicos.specs.declared.look.LookStop.{LookStop}
 use Rattle.scicos.specs.declared.look.LookStop.TheVariants as stops
@@ -38,6 +41,7 @@ IsAnswerOf (Simulate s) a = IsTraceOf s.ready.fixed.net s.inputs s.until s.limit
 -- a net and its banks stand before the run, on columns in range and within the bounds; and the run has a trace
 pub record IsReadyToRun (banks : List Meaning) (s : Simulation) : Type 0 where
   pub start : IsAtStart s.ready.fixed.net s.ready banks
+  pub net : IsNet s.ready.fixed.net
   pub columns : AreColumns s.ready.fixed.net s.inputs
   pub until : s.until ≤ 2 ^ 62
   pub limit : s.limit ≤ 1000000
@@ -56,6 +60,19 @@ IsPrepared banks (RunC program columns until limit) = (until ≤ 2 ^ 62) × (lim
 IsPrepared banks (Code program) = IsWhole (whole_of program)
 IsPrepared banks (Bulk counts) = Unit {0}
 IsPrepared banks (Simulate s) = IsReadyToRun banks s
+
+-- Behind it, where it was done: a simulation has counted its run; of any other command no run is left to do, and the banks are as they were.
+abbrev pub LeavesBanks : Prepared → (before after : List Meaning) → Type 0
+LeavesBanks Usage before after = after ≡ before
+LeavesBanks (Refused r) before after = after ≡ before
+LeavesBanks ReadFault before after = after ≡ before
+LeavesBanks Memory before after = after ≡ before
+LeavesBanks (Print text) before after = after ≡ before
+LeavesBanks (Tell t) before after = after ≡ before
+LeavesBanks (RunC program columns until limit) before after = after ≡ before
+LeavesBanks (Code program) before after = after ≡ before
+LeavesBanks (Bulk counts) before after = after ≡ before
+LeavesBanks (Simulate s) before after = CountsRun s.ready.fixed.net s.inputs s.until s.limit after
 
 -- memory may lack when it begins, before it writes anything
 abbrev pub MayLack : Prepared → Type 0
@@ -85,12 +102,18 @@ abbrev pub IsLookedAt : List Meaning → Result Prepared LookStop → Type 0
 IsLookedAt banks (Ok p) = IsPrepared banks p
 IsLookedAt banks (Err e) = Unit {0}
 
+-- a command that stops there leaves no run to count
+abbrev pub LooksLeave : Result Prepared LookStop → (before after : List Meaning) → Type 0
+LooksLeave (Ok p) before after = LeavesBanks p before after
+LooksLeave (Err e) before after = Unit {0}
+
 abbrev pub LooksMayLack : Result Prepared LookStop → Type 0
 LooksMayLack (Ok p) = MayLack p
 LooksMayLack (Err e) = ⊥
 
--- What a command whose files were looked at comes to: its answers, and, where memory may lack when it begins, that it does.
-pub record LooksAt (old new : FolderState) (banks : List Meaning) (course : Course) (result : Result Prepared LookStop) : Type 0 where
-  pub reaches : (a : Answer) → IsLookedAnswer result a → ReachesTo old new course a
+-- What a command whose files were looked at comes to: its answers, and the counts of its run in the banks that it leaves; and, where memory may
+-- lack when it begins, that it does.
+pub record LooksAt (old new : FolderState) (banks : List Meaning) (c : Request) (result : Result Prepared LookStop) : Type 0 where
+  pub reaches : (a : Answer) → IsLookedAnswer result a → ReachesCounting old new c a (LooksLeave result banks)
   pub prepared : IsLookedAt banks result
-  pub lacks : LooksMayLack result → ReachesTo old new course no_memory
+  pub lacks : LooksMayLack result → ReachesTo old new (course_of c) no_memory

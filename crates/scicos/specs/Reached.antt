@@ -1,11 +1,13 @@
 -- What a call comes to before it writes, and the files that it asked for.
-use Rattle.std.specs.Prelude.{ℕ, ◌≡◌, ◌⊎◌, ◌++◌, List, [], ◌∷◌}
+use Rattle.std.specs.Prelude.{ℕ, ◌≡◌, ◌⊎◌, ◌++◌, List, ◌∷◌}
 use Rattle.sci_io.specs.Causes.{Rose}
 use Rattle.sci_io.specs.Files.{FolderState}
 use Rattle.scicos.specs.Words.{Request, Spells, NoCommand, files_of}
-use Rattle.scicos.specs.Answer.{Answer, usage, read_fault, no_memory}
+use Rattle.sci_bank.specs.Bank.{Meaning}
+use Rattle.scicos.specs.Answer.{Answer, IsDone, usage, read_fault, no_memory}
 use Rattle.scicos.specs.Course.{Course, TakesMemory, DueOn, AsksFront}
 use Rattle.scicos.specs.Due.{course_of}
+use Rattle.scicos.specs.Counts.{CountsRunOf, HaveCounted}
 
 -- the answer that is due of the files' bytes
 abbrev pub ReachesDue : FolderState → FolderState → Course → List (List ℕ) → Answer → Type 0
@@ -41,6 +43,16 @@ ReachesBy words old new bytes a =
 
 abbrev pub Reaches : List (List ℕ) → FolderState → FolderState → Answer → Type 0
 Reaches words old new a = (bytes : List (List ℕ)) × ReachesBy words old new bytes a
+
+-- The same of a command; and banks that are left so behind an answer by which it is done have counted its run.
+abbrev pub ReachesCounting : FolderState → FolderState → Request → Answer → (Left : List Meaning → Type 0) → Type 0
+ReachesCounting old new c a Left =
+    (bytes : List (List ℕ)) × ReachesOf old new (course_of c) bytes a × ((banks : List Meaning) → IsDone a.status → Left banks → CountsRunOf c bytes banks)
+
+-- and of the words
+abbrev pub ReachesCounted : List (List ℕ) → FolderState → FolderState → Answer → (Left : List Meaning → Type 0) → Type 0
+ReachesCounted words old new a Left =
+    (bytes : List (List ℕ)) × ReachesBy words old new bytes a × ((banks : List Meaning) → IsDone a.status → Left banks → HaveCounted words bytes banks)
 
 -- the names asked for are a front of the files of the command, a later one only where the earlier pass their rules
 abbrev pub AsksFrontOf : FolderState → FolderState → List (List ℕ) → Request → Type 0

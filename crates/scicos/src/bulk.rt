@@ -9,6 +9,7 @@ ghost use Rattle.sci_sim.specs.At.{IsTallied};
 ghost use Rattle.sci_verdict.specs.Verdict.{IsTreeChecked};
 ghost use Rattle.scicos.specs.Banks.{AreAllBanks};
 ghost use Rattle.scicos.specs.Bulk.{IsCounted};
+ghost use Rattle.scicos.specs.Counts.{CountsRun, CountsBulk};
 
 use sci_bank::library::{Banks, Library};
 use sci_base::{NoMemory, Stop};
@@ -58,6 +59,7 @@ fn run_net(
     requires plan { IsPlan net (rows_of schedule) }
     requires banks { AreAllBanks (⟦<Library as Banks>⟧.banks lib.old) }
     ensures ran { IfOk result (λ r. (os : List Obs) × IsRun net [] (2 ^ 62) 1000 os × IsTallied r.store os) }
+    ensures counts_run { IfOk result (λ r. CountsRun net [] (2 ^ 62) 1000 (⟦<Library as Banks>⟧.banks lib.new)) }
     ensures banks { AreAllBanks (⟦<Library as Banks>⟧.banks lib.new) }
 {
     net.well_formed();
@@ -80,6 +82,7 @@ pub fn count_bulk(
     requires most { size ≤ 2000 }
     requires banks { AreAllBanks (⟦<Library as Banks>⟧.banks lib.old) }
     ensures counted { IsCounted seed size result }
+    ensures counts_run { IfOk result (λ c. CountsBulk seed size (⟦<Library as Banks>⟧.banks lib.new)) }
     ensures banks { AreAllBanks (⟦<Library as Banks>⟧.banks lib.new) }
 {
     let checked = judged(alloc, seed, size)?;

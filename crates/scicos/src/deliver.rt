@@ -1,4 +1,4 @@
-ghost use Rattle.std.specs.Prelude.{◌≡◌, ◌≢◌, false, ◌≤◌, ◌<◌, ◌^◌, IsTrue, [], length, pos};
+ghost use Rattle.std.specs.Prelude.{◌≡◌, ◌≢◌, false, ◌≤◌, ◌<◌, ◌^◌, IsTrue, IfOk, [], length, pos};
 ghost use Rattle.scicos.specs.Banks.{AreAllBanks};
 ghost use Rattle.sci_base.specs.Plain.{violation_of};
 ghost use Rattle.scicos.specs.Line.{refused_line};
@@ -8,12 +8,13 @@ ghost use Rattle.c_ast.specs.Spelling.{spelling};
 ghost use Rattle.c_ast.specs.Bounds.{IsWhole};
 ghost use Rattle.c_mean.specs.Meaning.{meaning};
 ghost use Rattle.scicos.specs.declared.told.Told.TheVariants.{Check};
-ghost use Rattle.scicos.specs.Answer.{prints, write_fault_line, usage_line, read_fault_line, no_memory_line, undefined_line};
+ghost use Rattle.scicos.specs.Answer.{IsDone, prints, write_fault_line, usage_line, read_fault_line, no_memory_line, undefined_line};
 ghost use Rattle.scicos.specs.Bulk.{counted_line};
+ghost use Rattle.scicos.specs.Counts.{CountsRun};
 ghost use Rattle.scicos.specs.Judged.{told_text, HasRows};
 ghost use Rattle.scicos.specs.Written.{Written};
 ghost use Rattle.scicos.specs.Deliver.{Gives, Said, PrintsTrace, Finished, RunsOut, RanC, FinishedC, Delivers};
-ghost use Rattle.scicos.specs.Prepare.{IsReadyToRun, IsPrepared};
+ghost use Rattle.scicos.specs.Prepare.{IsReadyToRun, IsPrepared, LeavesBanks};
 
 use crate::bulk::BulkCounts;
 use crate::net_map::write_map;
@@ -108,6 +109,7 @@ fn print_trace<O: Sink>(
 ) -> Result<RunEnd, Failed>
     requires { IsReadyToRun (⟦<Library as Banks>⟧.banks lib.old) simulation }
     ensures printed { PrintsTrace simulation (O.state out.old) (O.state out.new) result }
+    ensures counts_run { IfOk result (λ e. CountsRun simulation.ready.fixed.net simulation.inputs simulation.until simulation.limit (⟦<Library as Banks>⟧.banks lib.new)) }
     ensures banks { AreAllBanks (⟦<Library as Banks>⟧.banks lib.new) }
 {
     let Simulation {
@@ -375,6 +377,7 @@ pub fn deliver<O: Sink, E: Sink>(
     requires prepared { IsPrepared (⟦<Library as Banks>⟧.banks lib.old) prepared }
     requires banks { AreAllBanks (⟦<Library as Banks>⟧.banks lib.old) }
     ensures delivered { Delivers prepared (O.state out.old) (O.state out.new) (E.state err.old) (E.state err.new) result }
+    ensures left { IsDone result → LeavesBanks prepared (⟦<Library as Banks>⟧.banks lib.old) (⟦<Library as Banks>⟧.banks lib.new) }
     ensures banks { AreAllBanks (⟦<Library as Banks>⟧.banks lib.new) }
 {
     match prepared {

@@ -4,10 +4,9 @@ ghost use Rattle.sci_bank.specs.Bank.{Meaning};
 ghost use Rattle.scicos.specs.Banks.{AreAllBanks};
 ghost use Rattle.sci_io.specs.Files.{FolderState};
 ghost use Rattle.scicos.specs.Words.{report as tell, simulate, code, run_c, bulk, InBounds, asked_by};
-ghost use Rattle.scicos.specs.Due.{course_of};
-ghost use Rattle.scicos.specs.Reached.{Reaches};
+ghost use Rattle.scicos.specs.Reached.{Reaches, ReachesCounted};
 ghost use Rattle.scicos.specs.Answer.{Answer, no_memory};
-ghost use Rattle.scicos.specs.Prepare.{IsAnswerOf, stop_answer, IsPrepared, MayLack, LooksAt};
+ghost use Rattle.scicos.specs.Prepare.{IsAnswerOf, stop_answer, IsPrepared, LeavesBanks, MayLack, LooksAt};
 
 use crate::bulk::{BulkCounts, count_bulk};
 use crate::command::{Command, Report};
@@ -64,7 +63,7 @@ fn for_report<F: Folder>(
     report: Report,
     file: &str,
 ) -> Result<Prepared, LookStop>
-    ensures looks { (banks : List Meaning) → LooksAt (F.state folder.old) (F.state folder.new) banks (course_of (tell report file.now)) result }
+    ensures looks { (banks : List Meaning) → LooksAt (F.state folder.old) (F.state folder.new) banks (tell report file.now) result }
     ensures kept { (F.state folder.new).files ≡ (F.state folder.old).files }
 {
     let told = look(alloc, folder, file, 1, &DiagramRules { report })?;
@@ -83,7 +82,7 @@ fn for_simulate<F: Folder>(
     requires until { until ≤ 2 ^ 62 }
     requires limit { limit ≤ 1000000 }
     requires banks { AreAllBanks (⟦<Library as Banks>⟧.banks lib.old) }
-    ensures looks { LooksAt (F.state folder.old) (F.state folder.new) (⟦<Library as Banks>⟧.banks lib.new) (course_of (simulate file.now inputs_file.now until limit)) result }
+    ensures looks { LooksAt (F.state folder.old) (F.state folder.new) (⟦<Library as Banks>⟧.banks lib.new) (simulate file.now inputs_file.now until limit) result }
     ensures kept { (F.state folder.new).files ≡ (F.state folder.old).files }
     ensures banks { AreAllBanks (⟦<Library as Banks>⟧.banks lib.new) }
 {
@@ -100,7 +99,7 @@ fn for_simulate<F: Folder>(
 }
 
 fn for_code<F: Folder>(alloc: Global, folder: &mut F, file: &str) -> Result<Prepared, LookStop>
-    ensures looks { (banks : List Meaning) → LooksAt (F.state folder.old) (F.state folder.new) banks (course_of (code file.now)) result }
+    ensures looks { (banks : List Meaning) → LooksAt (F.state folder.old) (F.state folder.new) banks (code file.now) result }
     ensures kept { (F.state folder.new).files ≡ (F.state folder.old).files }
 {
     let checked = look(alloc, folder, file, 1, &PlanRules)?;
@@ -112,7 +111,7 @@ fn for_bulk(alloc: Global, seed: u32, size: u32, lib: &mut Library) -> Result<Pr
     requires least { 1 ≤ size }
     requires most { size ≤ 2000 }
     requires banks { AreAllBanks (⟦<Library as Banks>⟧.banks lib.old) }
-    ensures looks { (s : FolderState) (banks : List Meaning) → LooksAt s s banks (course_of (bulk seed size)) result }
+    ensures looks { (s : FolderState) → LooksAt s s (⟦<Library as Banks>⟧.banks lib.new) (bulk seed size) result }
     ensures banks { AreAllBanks (⟦<Library as Banks>⟧.banks lib.new) }
 {
     match count_bulk(alloc, seed, size, lib) {
@@ -132,7 +131,7 @@ fn for_run_c<F: Folder>(
 ) -> Result<Prepared, LookStop>
     requires until { until ≤ 2 ^ 62 }
     requires limit { limit ≤ 1000000 }
-    ensures looks { (banks : List Meaning) → LooksAt (F.state folder.old) (F.state folder.new) banks (course_of (run_c file.now inputs_file.now until limit)) result }
+    ensures looks { (banks : List Meaning) → LooksAt (F.state folder.old) (F.state folder.new) banks (run_c file.now inputs_file.now until limit) result }
     ensures kept { (F.state folder.new).files ≡ (F.state folder.old).files }
 {
     let program = look(alloc, folder, file, 1, &CRules)?;
@@ -152,7 +151,7 @@ fn for_command<F: Folder>(
 ) -> Result<Prepared, LookStop>
     requires bounds { InBounds (asked_by command) }
     requires banks { AreAllBanks (⟦<Library as Banks>⟧.banks lib.old) }
-    ensures looks { LooksAt (F.state folder.old) (F.state folder.new) (⟦<Library as Banks>⟧.banks lib.new) (course_of (asked_by command.entry)) result }
+    ensures looks { LooksAt (F.state folder.old) (F.state folder.new) (⟦<Library as Banks>⟧.banks lib.new) (asked_by command.entry) result }
     ensures kept { (F.state folder.new).files ≡ (F.state folder.old).files }
     ensures banks { AreAllBanks (⟦<Library as Banks>⟧.banks lib.new) }
 {
@@ -184,7 +183,6 @@ fn stopped(stop: LookStop) -> Prepared
 }
 
 /// Looks at the words and the files, and writes nothing.
-#[tactic(auto, using(crate::proofs::Looking::usage_reaches, crate::proofs::Looking::spelled_reaches))]
 pub fn prepare<F: Folder>(
     alloc: Global,
     words: &[String],
@@ -192,7 +190,7 @@ pub fn prepare<F: Folder>(
     lib: &mut Library,
 ) -> Prepared
     requires { AreAllBanks (⟦<Library as Banks>⟧.banks lib.old) }
-    ensures reaches { (a : Answer) → IsAnswerOf result a → Reaches (map string_bytes words.now) (F.state folder.old) (F.state folder.new) a }
+    ensures reaches { (a : Answer) → IsAnswerOf result a → ReachesCounted (map string_bytes words.now) (F.state folder.old) (F.state folder.new) a (LeavesBanks result (⟦<Library as Banks>⟧.banks lib.new)) }
     ensures prepared { IsPrepared (⟦<Library as Banks>⟧.banks lib.new) result }
     ensures lacks { MayLack result → Reaches (map string_bytes words.now) (F.state folder.old) (F.state folder.new) no_memory }
     ensures kept { (F.state folder.new).files ≡ (F.state folder.old).files }

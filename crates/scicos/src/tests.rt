@@ -2,21 +2,73 @@ ghost use Rattle.scicos.specs.Banks.{AreAllBanks};
 
 use crate::top::top;
 use sci_bank::library::{Banks, Library};
-use sci_io::{MemFolder, MemSink};
+use sci_io::{BufferedSink, MemFolder, MemSink};
 use sci_library::{AnyBank, put_fresh};
 use std::alloc::Global;
 use std::test::Fail;
+
+mod each_fault;
 
 // A clock of period 3 that fires first at 2.
 const CLOCK: &str =
     "{\"objs\":[{\"obj\":\"Block\",\"gui\":\"EVTDLY_c\",\"model\":{\"evtin\":1,\"evtout\":1,\"ipar\":3,\"firing\":2}},{\"obj\":\"Link\",\"from\":[1,1,0],\"to\":[1,1,1],\"ct\":[5,-1]}]}";
 
+/// The calls of the folder, of out and of err that fail, counted from 1, with 0 for none; the room of out, and how much each
+/// stream holds back, in bytes.
+#[derive(Clone, Copy)]
+struct Faults {
+    read: u64,
+    out: u64,
+    err: u64,
+    room: usize,
+    held: usize,
+}
+
+const NONE: Faults = Faults {
+    read: 0,
+    out: 0,
+    err: 0,
+    room: 65_536,
+    held: 0,
+};
+
 #[derive(Drop)]
 struct Call {
     status: u8,
-    asked: usize,
-    out: MemSink,
-    err: MemSink,
+    folder: MemFolder,
+    out: BufferedSink<MemSink>,
+    err: BufferedSink<MemSink>,
+    // what the banks of all kinds have counted
+    outs: u64,
+}
+
+impl Call {
+    /// The bytes on out.
+    fn printed(&self) -> &[u8] {
+        self.out.behind().taken()
+    }
+
+    /// The bytes on err.
+    fn told(&self) -> &[u8] {
+        self.err.behind().taken()
+    }
+
+    /// The names that the folder was asked for.
+    fn asked(&self) -> &[String] {
+        self.folder.asked()
+    }
+}
+
+// A stream that fails at a call, holds some bytes back, and gives what it doesn't hold on at once.
+fn stream(
+    alloc: Global,
+    fails: u64,
+    room: usize,
+    held: usize,
+) -> Result<BufferedSink<MemSink>, Fail> {
+    let memory = MemSink::new(alloc, Vec::from_array(alloc, [fails])?, room)?;
+    let stream = BufferedSink::new(alloc, memory, held)?;
+    Ok(stream)
 }
 
 fn run_with(
@@ -25,8 +77,7 @@ fn run_with(
     line: &str,
     diagram: &str,
     inputs: &str,
-    fails: Vec<u64>,
-    room: usize,
+    faults: Faults,
 ) -> Result<Call, Fail>
     requires { AreAllBanks (⟦<Library as Banks>⟧.banks lib.old) }
 {
@@ -43,16 +94,16 @@ fn run_with(
         String::from_str(alloc, "i")?,
         inputs.as_bytes().to_vec(alloc)?,
     ))?;
-    let mut folder = MemFolder::new(alloc, files, Vec::new(alloc));
-    let mut out = MemSink::new(alloc, fails, room)?;
-    let mut err = MemSink::new(alloc, Vec::new(alloc), 200)?;
+    let mut folder = MemFolder::new(alloc, files, Vec::from_array(alloc, [faults.read])?);
+    let mut out = stream(alloc, faults.out, faults.room, faults.held)?;
+    let mut err = stream(alloc, faults.err, 4096, faults.held)?;
     let status = top(alloc, &words, &mut folder, &mut out, &mut err, lib);
-    let asked = folder.asked().len();
     Ok(Call {
         status,
-        asked,
+        folder,
         out,
         err,
+        outs: lib.outs(),
     })
 }
 
@@ -61,70 +112,44 @@ fn run_line(
     line: &str,
     diagram: &str,
     inputs: &str,
-    fails: Vec<u64>,
-    room: usize,
+    faults: Faults,
 ) -> Result<Call, Fail> {
     let mut lib = Library::new(alloc);
     while let Some(kind) = lib.next_kind() {
         let bank = Box::new(alloc, AnyBank::of_kind(alloc, kind))?;
         put_fresh(&mut lib, kind, bank)?;
     }
-    run_with(alloc, &mut lib, line, diagram, inputs, fails, room)
+    run_with(alloc, &mut lib, line, diagram, inputs, faults)
 }
 
 #[test]
 fn a_clock_runs(rt: HostRuntime) -> Result<(), Fail> {
     let alloc = rt.alloc();
-    let done = run_line(
-        alloc,
-        "simulate d i 8 10",
-        CLOCK,
-        "[]\n",
-        Vec::new(alloc),
-        200,
-    )?;
+    let done = run_line(alloc, "simulate d i 8 10", CLOCK, "[]\n", NONE)?;
     assert_eq!(rt; done.status, 0);
     assert_eq!(rt;
-        done.out.taken(),
+        done.printed(),
         "start\nevent 2 1 1\nevent 5 1 1\nevent 8 1 1\nend until\n".as_bytes()
     );
-    assert_eq!(rt; done.err.taken(), "".as_bytes());
-    assert_eq!(rt; done.asked, 2);
-    Ok(())
-}
-
-#[test]
-fn a_failed_write_is_told(rt: HostRuntime) -> Result<(), Fail> {
-    let alloc = rt.alloc();
-    let failed = run_line(
-        alloc,
-        "simulate d i 8 10",
-        CLOCK,
-        "[]",
-        Vec::from_array(alloc, [1])?,
-        200,
-    )?;
-    assert_eq!(rt; failed.status, 4);
-    assert_eq!(rt; failed.out.taken(), "".as_bytes());
-    assert_eq!(rt; failed.err.taken(), "write fault\n".as_bytes());
-    let full = run_line(alloc, "simulate d i 8 10", CLOCK, "[]", Vec::new(alloc), 20)?;
-    assert_eq!(rt; full.status, 4);
-    assert_eq!(rt; full.out.taken(), "start\nevent 2 1 1\n".as_bytes());
+    assert_eq!(rt; done.told(), "".as_bytes());
+    assert_eq!(rt; done.asked().len(), 2);
+    // a tick at each of three dates
+    assert_eq!(rt; done.outs, 3);
     Ok(())
 }
 
 #[test]
 fn what_is_no_run_is_told(rt: HostRuntime) -> Result<(), Fail> {
     let alloc = rt.alloc();
-    let missing = run_line(alloc, "simulate d j 8 10", CLOCK, "[]", Vec::new(alloc), 0)?;
+    let missing = run_line(alloc, "simulate d j 8 10", CLOCK, "[]", NONE)?;
     assert_eq!(rt; missing.status, 3);
-    assert_eq!(rt; missing.err.taken(), "read fault\n".as_bytes());
-    let broken = run_line(alloc, "simulate d j 8 10", "{", "[]", Vec::new(alloc), 0)?;
+    assert_eq!(rt; missing.told(), "read fault\n".as_bytes());
+    let broken = run_line(alloc, "simulate d j 8 10", "{", "[]", NONE)?;
     assert_eq!(rt; broken.status, 1);
-    assert_eq!(rt; broken.asked, 1);
-    let usage = run_line(alloc, "simulate d i 08 10", CLOCK, "[]", Vec::new(alloc), 0)?;
+    assert_eq!(rt; broken.asked().len(), 1);
+    let usage = run_line(alloc, "simulate d i 08 10", CLOCK, "[]", NONE)?;
     assert_eq!(rt; usage.status, 2);
-    assert_eq!(rt; usage.asked, 0);
+    assert_eq!(rt; usage.asked().len(), 0);
     Ok(())
 }
 
@@ -139,41 +164,26 @@ const SENSOR: &str = r#"{"objs":[
 fn a_sensor_takes_its_column(rt: HostRuntime) -> Result<(), Fail> {
     let alloc = rt.alloc();
     let line = "simulate d i 10 5";
-    let stopped = run_line(alloc, line, SENSOR, "[[7,8]]", Vec::new(alloc), 200)?;
+    let stopped = run_line(alloc, line, SENSOR, "[[7,8]]", NONE)?;
     assert_eq!(rt; stopped.status, 6);
     assert_eq!(rt;
-        stopped.out.taken(),
+        stopped.printed(),
         "start\nevent 0 1 1\nval 2 1 1 7\nevent 1 1 1\nval 2 1 1 8\nevent 2 1 1\nstop input 2\n".as_bytes()
     );
-    let outside = run_line(alloc, line, SENSOR, "[[7,300]]", Vec::new(alloc), 0)?;
+    // two blocks in each of two reactions, and at most two in the one that stops
+    assert!(rt; 4 <= stopped.outs && stopped.outs <= 6);
+    let outside = run_line(alloc, line, SENSOR, "[[7,300]]", NONE)?;
     assert_eq!(rt; outside.status, 1);
     assert_eq!(rt;
-        outside.err.taken(),
+        outside.told(),
         "refused 28 InputRange at 2 1 2 300\n".as_bytes()
     );
-    let missing = run_line(alloc, line, SENSOR, "[]", Vec::new(alloc), 0)?;
+    let missing = run_line(alloc, line, SENSOR, "[]", NONE)?;
     assert_eq!(rt; missing.status, 1);
     assert_eq!(rt;
-        missing.err.taken(),
+        missing.told(),
         "refused 27 InputShape at - 1 0\n".as_bytes()
     );
-    Ok(())
-}
-
-#[test]
-fn a_diagram_is_told(rt: HostRuntime) -> Result<(), Fail> {
-    let alloc = rt.alloc();
-    let checked = run_line(alloc, "check d", CLOCK, "", Vec::new(alloc), 200)?;
-    assert_eq!(rt; checked.status, 0);
-    assert_eq!(rt; checked.out.taken(), "ok 1 2 1 0\n".as_bytes());
-    let mapped = run_line(alloc, "map d", CLOCK, "", Vec::new(alloc), 200)?;
-    assert_eq!(rt; mapped.out.taken(), "1 1 EVTDLY_c\n".as_bytes());
-    let planned = run_line(alloc, "schedule d", CLOCK, "", Vec::new(alloc), 200)?;
-    assert_eq!(rt;
-        planned.out.taken(),
-        "source start\nsource 1.1\n1 always\n".as_bytes()
-    );
-    assert_eq!(rt; planned.asked, 1);
     Ok(())
 }
 
@@ -196,37 +206,20 @@ const DIVISION: &str = concat!(
 );
 
 #[test]
-fn a_c_program_runs(rt: HostRuntime) -> Result<(), Fail> {
+fn a_c_program_is_refused(rt: HostRuntime) -> Result<(), Fail> {
     let alloc = rt.alloc();
-    let ran = run_line(
-        alloc,
-        "crun d i 10 10",
-        DIVISION,
-        "[]",
-        Vec::new(alloc),
-        200,
-    )?;
-    assert_eq!(rt; ran.status, 7);
-    assert_eq!(rt; ran.out.taken(), "start\n".as_bytes());
-    assert_eq!(rt; ran.err.taken(), "undefined at 2\n".as_bytes());
-    let refused = run_line(alloc, "crun i i 10 10", "", "[]", Vec::new(alloc), 200)?;
+    let refused = run_line(alloc, "crun i i 10 10", "", "[]", NONE)?;
     assert_eq!(rt; refused.status, 1);
-    assert_eq!(rt; refused.err.taken(), "refused 26 NotC at - 0\n".as_bytes());
+    assert_eq!(rt; refused.told(), "refused 26 NotC at - 0\n".as_bytes());
     Ok(())
 }
 
 #[test]
 fn a_bulk_diagram_is_counted(rt: HostRuntime) -> Result<(), Fail> {
     let alloc = rt.alloc();
-    let counted = run_line(alloc, "bulk 5 2", "", "", Vec::new(alloc), 200)?;
+    let counted = run_line(alloc, "bulk 5 2", "", "", NONE)?;
     assert_eq!(rt; counted.status, 0);
-    assert_eq!(rt; counted.out.taken(), "bulk 10 9 10 0 1126 123\n".as_bytes());
-    assert_eq!(rt; counted.asked, 0);
-    let cut = run_line(alloc, "bulk 5 2", "", "", Vec::new(alloc), 9)?;
-    assert_eq!(rt; cut.status, 4);
-    assert_eq!(rt; cut.out.taken(), "bulk 10 9".as_bytes());
-    assert_eq!(rt; cut.err.taken(), "write fault\n".as_bytes());
-    let usage = run_line(alloc, "bulk 5 0", "", "", Vec::new(alloc), 200)?;
-    assert_eq!(rt; usage.status, 2);
+    // a clock in each of 1,000 reactions, the delay in 123 of them, and the constant at start
+    assert_eq!(rt; counted.outs, 1124);
     Ok(())
 }

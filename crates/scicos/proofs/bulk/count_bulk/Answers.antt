@@ -1,5 +1,5 @@
 use Rattle.std.proofs.Common.{rules, refl}
-use Rattle.scicos.proofs.Bulked.{stopped_judging, was_accepted, stopped_measuring, all_counted}
+use Rattle.scicos.proofs.Bulked.{stopped_judging, was_accepted, stopped_measuring, all_counted, bulk_counts}
 use Rattle.scicos.proofs.bulk.count_bulk.Goals as goal
 
 pub returns-in_err-checked-clause-counted : goal.returns-in_err-checked-clause-counted
@@ -18,3 +18,8 @@ returns-clause-counted g c =
     let accepted = was_accepted c.args.seed c.args.size c.in_ok-checked.checked c.judged.result c.in_ok-checked.was c.judged.ensures in
     all_counted c.args.seed c.args.size c.in_ok-checked.checked c.in_ok-length.length c.in_ok-ran.ran _ accepted c.in_ok-length.ensures.ok c.in_ok-ran.ensures.ran
     c.len-blocks.ensures c.source_count-sources.ensures refl refl c.lines.ensures c.sum.ensures
+
+pub returns-clause-counts_run : goal.returns-clause-counts_run
+returns-clause-counts_run g c =
+    let accepted = was_accepted c.args.seed c.args.size c.in_ok-checked.checked c.judged.result c.in_ok-checked.was c.judged.ensures in
+    bulk_counts c.args.seed c.args.size c.in_ok-checked.checked _ accepted c.in_ok-ran.ensures.counts_run

@@ -2,6 +2,7 @@ use Rattle.std.proofs.Common.{refl, inl}
 use Rattle.sci_base.specs.Plain.{violation_of}
 use Rattle.scicos.specs.Answer.{usage, refused, read_fault, no_memory}
 use Rattle.scicos.proofs.Giving.{said_written, trace_written, c_written}
+use Rattle.scicos.proofs.Counting.{done_counts}
 use Rattle.scicos.proofs.deliver.deliver.Goals as goal
 
 pub returns-in-Usage-clause-delivered : goal.returns-in-Usage-clause-delivered
@@ -22,3 +23,34 @@ returns-in-Simulate-clause-delivered g c =
 
 pub returns-in-RunC-clause-delivered : goal.returns-in-RunC-clause-delivered
 returns-in-RunC-clause-delivered g c = rw c.in-RunC.is (c_written _ _ _ _ _ _ c.print_run.result c.print_run.ensures c.finish_run.ensures)
+
+pub returns-in-Simulate-clause-left : goal.returns-in-Simulate-clause-left
+returns-in-Simulate-clause-left g c =
+    rw c.in-Simulate.is (done_counts c.in-Simulate.simulation _ _ _ _ c.print_trace.result c.finish.ensures c.print_trace.ensures.counts_run)
+
+pub returns-in-Usage-clause-left : goal.returns-in-Usage-clause-left
+returns-in-Usage-clause-left g c = λ _. rw c.in-Usage.is refl
+
+pub returns-in-Refused-clause-left : goal.returns-in-Refused-clause-left
+returns-in-Refused-clause-left g c = λ _. rw c.in-Refused.is refl
+
+pub returns-in-ReadFault-clause-left : goal.returns-in-ReadFault-clause-left
+returns-in-ReadFault-clause-left g c = λ _. rw c.in-ReadFault.is refl
+
+pub returns-in-Memory-clause-left : goal.returns-in-Memory-clause-left
+returns-in-Memory-clause-left g c = λ _. rw c.in-Memory.is refl
+
+pub returns-in-Print-clause-left : goal.returns-in-Print-clause-left
+returns-in-Print-clause-left g c = λ _. rw c.in-Print.is refl
+
+pub returns-in-Report-clause-left : goal.returns-in-Report-clause-left
+returns-in-Report-clause-left g c = λ _. rw c.in-Report.is refl
+
+pub returns-in-Code-clause-left : goal.returns-in-Code-clause-left
+returns-in-Code-clause-left g c = λ _. rw c.in-Code.is refl
+
+pub returns-in-Bulk-clause-left : goal.returns-in-Bulk-clause-left
+returns-in-Bulk-clause-left g c = λ _. rw c.in-Bulk.is refl
+
+pub returns-in-RunC-clause-left : goal.returns-in-RunC-clause-left
+returns-in-RunC-clause-left g c = λ _. rw c.in-RunC.is refl

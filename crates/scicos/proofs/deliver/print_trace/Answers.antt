@@ -1,4 +1,6 @@
-use Rattle.std.proofs.Common.{rules}
+use Rattle.std.proofs.Common.{rules, ap}
+use Rattle.sci_sim.specs.Frame.{Fixed}
+use Rattle.scicos.proofs.Counting.{run_counts}
 use Rattle.scicos.proofs.Giving.{ran_failed, ran_unflushed, ran_flushed}
 use Rattle.scicos.proofs.Traced.{finished_stops}
 use Rattle.scicos.proofs.deliver.print_trace.Goals as goal
@@ -25,3 +27,8 @@ returns-clause-printed g c =
       ran_flushed trace.0 _ c.run.result c.flush.result _ _ c.in_ok-end.was c.in_ok-flush.was
           (c.run.ensures.written trace.0 trace.1) c.flush.ensures.written c.flush.ensures.all (finished_stops _ _ _ _ _ trace.0 _ trace.2),
     )
+
+pub returns-clause-counts_run : goal.returns-clause-counts_run
+returns-clause-counts_run g c =
+    let trace = c.in_ok-end.ensures.finished in
+    run_counts _ _ _ _ _ _ trace.0 _ trace.2 (ap (λ (f : Fixed). f.net) c.run.ensures.net) c.requires.net c.requires.limit

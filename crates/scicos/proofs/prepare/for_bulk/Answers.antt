@@ -2,7 +2,7 @@ use Rattle.scicos.proofs.Bulked.{counted_looks, lacks_looks}
 use Rattle.scicos.proofs.prepare.for_bulk.Goals as goal
 
 pub returns-in-Ok-clause-looks : goal.returns-in-Ok-clause-looks
-returns-in-Ok-clause-looks g c = λ s banks. counted_looks c.args.seed c.args.size s banks c.in-Ok.counts c.in-Ok.ensures.counted
+returns-in-Ok-clause-looks g c = λ s. counted_looks c.args.seed c.args.size s _ c.in-Ok.counts c.in-Ok.ensures.counted c.in-Ok.ensures.counts_run
 
 pub returns-in-Err-Refused-clause-looks : goal.returns-in-Err-Refused-clause-looks
 returns-in-Err-Refused-clause-looks g c =
@@ -10,4 +10,4 @@ returns-in-Err-Refused-clause-looks g c =
     absurd none
 
 pub returns-in-Err-Memory-clause-looks : goal.returns-in-Err-Memory-clause-looks
-returns-in-Err-Memory-clause-looks g c = λ s banks. lacks_looks c.args.seed c.args.size s banks
+returns-in-Err-Memory-clause-looks g c = λ s. lacks_looks c.args.seed c.args.size s _

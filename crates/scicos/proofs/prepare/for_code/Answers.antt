@@ -6,20 +6,23 @@ use Rattle.scicos.specs.Course.{diagram_slot, gives}
 use Rattle.scicos.specs.Code.{IsCodeOf}
 use Rattle.scicos.specs.Judged.{AcceptsChecked}
 use Rattle.scicos.specs.declared.look.LookStop.TheVariants.{Memory}
-use Rattle.scicos.proofs.Looking.{stopped_looks, first_stops}
+use Rattle.scicos.specs.Words.{code}
+use Rattle.scicos.proofs.Looking.{stopped_looks, without_run, first_stops}
 use Rattle.scicos.proofs.Coded.{is_code, lacks_code, gives_code}
 use Rattle.scicos.proofs.prepare.for_code.Goals as goal
 
 pub returns-in_err-checked-clause-looks : goal.returns-in_err-checked-clause-looks
 returns-in_err-checked-clause-looks g c = λ banks.
-    first_stops Plan diagram_slot c.args.file.now Accepts Breaks (λ p. gives (IsCodeOf p)) Checked AcceptsChecked (g.F.Folder.state c.args.folder.now)
-    (g.F.Folder.state c.look.new.folder) banks c.look.result c.from_residual.result _ c.in_err-checked.was (search rules) c.look.ensures.looked
+    let old = g.F.Folder.state c.args.folder.now in
+    let mid = g.F.Folder.state c.look.new.folder in
+    stopped_looks old mid banks (code c.args.file.now) c.from_residual.result _ (search rules)
+    (first_stops Plan diagram_slot c.args.file.now Accepts Breaks (λ p. gives (IsCodeOf p)) Checked AcceptsChecked old mid c.look.result _ c.in_err-checked.was c.look.ensures.looked)
 
 pub returns-in_err-program-clause-looks : goal.returns-in_err-program-clause-looks
 returns-in_err-program-clause-looks g c = λ banks.
     let old = g.F.Folder.state c.args.folder.now in
     let mid = g.F.Folder.state c.look.new.folder in
-    stopped_looks old mid banks _ c.from_residual-in_err-program.result Memory (search rules)
+    stopped_looks old mid banks (code c.args.file.now) c.from_residual-in_err-program.result Memory (search rules)
     (lacks_code c.args.file.now old mid c.in_ok-checked.checked c.look.result c.in_ok-checked.was c.look.ensures.looked c.look.ensures.kept)
 
 pub returns-clause-looks : goal.returns-clause-looks
@@ -28,8 +31,8 @@ returns-clause-looks g c = λ banks.
     let mid = g.F.Folder.state c.look.new.folder in
     let made = is_code _ c.in_ok-checked.checked (whole_of c.in_ok-program.program) c.in_ok-checked.ensures.looked.0.2.1 c.in_ok-program.ensures in
     record {
-      reaches = λ a is.
-          gives_code c.args.file.now old mid c.in_ok-checked.checked c.look.result c.in_ok-checked.was c.look.ensures.looked c.look.ensures.kept (whole_of c.in_ok-program.program) a c.in_ok-program.ensures is;
+      reaches = λ a is. without_run old mid (code c.args.file.now) a _ (λ bytes after. tt)
+          (gives_code c.args.file.now old mid c.in_ok-checked.checked c.look.result c.in_ok-checked.was c.look.ensures.looked c.look.ensures.kept (whole_of c.in_ok-program.program) a c.in_ok-program.ensures is);
       prepared = made.whole;
       lacks = λ may. absurd may;
     }

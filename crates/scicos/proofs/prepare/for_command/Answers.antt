@@ -7,7 +7,7 @@ pub returns-in-Code-clause-looks : goal.returns-in-Code-clause-looks
 returns-in-Code-clause-looks g c = rw c.in-Code.is (c.for_code.ensures.looks _)
 
 pub returns-in-Bulk-clause-looks : goal.returns-in-Bulk-clause-looks
-returns-in-Bulk-clause-looks g c = rw c.in-Bulk.is (c.for_bulk.ensures.looks _ _)
+returns-in-Bulk-clause-looks g c = rw c.in-Bulk.is (c.for_bulk.ensures.looks _)
 
 pub returns-in-RunC-clause-looks : goal.returns-in-RunC-clause-looks
 returns-in-RunC-clause-looks g c = rw c.in-RunC.is (c.for_run_c.ensures.looks _)

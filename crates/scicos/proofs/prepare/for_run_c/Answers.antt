@@ -1,4 +1,4 @@
-use Rattle.std.proofs.Common.{rules, ◌≡◌, List, [], ℕ, ℤ, pos, ap, map}
+use Rattle.std.proofs.Common.{rules, ◌≡◌, List, [], ℤ, pos, ap, map}
 use Rattle.sci_trace.specs.Columns.{needed_of}
 use Rattle.c_ast.specs.Syntax.{Whole}
 use Rattle.c_ast.specs.View.{whole_of}
@@ -12,13 +12,16 @@ use Rattle.scicos.specs.Judged.{AcceptsProgram}
 use Rattle.scicos.specs.Program.{AcceptsC, BreaksC}
 use Rattle.scicos.specs.Reached.{ComesTo}
 use Rattle.scicos.proofs.Courses.{due_now, lacks_now, of_files}
-use Rattle.scicos.proofs.Looking.{stopped_looks, first_stops, first_passes, next_stops, looked_for}
+use Rattle.scicos.specs.Words.{run_c}
+use Rattle.scicos.proofs.Looking.{stopped_looks, without_run, first_stops, first_passes, next_stops, looked_for}
 use Rattle.scicos.proofs.prepare.for_run_c.Goals as goal
 
 pub returns-in_err-program-clause-looks : goal.returns-in_err-program-clause-looks
 returns-in_err-program-clause-looks g c = λ banks.
-    first_stops Whole c_slot c.args.file.now AcceptsC BreaksC (behind_program c.args.inputs_file.now c.args.until c.args.limit) Program AcceptsProgram (g.F.Folder.state c.args.folder.now)
-    (g.F.Folder.state c.look.new.folder) banks c.look.result c.from_residual.result _ c.in_err-program.was (search rules) c.look.ensures.looked
+    let old = g.F.Folder.state c.args.folder.now in
+    let mid = g.F.Folder.state c.look.new.folder in
+    stopped_looks old mid banks (run_c c.args.file.now c.args.inputs_file.now c.args.until c.args.limit) c.from_residual.result _ (search rules)
+    (first_stops Whole c_slot c.args.file.now AcceptsC BreaksC (behind_program c.args.inputs_file.now c.args.until c.args.limit) Program AcceptsProgram old mid c.look.result _ c.in_err-program.was c.look.ensures.looked)
 
 pub returns-in_err-inputs-clause-looks : goal.returns-in_err-inputs-clause-looks
 returns-in_err-inputs-clause-looks g c = λ banks.
@@ -28,7 +31,7 @@ returns-in_err-inputs-clause-looks g c = λ banks.
     let program = whole_of c.in_ok-program.program in
     let none : c.new.result.items ≡ [] = search rules in
     let next : Whole → Course = behind_program c.args.inputs_file.now c.args.until c.args.limit in
-    stopped_looks old new banks _ c.from_residual-in_err-inputs.result _ (search rules)
+    stopped_looks old new banks (run_c c.args.file.now c.args.inputs_file.now c.args.until c.args.limit) c.from_residual-in_err-inputs.result _ (search rules)
     (of_files old new Whole c_slot c.args.file.now AcceptsC BreaksC next _
     (first_passes Whole c_slot c.args.file.now AcceptsC BreaksC next Program AcceptsProgram old mid new c.look.result c.in_ok-program.program _ c.in_ok-program.was c.look.ensures.looked c.look.ensures.kept
     (λ b h. (program, h, next_stops (List (List ℤ)) inputs_slot c.args.inputs_file.now (AcceptsColumns []) (BreaksColumns []) (λ columns. gives (λ a. a ≡ c_ran (meaning program columns (pos c.args.until) (pos c.args.limit)))) (List (List ℤ)) (AcceptsColumns []) mid new c.look-2.result _ c.in_err-inputs.was (looked_for _ [] mid new _ _ (ap (map needed_of) none) c.look-2.ensures.looked)))))
@@ -53,7 +56,7 @@ returns-clause-looks g c = λ banks.
           (λ b i. (columns, i, end)),
     ))) in
     record {
-      reaches = λ a is. both a (due_now new (due columns) a is);
+      reaches = λ a is. without_run old new (run_c c.args.file.now c.args.inputs_file.now c.args.until c.args.limit) a _ (λ bytes after. tt) (both a (due_now new (due columns) a is));
       prepared = (c.requires.until, c.requires.limit);
       lacks = λ may. both no_memory (lacks_now new (gives (due columns)));
     }

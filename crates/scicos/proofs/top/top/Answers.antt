@@ -1,9 +1,6 @@
-use Rattle.std.proofs.Common.{map}
-use Rattle.std.specs.Prelude.{string_bytes}
-use Rattle.scicos.proofs.Causes.{met_by}
 use Rattle.scicos.proofs.Delivered.{met_either}
 use Rattle.scicos.proofs.top.top.Goals as goal
 
 pub returns-clause-meets : goal.returns-clause-meets
 returns-clause-meets g c =
-    met_either c.prepare-prepared.result _ _ _ _ _ _ _ _ c.prepare-prepared.ensures.reaches c.prepare-prepared.ensures.lacks c.deliver.ensures.delivered
+    met_either c.prepare-prepared.result _ _ _ _ _ _ _ _ _ _ c.prepare-prepared.ensures.reaches c.prepare-prepared.ensures.lacks c.deliver.ensures.left c.deliver.ensures.delivered
