@@ -1,0 +1,182 @@
+// A sink that compares what it is given.
+ghost use Rattle.std.specs.Prelude.{◌≡◌, ◌<◌, ◌^◌, ◌↔◌, ◌+◌, ◌++◌, ◌∷◌, [], true, false, length, slice_index, if◌then◌else◌, None, Some, IsTrue};
+ghost use Rattle.sci_io.specs.Causes.{counted};
+ghost use Rattle.sci_io.specs.Taken.{TakesFront};
+ghost use Rattle.sci_agree.specs.Lines.{is_line_feed};
+ghost use Rattle.sci_agree.specs.Verdict.{IsVerdict};
+
+use crate::verdict::Verdict;
+use sci_io::{Failed, Sink};
+use std::marker::Model;
+
+/// A sink that compares what it is given with a text. It takes what agrees with the text, and the first byte that doesn't or that
+/// stands behind the text's end; from that byte on each call of `put` fails. It takes no memory.
+#[derive(Drop)]
+pub struct Comparing<'a> {
+    text: &'a [u8],
+    // how many bytes agree
+    at: usize,
+    // how many lines these are
+    lines: u64,
+    // the first byte that doesn't agree
+    wrong: Option<u8>,
+    faults: u64,
+    begun: bool,
+}
+
+impl<'a> Model for Comparing<'a> {
+    ghost use Rattle.sci_agree.specs.Compared.{Compared, IsCompared};
+
+    ghost Value = { Compared };
+
+    ghost view = { λ s. record { text = s.text.now; at = s.at; lines = s.lines; wrong = s.wrong; faults = s.faults; begun = s.begun } };
+
+    ghost invariant = { λ s. IsCompared (record { text = s.text.now; at = s.at; lines = s.lines; wrong = s.wrong; faults = s.faults; begun = s.begun }) };
+}
+
+// How many lines a byte ends.
+fn lines_ended(byte: u8) -> u64
+    ensures value { result ≡ (if is_line_feed byte then 1 else 0) }
+    ensures small { result < 2 }
+{
+    if byte == b'\n' { 1 } else { 0 }
+}
+
+impl<'a> Comparing<'a> {
+    ghost use Rattle.std.specs.Prelude.{ℕ, List};
+    ghost use Rattle.sci_agree.specs.Compared.{IsCompared, taken_by, WasGiven};
+
+    /// Compares with this text, from its beginning.
+    pub fn new(text: &'a [u8]) -> Comparing<'a>
+        ensures { result ≡ record { text = text.now; at = 0; lines = 0; wrong = None; faults = 0; begun = false } }
+    {
+        Comparing {
+            text,
+            at: 0,
+            lines: 0,
+            wrong: None,
+            faults: 0,
+            begun: false,
+        }
+    }
+
+    // What holds of every such sink.
+    fn well_formed(&self)
+        ensures { IsCompared self.now }
+    {
+        let _at = self.at;
+    }
+
+    // Whether this is the text's next byte.
+    fn is_next(&self, byte: u8) -> bool
+        ensures { IsTrue result ↔ ((self.now.at < length self.now.text) × (slice_index self.now.text self.now.at ≡ byte)) }
+    {
+        self.at < self.text.len() && self.text[self.at] == byte
+    }
+
+    // Takes a byte, and tells whether it agrees.
+    fn take(&mut self, byte: u8) -> bool
+        requires { self.old.wrong ≡ None }
+        ensures taken { taken_by self.new ≡ taken_by self.old ++ byte ∷ [] }
+        ensures agrees { result ≡ true → (self.new.wrong ≡ None) × (self.new.faults ≡ self.old.faults) }
+        ensures failed { result ≡ false → self.new.faults ≡ counted self.old.faults }
+        ensures text { self.new.text ≡ self.old.text }
+        ensures begun { self.new.begun ≡ self.old.begun }
+    {
+        if self.is_next(byte) {
+            self.at += 1;
+            self.lines += lines_ended(byte);
+            return true;
+        }
+        self.wrong = Some(byte);
+        self.faults = self.faults.saturating_add(1);
+        false
+    }
+
+    // Takes a piece, or a front of it that ends with its first byte that doesn't agree. Whether all of it agrees.
+    fn compare(&mut self, piece: &[u8]) -> bool
+        requires { self.old.wrong ≡ None }
+        ensures all { result ≡ true → taken_by self.new ≡ taken_by self.old ++ piece.now }
+        ensures front { result ≡ false → TakesFront (Some (taken_by self.old)) (Some (taken_by self.new)) piece.now }
+        ensures agrees { result ≡ true → self.new.faults ≡ self.old.faults }
+        ensures failed { result ≡ false → self.new.faults ≡ counted self.old.faults }
+        ensures text { self.new.text ≡ self.old.text }
+        ensures begun { self.new.begun ≡ self.old.begun }
+    {
+        for byte in piece {
+            if !self.take(*byte) {
+                return false;
+            }
+        }
+        true
+    }
+
+    // Whether everything that was given agrees, and nothing of the text is left.
+    fn is_whole(&self) -> bool
+        ensures { IsTrue result ↔ ((self.now.wrong ≡ None) × (self.now.at ≡ length self.now.text)) }
+    {
+        self.wrong.is_none() && self.at == self.text.len()
+    }
+
+    // How many lines agree.
+    fn lines(&self) -> u64
+        ensures lines { result ≡ self.now.lines }
+        ensures small { result < 2 ^ 63 }
+    {
+        self.lines
+    }
+
+    /// The verdict on the text, once all of what is due was given, or a front of it up to a call that failed.
+    pub fn verdict(&self) -> Verdict
+        ensures { (due : List ℕ) → WasGiven due self.now → IsVerdict due self.now.text result }
+    {
+        self.well_formed();
+        if self.is_whole() {
+            Verdict::Yes(self.lines())
+        } else {
+            Verdict::No(self.lines() + 1)
+        }
+    }
+}
+
+impl<'a> Sink for Comparing<'a> {
+    ghost use Rattle.std.specs.Prelude.{◌≡◌, ◌<◌, [], length, IsOk, OnOk};
+    ghost use Rattle.sci_io.specs.Taken.{Writes};
+    ghost use Rattle.sci_agree.specs.Compared.{state_of};
+
+    ghost state = { λ s. state_of s };
+
+    fn put(&mut self, piece: &[u8]) -> Result<(), Failed>
+        requires { 0 < length piece.now }
+        ensures written { Writes (state_of self.old) (state_of self.new) piece.now result }
+        ensures text { self.new.text ≡ self.old.text }
+    {
+        self.begun = true;
+        if self.wrong.is_some() {
+            self.faults = self.faults.saturating_add(1);
+            return Err(Failed);
+        }
+        if self.compare(piece) {
+            Ok(())
+        } else {
+            Err(Failed)
+        }
+    }
+
+    fn flush(&mut self) -> Result<(), Failed>
+        ensures written { Writes (state_of self.old) (state_of self.new) [] result }
+        ensures all { OnOk result ((state_of self.new).held ≡ []) }
+        ensures sure { IsOk result }
+        ensures kept { self.new ≡ self.old }
+    {
+        Ok(())
+    }
+
+    fn begin(&mut self) {
+        self.begun = false;
+    }
+
+    fn has_begun(&self) -> bool {
+        self.begun
+    }
+}
