@@ -1,0 +1,15 @@
+pub mod Numbers
+pub mod Readers
+pub mod BlockLines
+pub mod Sources
+pub mod PendingLines
+pub mod Whole
+pub mod Blaming
+pub mod Writing
+pub mod InRange
+pub mod Resumed
+pub mod NumberLoops
+pub mod Loops
+pub mod Lines
+pub mod Reached
+pub mod Steps

@@ -1,0 +1,5 @@
+use Rattle.std.proofs.lemmas.List.{append-nil}
+use Rattle.sci_save.proofs.write.put_start.Goals as goal
+
+pub returns : goal.returns
+returns g c = simp (c.as_bytes.ensures.value, c.as_bytes-2.ensures.value, c.as_bytes-3.ensures.value, c.format.ensures.text, append-nil) at c.put_all.ensures

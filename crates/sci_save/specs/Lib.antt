@@ -1,0 +1,10 @@
+pub mod Saved
+pub mod Bounds
+pub mod Valid
+pub mod Text
+pub mod Blame
+pub mod Numbers
+pub mod Reading
+pub mod Answers
+pub mod Laws
+pub mod Resumed
