@@ -1,0 +1,17 @@
+pub mod Parts
+pub mod Scans
+pub mod Numbers
+pub mod Bits
+pub mod Lines
+pub mod Eachs
+pub mod Differing
+pub mod Splits
+pub mod Clear
+pub mod Leading
+pub mod Completing
+pub mod Passing
+pub mod Blaming
+pub mod Reading
+pub mod Ends
+pub mod Links
+pub mod Standing

@@ -1,0 +1,111 @@
+// A line, made from its end to its front.
+
+ghost use Rattle.std.specs.Prelude.{◌≡◌, ◌≤◌, ◌<◌, ◌^◌, ◌+◌, ◌++◌, ◌∷◌, codes, drop, length};
+ghost use Rattle.std.specs.Fmt.{decimal};
+ghost use Rattle.sci_io.specs.Taken.{Writes};
+ghost use Rattle.sci_vcd.specs.Spelling.{binary, name_text};
+
+use crate::Signal;
+use itoa::write_digits;
+use sci_io::{Failed, Sink};
+
+/// The room for a line. The longest has three words and four numbers of 20 characters.
+pub const ROOM: usize = 128;
+
+// Each of these puts something before the bytes from `end` on, and tells where it begins.
+
+/// The end of a line.
+pub fn end_line(line: &mut [u8; ROOM]) -> usize
+    ensures text { drop result line.new ≡ codes "\n" }
+    ensures start { result ≡ 127 }
+{
+    line[ROOM - 1] = b'\n';
+    ROOM - 1
+}
+
+/// A byte.
+pub fn byte_before(line: &mut [u8; ROOM], end: usize, byte: u8) -> usize
+    requires room { 1 ≤ end }
+    requires within { end ≤ 128 }
+    ensures text { drop result line.new ≡ byte ∷ drop end line.old }
+    ensures start { result + 1 ≡ end }
+{
+    line[end - 1] = byte;
+    end - 1
+}
+
+/// The digits of a number, at most 20.
+pub fn digits_before(line: &mut [u8; ROOM], end: usize, n: u64) -> usize
+    requires room { 20 ≤ end }
+    requires within { end ≤ 128 }
+    ensures text { drop result line.new ≡ decimal n ++ drop end line.old }
+    ensures room { end ≤ result + 20 }
+    ensures within { result ≤ end }
+{
+    if n < 10 {
+        return byte_before(line, end, b'0' + n as u8);
+    }
+    write_digits(n, line, end)
+}
+
+/// A word.
+pub fn word_before(line: &mut [u8; ROOM], end: usize, word: &str) -> usize
+    requires room { length word.now ≤ end }
+    requires within { end ≤ 128 }
+    ensures text { drop result line.new ≡ word.now ++ drop end line.old }
+    ensures start { result + length word.now ≡ end }
+{
+    let start = end - word.len();
+    line[start..end].copy_from_slice(word.as_bytes());
+    start
+}
+
+/// The last so many binary digits of a number.
+pub fn bits_before(line: &mut [u8; ROOM], end: usize, width: u32, bits: u64) -> usize
+    requires room { 32 ≤ end }
+    requires within { end ≤ 128 }
+    requires narrow { width ≤ 32 }
+    ensures text { drop result line.new ≡ binary width bits ++ drop end line.old }
+    ensures start { result + width ≡ end }
+{
+    let mut at = end;
+    let mut left = bits;
+    for _ in 0..width {
+        at = byte_before(line, at, b'0' + (left % 2) as u8);
+        left /= 2;
+    }
+    at
+}
+
+/// A signal's name.
+pub fn name_before(line: &mut [u8; ROOM], end: usize, signal: &Signal) -> usize
+    requires room { 63 ≤ end }
+    requires within { end ≤ 128 }
+    ensures text { drop result line.new ≡ name_text signal.now ++ drop end line.old }
+    ensures room { end ≤ result + 63 }
+    ensures within { result ≤ end }
+{
+    let at = digits_before(line, end, u64::from(signal.element));
+    let at = byte_before(line, at, b'_');
+    let at = digits_before(line, at, u64::from(signal.port));
+    let at = byte_before(line, at, b'_');
+    let at = digits_before(line, at, u64::from(signal.block));
+    byte_before(line, at, b'b')
+}
+
+/// What stands from a place on.
+pub fn line_from(line: &[u8; ROOM], start: usize) -> &[u8]
+    requires { start ≤ 128 }
+    ensures { result.now ≡ drop start line.now }
+{
+    &line[start..]
+}
+
+/// Writes the name of a signal, and nothing after it.
+pub fn write_name<S: Sink>(signal: &Signal, out: &mut S) -> Result<(), Failed>
+    ensures { Writes (S.state out.old) (S.state out.new) (name_text signal.now) result }
+{
+    let mut line = [0; ROOM];
+    let at = name_before(&mut line, ROOM, signal);
+    out.put(line_from(&line, at))
+}
