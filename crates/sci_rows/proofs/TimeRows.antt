@@ -1,7 +1,7 @@
 -- Rows of the kinds with states, sensors, delays and branches, each of a typed spec. Written by tools/time_rows.py.
 use Rattle.std.proofs.Common.{◌≡◌, ℕ, ℤ, pos, negsuc, List, [], ◌∷◌, length, true, refl}
 use Rattle.sci_forms.specs.declared.Kind.{Kind}
-use Rattle.sci_forms.specs.declared.Kind.TheVariants.{Dollar, SampHold, Register, ModuloCount, GatedDelay, Sensor, EvtDly, EvtVarDly, IfThEl, ESelect}
+use Rattle.sci_forms.specs.declared.Kind.TheVariants.{Dollar, SampHold, Register, ModuloCount, GatedDelay, Sensor, EvtDly, EvtVarDly, IfThEl, ESelect, Halt}
 use Rattle.sci_forms.specs.declared.ports.Port.{Port}
 use Rattle.sci_forms.specs.declared.spec.Spec.{Spec}
 use Rattle.sci_forms.specs.Forms.{own_feed}
@@ -433,3 +433,15 @@ row129 = (refl, refl)
 
 row130 : Takes (block ESelect ([]) ([]) ([]) (port 1 1 5 ∷ []) ([]) 0 64) (pos 65 ∷ []) 64
 row130 = (refl, refl)
+
+row131 : Gives (block GatedDelay ([]) (pos 6 ∷ negsuc 6 ∷ []) ([]) (port 1 2 5 ∷ port 1 1 3 ∷ []) (port 1 2 5 ∷ []) 0 0) (pos 6 ∷ negsuc 6 ∷ []) 0 (pos 40 ∷ pos 50 ∷ pos 256 ∷ []) (pos 6 ∷ negsuc 6 ∷ [])
+row131 = (refl, refl)
+
+row132 : Starts (block Halt ([]) ([]) ([]) ([]) ([]) 1 0) ([])
+row132 = (refl, refl)
+
+row133 : Holds (block Halt ([]) ([]) ([]) ([]) ([]) 1 0) ([])
+row133 = (refl, refl)
+
+row134 : Reaches (block Halt ([]) ([]) ([]) ([]) ([]) 1 0) 1 (([]) ∷ []) ([])
+row134 = (refl, refl)
