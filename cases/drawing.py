@@ -132,6 +132,18 @@ def pictures(program):
     return '; '.join(wrong)
 
 
+def numbers(program):
+    """The numbers that `tools/numbers` prints are those of `map`, and it prints those of a refused diagram."""
+    wrong = []
+    for path in example_files():
+        run = subprocess.run([os.path.join(TOP, 'tools', 'numbers'), path], capture_output=True, timeout=120)
+        due = subprocess.run([program, 'map', path], capture_output=True, timeout=120)
+        given, due = ([line.split()[:3] for line in told.stdout.decode().splitlines()] for told in (run, due))
+        wrong += [] if given == due and due else ['%s: %r in place of %r' % (path, given, due)]
+    run = subprocess.run([os.path.join(TOP, 'tools', 'numbers'), os.path.join(EXAMPLES, 'loop.json')], capture_output=True, timeout=120)
+    return '; '.join(wrong + ([] if b'\n3 3 SUMMATION\n4 4 GAINBLK\n' in run.stdout else [repr(run)]))
+
+
 def drawing(program):
     """Drawings are as the first line of this file says; what is refused isn't drawn."""
     wrong = coloured(program) + wrong_links(program, json.dumps({'objs': CROSSED}), BRANCHED)

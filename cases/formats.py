@@ -1,4 +1,4 @@
-"""The examples of docs/FORMAT.md: diagrams with their traces, blocks with their values, and what is refused."""
+"""The examples of docs/FORMAT.md: diagrams with their traces, blocks with their values, what is refused, and the designs with a mistake in each."""
 import json
 import os
 import re
@@ -6,6 +6,7 @@ import subprocess
 import tempfile
 
 HERE = os.path.dirname(os.path.abspath(__file__))
+UNGIVEN = {30, 35, 36, 37}  # the rules that no command gives
 
 
 def answer(program, words, diagram, inputs='[]'):
@@ -17,13 +18,26 @@ def answer(program, words, diagram, inputs='[]'):
         return run.stdout.decode(), run.stderr.decode(), run.returncode
 
 
+def both_answers(program, diagram, inputs, bounds):
+    """What a run of the diagram gives, and what its C gives, read back and run."""
+    with tempfile.TemporaryDirectory() as work:
+        for name, content in (('d', diagram), ('i', inputs)):
+            with open(os.path.join(work, name), 'w') as file:
+                file.write(content)
+        with open(os.path.join(work, 'c'), 'wb') as file:
+            subprocess.run([program, 'ccode', 'd'], cwd=work, stdout=file, stderr=subprocess.DEVNULL, timeout=120)
+        runs = [subprocess.run([program, word, name, 'i'] + bounds, cwd=work, capture_output=True, timeout=120)
+                for word, name in (('simulate', 'd'), ('crun', 'c'))]
+        return [(run.stdout.decode(), run.stderr.decode(), run.returncode) for run in runs]
+
+
 def parts(page):
     """The fenced parts of the page: each one's words and its text."""
     return [(first.split(), body) for first, body in re.findall(r'^```(\w[^\n]*)\n(.*?)^```$', page, re.M | re.S)]
 
 
 def wrong_traces(program, page):
-    """Each diagram on the page runs to the trace behind it."""
+    """Each diagram on the page runs to the trace behind it, and so does its C."""
     wrong, diagram, inputs = [], None, '[]'
     for words, body in parts(page):
         if words[0] == 'diagram':
@@ -31,9 +45,19 @@ def wrong_traces(program, page):
         elif words[0] == 'inputs':
             inputs = body
         elif words[0] == 'trace':
-            run = answer(program, ['simulate', 'd', 'i'] + words[1:], diagram, inputs)
-            if run != (body, '', 0):
-                wrong.append('%r in place of %r' % (run, body))
+            for run in both_answers(program, diagram, inputs, words[1:]):
+                if run != (body, '', 0):
+                    wrong.append('%r in place of %r' % (run, body))
+    return wrong
+
+
+def wrong_printed(program, page):
+    """What a command prints of an example is what stands under its words."""
+    wrong = []
+    for words, body in parts(page):
+        if words[0] in ('map', 'schedule', 'check'):
+            run = subprocess.run([program] + words, cwd=os.path.join(HERE, '..'), capture_output=True, timeout=120)
+            wrong += [] if (run.stdout.decode(), run.returncode) == (body, 0) else ['%r in place of %r' % (run, body)]
     return wrong
 
 
@@ -57,22 +81,27 @@ def around(model, count):
     return objs, [{'obj': 'Link', 'from': start, 'to': end, 'ct': [1, kind]} for start, end, kind in links]
 
 
-def wrong_block(program, block, steps):
-    """What is wrong with a block's values, for one activation after the other."""
-    model, asked = block['model'], [[part.split() for part in step.split('->')] for step in steps.split(';')]
-    objs, links = around(model, len(asked))
-    objs[1] = dict(block, obj='Block')
-    columns = [[int(step[0][k]) for step in asked] for k in range(len(asked[0][0]))]
-    out, err, status = answer(program, ['simulate', 'd', 'i', str(len(asked) - 1), '100'], json.dumps({'objs': objs + links}), json.dumps(columns))
-    given, acts = [], []
+def active_values(out):
+    """The values of block 2 in each reaction in which it is active."""
+    given = []
     for line in out.splitlines():
         if line == 'start' or line.startswith('event'):
             given.append([])
         elif line.startswith('val 2 '):
             given[-1].append(line.split()[4])
-    acts = [values for values in given if values]
+    return [values for values in given if values]
+
+
+def wrong_block(program, block, steps):
+    """What is wrong with a block's values, for one activation after the other, in a run and in that of its C."""
+    model, asked = block['model'], [[part.split() for part in step.split('->')] for step in steps.split(';')]
+    objs, links = around(model, len(asked))
+    objs[1] = dict(block, obj='Block')
+    columns = [[int(step[0][k]) for step in asked] for k in range(len(asked[0][0]))]
     due = [step[1] for step in asked]
-    return '' if (acts, status) == (due, 0) else '%r: %r, %d in place of %r (%s)' % (block['gui'], acts, status, due, err)
+    runs = both_answers(program, json.dumps({'objs': objs + links}), json.dumps(columns), [str(len(asked) - 1), '100'])
+    wrong = [(active_values(out), err, status) for out, err, status in runs if (active_values(out), status) != (due, 0)]
+    return '%r: %r in place of %r' % (block['gui'], wrong, due) if wrong else ''
 
 
 def wrong_blocks(program, page):
@@ -98,12 +127,49 @@ def wrong_refusals(program, page):
     return wrong
 
 
+def object_at(diagram, place):
+    """The object of a diagram at a place, as `4/7`."""
+    *outer, last = [int(part) - 1 for part in place.split('/')]
+    for at in outer:
+        diagram = diagram['objs'][at]['model']['rpar']
+    return diagram['objs'][last]
+
+
+def wrong_mistakes(program, page):
+    """Each design with the change that its row tells is refused as the row says, and each design has a row."""
+    rows = re.findall(r'^\| `([\w-]+)` \| `([\d/]+)` \| `(\w+)` \| `([^`]+)` \| `(\d+ [^`]+)` \|', page, re.M)
+    examples = os.path.join(HERE, '..', 'examples')
+    lacking = {name for name in os.listdir(examples) if os.path.exists(os.path.join(examples, name, 'diagram.json'))} - {row[0] for row in rows}
+    wrong = ['no mistake in %s' % name for name in sorted(lacking)]
+    for name, place, field, value, line in rows:
+        with open(os.path.join(examples, name, 'diagram.json')) as file:
+            diagram = json.load(file)
+        changed = object_at(diagram, place)
+        fields = changed if field in changed else changed['model']
+        wrong += ['%s has this %s at %s anyhow' % (name, field, place)] if fields[field] == json.loads(value) else []
+        fields[field] = json.loads(value)
+        run = answer(program, ['check', 'd'], json.dumps(diagram))
+        if run != ('', 'refused %s\n' % line, 1):
+            wrong.append('%s: %r in place of %r' % (name, run, line))
+    return wrong
+
+
 def kinds_shown(page):
-    """Each kind has a row."""
+    """Each kind has a row and stands in an example."""
     rows = set(re.findall(r'`(\w+)`', ' '.join(line.split('|')[1] for line in page.splitlines() if line.startswith('| `'))))
     with open(os.path.join(HERE, '..', 'crates', 'sci_forms', 'specs', 'Names.antt')) as file:
         names = set(re.findall(r'codes "(\w+)"', file.read()))
-    return ['no row of %s' % name for name in sorted(names - rows)]
+    examples = set(re.findall(r'"gui": "(\w+)"', ' '.join(body for _, body in parts(page))))
+    return ['no row of %s' % name for name in sorted(names - rows)] + ['no example of %s' % name for name in sorted(names - examples)]
+
+
+def rules_shown(page):
+    """Each rule that some command gives has a row, which says when it is broken and what to do."""
+    rows = [[cell.strip() for cell in line.split('|')[1:-1]] for line in page.splitlines() if re.match(r'\| \d+ [A-Z]\w+', line)]
+    with open(os.path.join(HERE, '..', 'crates', 'sci_base', 'src', 'refusal.rt')) as file:
+        rules = {(number, name) for name, number in re.findall(r'Rule::(\w+) => (\d+),', file.read()) if int(number) not in UNGIVEN}
+    missing = sorted(rules - {rule for row in rows for rule in re.findall(r'(\d+) ([A-Z]\w+)', row[0])})
+    return ['no row of %s %s' % rule for rule in missing] + ['the row of %s says too little' % row[0] for row in rows if not (row[1] and row[3])]
 
 
 def formats(program):
@@ -111,4 +177,5 @@ def formats(program):
     with open(os.path.join(HERE, '..', 'docs', 'FORMAT.md')) as file:
         page = file.read()
     unread = [] if 2 * len(parts(page)) == len(re.findall(r'^```', page, re.M)) else ['parts of the page are not read']
-    return '; '.join(unread + wrong_traces(program, page) + wrong_blocks(program, page) + wrong_refusals(program, page) + kinds_shown(page))
+    wrong = wrong_traces(program, page) + wrong_blocks(program, page) + wrong_refusals(program, page) + wrong_mistakes(program, page)
+    return '; '.join(unread + wrong + wrong_printed(program, page) + kinds_shown(page) + rules_shown(page))

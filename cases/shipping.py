@@ -1,4 +1,5 @@
-"""The page on targets: its host and examples/paced-host.c are C without a warning, a paced run has the trace and takes its time, and sizes are told."""
+"""The page on targets: its host and examples/paced-host.c are C without a warning, a paced run has the trace and takes its time, sizes are told, and a
+checker names the rules of the page."""
 import glob
 import os
 import re
@@ -80,3 +81,18 @@ def wrong_table(program):
     row = re.compile(r'^\| ([\w-]+)' + r' \| (\d+)' * 5 + r' \|$', re.M)
     given, due = ([found[:cells] for found in row.findall(table)] for table in (page, run.stdout.decode()))
     return '' if given == due and due else '%r in place of %r' % (given, due)
+
+
+def checkers(program):
+    """On the C of the counter cppcheck's MISRA addon names the rules of the page, each as often, where the version is the page's."""
+    page = text(TOP, 'docs', 'SHIPPING.md')
+    version = subprocess.run(['cppcheck', '--version'], capture_output=True).stdout.decode().split() if shutil.which('cppcheck') else ['none']
+    if '(%s)' % version[-1] not in page:
+        return ''
+    with tempfile.TemporaryDirectory() as work:
+        with open(os.path.join(work, 'counter.c'), 'wb') as file:
+            file.write(subprocess.run([program, 'ccode', os.path.join(EXAMPLES, 'counter.json')], capture_output=True, timeout=120).stdout)
+        run = subprocess.run(['cppcheck', '--addon=misra', '--std=c99', 'counter.c'], cwd=work, capture_output=True, timeout=120)
+    named = re.findall(r'misra-c2012-([\d.]+)', run.stderr.decode())
+    given, due = {rule: named.count(rule) for rule in named}, dict(re.findall(r'^\| ([\d.]+) \| (\d+) \|', page, re.M))
+    return '' if {rule: str(times) for rule, times in given.items()} == due and due else '%r in place of %r' % (given, due)

@@ -156,6 +156,13 @@ def main():
     for n, values in ((2, (0, 1, 2, 3)), (4, (-1, 0, 1, 2, 3, 4, 5)), (64, (63, 64, 65))):
         for v in values:
             add("Takes", spec("ESelect", [scalar], [], evtout=n), integers([v]), str(branch_of(v, n)))
+    # a gate by its own type: 256 is no number of the outputs' type
+    add("Gives", spec("GatedDelay", [(1, 2, 5), (1, 1, 3)], [(1, 2, 5)], state=[6, -7]), integers([6, -7]), "0", integers([40, 50, 256]), integers([6, -7]))
+    # HALT_f has no state and no outputs
+    s = spec("Halt", [], [], evtin=1)
+    add("Starts", s, integers([]))
+    add("Holds", s, integers([]))
+    add("Reaches", s, "1", listed([integers([])]), integers([]))
     head = open("crates/sci_rows/proofs/TimeRows.antt").read().split("-- ---- rows\n")[0]
     with open("crates/sci_rows/proofs/TimeRows.antt", "w") as f:
         f.write(head + "-- ---- rows\n\n" + "\n".join(ROWS))

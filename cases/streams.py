@@ -1,0 +1,426 @@
+"""The program against real files, streams and limits of the machine.
+
+What is due is said in the README: the whole answer with its status; or a line on standard error with status 3, 4 or 5, and then standard output has
+nothing, but with status 4 a front of the answer. A run that the machine ends by a signal, or doesn't begin, has no status of these.
+"""
+import errno
+import json
+import os
+import pty
+import resource
+import shutil
+import signal
+import subprocess
+import tempfile
+import time
+import tty
+
+HERE = os.path.dirname(os.path.abspath(__file__))
+EXAMPLES = os.path.join(HERE, '..', 'examples')
+LONG = ['simulate', os.path.join(EXAMPLES, 'clock.json'), os.path.join(EXAMPLES, 'no-inputs.json'), '1000000', '100000']
+LONG_TRACE = ('start\n' + ''.join('event %d 1 1\n' % (2 + 3 * k) for k in range(100000)) + 'end events\n').encode()
+LOOP = (b'', b'refused 24 AlgebraicLoop at 3 1 1 3 4\n', 1)
+READ_FAULT = (b'', b'read fault\n', 3)
+WRITE_FAULT = b'write fault\n'
+
+
+def text(*path):
+    with open(os.path.join(*path), 'rb') as file:
+        return file.read()
+
+
+USAGE = (b'', text(HERE, 'no-words', 'err'), 2)
+
+
+def run(program, words, **more):
+    """The two streams and the status of a run."""
+    given = dict(stdin=subprocess.DEVNULL, stdout=subprocess.PIPE, stderr=subprocess.PIPE, timeout=60, **more)
+    ended = subprocess.run([program] + words, **given)
+    return ended.stdout, ended.stderr, ended.returncode
+
+
+def without(given, *cases):
+    """What is wrong: the names of the cases whose answer isn't the one given, with that answer."""
+    return '; '.join('%s: %r' % (name, answer)[:400] for name, answer in cases if answer != given)
+
+
+def meter(program, work):
+    """The meter, its readings and its C in a folder; each command on them, with what it prints."""
+    for name in ('d', 'i'):
+        shutil.copy(os.path.join(HERE, 'simulate-meter', name), work)
+    code, _, status = run(program, ['ccode', 'd'], cwd=work)
+    with open(os.path.join(work, 'c'), 'wb') as file:
+        file.write(code)
+    trace = text(HERE, 'simulate-meter', 'out')
+    return [(['check', 'd'], text(HERE, 'check-meter', 'out')),
+            (['map', 'd'], text(HERE, 'map-meter', 'out')),
+            (['schedule', 'd'], text(HERE, 'schedule-meter', 'out')),
+            (['simulate', 'd', 'i', '30', '100'], trace),
+            (['ccode', 'd'], code if status == 0 else b'no code'),
+            (['crun', 'c', 'i', '30', '100'], trace),
+            (['host'], run(program, ['host'])[0]),
+            (['bulk', '5', '2'], b'bulk 10 9 10 0 1126 123\n')]
+
+
+def full_disk(program):
+    """Standard output takes nothing: each command tells a write fault, though all that it prints waits for the last flush; a refusal is told as ever."""
+    wrong = []
+    with tempfile.TemporaryDirectory() as work, open('/dev/full', 'wb') as full:
+        for words, _ in meter(program, work):
+            ended = subprocess.run([program] + words, cwd=work, stdin=subprocess.DEVNULL, stdout=full, stderr=subprocess.PIPE, timeout=60)
+            if (ended.stderr, ended.returncode) != (WRITE_FAULT, 4):
+                wrong.append('%s: %r' % (words[0], ended))
+        refused = subprocess.run([program, 'check', 'loop.json'], cwd=EXAMPLES, stdout=full, stderr=subprocess.PIPE, timeout=60)
+        unheard = subprocess.run([program, 'check', 'loop.json'], cwd=EXAMPLES, stdout=subprocess.PIPE, stderr=full, timeout=60)
+    if (b'', refused.stderr, refused.returncode) != LOOP:
+        wrong.append('refused: %r' % refused)
+    if (unheard.stdout, unheard.returncode) != (b'', 4):
+        wrong.append('unheard: %r' % unheard)
+    return '; '.join(wrong)
+
+
+def a_file_with_room(program):
+    """Standard output is a file that may have so many bytes and no more: it gets a front of what is due, and the fault is told."""
+    def limited(room):
+        def limit():
+            signal.signal(signal.SIGXFSZ, signal.SIG_IGN)
+            resource.setrlimit(resource.RLIMIT_FSIZE, (room, room))
+        return limit
+    wrong = []
+    with tempfile.TemporaryDirectory() as work:
+        for words, due in meter(program, work):
+            for room in sorted({0, 1, len(due) - 1, len(due), *range(2, len(due), 1 + len(due) // 40)}):
+                with open(os.path.join(work, 'out'), 'wb') as out:
+                    ended = subprocess.run([program] + words, cwd=work, stdout=out, stderr=subprocess.PIPE, timeout=60,
+                                           restore_signals=False, preexec_fn=limited(room))
+                took = text(work, 'out')
+                whole = (took, ended.stderr, ended.returncode) == (due, b'', 0)
+                cut = due.startswith(took) and len(took) <= room and (ended.stderr, ended.returncode) == (WRITE_FAULT, 4)
+                if not (whole if room >= len(due) else cut):
+                    wrong.append('%s, %d bytes: %r with %r' % (words[0], room, ended, took[:80]))
+    return '; '.join(wrong[:3])
+
+
+def closed_streams(program):
+    """Standard output is closed, or standard error, or both, or all three: what is due there can't be written, and no file is written in its place."""
+    wrong = []
+    with tempfile.TemporaryDirectory() as work:
+        meter(program, work)
+        before = {name: text(work, name) for name in sorted(os.listdir(work))}
+        for closed, words, due in (('>&-', 'simulate d i 30 100', (b'', WRITE_FAULT, 4)),
+                                   ('>&- <&-', 'simulate d i 30 100', (b'', WRITE_FAULT, 4)),
+                                   ('2>&-', 'simulate d j 30 100', (b'', b'', 4)),
+                                   ('2>&-', 'check', (b'', b'', 4)),
+                                   ('2>&-', 'bulk 5 2', (b'bulk 10 9 10 0 1126 123\n', b'', 0)),
+                                   ('>&- 2>&-', 'simulate d i 30 100', (b'', b'', 4)),
+                                   ('<&- >&- 2>&-', 'ccode d', (b'', b'', 4)),
+                                   ('<&- >&- 2>&-', 'check c', (b'', b'', 4))):
+            given = run('sh', ['-c', '"$0" %s %s' % (words, closed), program], cwd=work)
+            if given != due:
+                wrong.append('%s %s: %r' % (words, closed, given))
+        if before != {name: text(work, name) for name in sorted(os.listdir(work))}:
+            wrong.append('a file was written')
+    return '; '.join(wrong)
+
+
+def reader_leaves(program):
+    """Standard output is a pipe whose reader goes away behind so many bytes: it had a front of the trace, and the fault is told."""
+    wrong = []
+    for count in (0, 1, 100, 4096, 65535, 65536, 65537, 300000):
+        begun = subprocess.Popen([program] + LONG, stdin=subprocess.DEVNULL, stdout=subprocess.PIPE, stderr=subprocess.PIPE)
+        took = begun.stdout.read(count) if count else b''
+        begun.stdout.close()
+        told = begun.stderr.read()
+        begun.stderr.close()
+        status = begun.wait(timeout=60)
+        if (took, told, status) != (LONG_TRACE[:count], WRITE_FAULT, 4):
+            wrong.append('behind %d bytes: %r, %d' % (count, told, status))
+    return '; '.join(wrong)
+
+
+def no_reader(program):
+    """Standard output is a pipe that nobody reads any more: each command tells the fault, and is not ended by a signal."""
+    wrong = []
+    with tempfile.TemporaryDirectory() as work:
+        for words, _ in meter(program, work):
+            out, into = os.pipe()
+            os.close(out)
+            ended = subprocess.run([program] + words, cwd=work, stdin=subprocess.DEVNULL, stdout=into, stderr=subprocess.PIPE, timeout=60)
+            os.close(into)
+            if (ended.stderr, ended.returncode) != (WRITE_FAULT, 4):
+                wrong.append('%s: %r' % (words[0], ended))
+    return '; '.join(wrong)
+
+
+def slow_reader(program):
+    """A pipe whose reader takes few bytes at a time gets the whole trace."""
+    begun = subprocess.Popen([program] + LONG, stdin=subprocess.DEVNULL, stdout=subprocess.PIPE, stderr=subprocess.PIPE, bufsize=0)
+    pieces = []
+    while True:
+        piece = os.read(begun.stdout.fileno(), 997)
+        if not piece:
+            break
+        pieces.append(piece)
+    told, status = begun.stderr.read(), begun.wait(timeout=60)
+    begun.stdout.close()
+    begun.stderr.close()
+    return '' if (b''.join(pieces), told, status) == (LONG_TRACE, b'', 0) else '%d bytes, %r, %d' % (sum(map(len, pieces)), told, status)
+
+
+def on_terminal(program, words, work):
+    """What a terminal shows of a run's output, and its status."""
+    master, slave = pty.openpty()
+    tty.setraw(slave)
+    begun = subprocess.Popen([program] + words, cwd=work, stdin=slave, stdout=slave, stderr=slave)
+    os.close(slave)
+    shown = []
+    while True:
+        try:
+            piece = os.read(master, 4096)
+        except OSError as error:  # the other end is closed
+            if error.errno != errno.EIO:
+                raise
+            break
+        if not piece:
+            break
+        shown.append(piece)
+    os.close(master)
+    return b''.join(shown), begun.wait(timeout=60)
+
+
+def terminal(program):
+    """All three streams are a terminal."""
+    wrong = []
+    with tempfile.TemporaryDirectory() as work:
+        for words, due in meter(program, work):
+            given = on_terminal(program, words, work)
+            if given != (due, 0):
+                wrong.append('%s: %r' % (words[0], given))
+        for words, due in ((['check', 'no-such-file'], READ_FAULT), ([], USAGE)):
+            given = on_terminal(program, words, work)
+            if given != (due[1], due[2]):
+                wrong.append('%s: %r' % (words, given))
+    return '; '.join(wrong)[:800]
+
+
+def no_files(program):
+    """A folder, or nothing, in the place of each file."""
+    with tempfile.TemporaryDirectory() as work:
+        meter(program, work)
+        os.mkdir(os.path.join(work, 'f'))
+        os.symlink('nowhere', os.path.join(work, 'l'))
+        os.symlink('m', os.path.join(work, 'm'))
+        lines = ['%s %s' % (word, name) for word in ('check', 'map', 'schedule', 'ccode') for name in ('f', 'l', 'm', 'n', 'd/d', 'f/n')]
+        lines += ['%s %s 30 100' % (word, names) for word, good in (('simulate', 'd'), ('crun', 'c')) for bad in 'flmn'
+                  for names in (bad + ' i', good + ' ' + bad)]
+        return without(READ_FAULT, *((line, run(program, line.split(), cwd=work)) for line in lines))
+
+
+def begun_through_fifo(program, words, work, name, pieces):
+    """A run whose file of this name is a FIFO into which these pieces are written."""
+    path = os.path.join(work, name)
+    os.mkfifo(path)
+    begun = subprocess.Popen([program] + words, cwd=work, stdin=subprocess.DEVNULL, stdout=subprocess.PIPE, stderr=subprocess.PIPE)
+    into = None
+    for _ in range(6000):
+        try:
+            into = os.open(path, os.O_WRONLY | os.O_NONBLOCK)
+            break
+        except OSError:  # not opened yet
+            if begun.poll() is not None:
+                break
+            time.sleep(0.001)
+    if into is not None:
+        os.set_blocking(into, True)
+        for piece in pieces:
+            os.write(into, piece)
+            time.sleep(0.002)
+        os.close(into)
+    out, err = begun.communicate(timeout=60)
+    os.remove(path)
+    return out, err, begun.returncode
+
+
+def fifo(program):
+    """A FIFO in the place of each file gives what comes through it, whole or cut off."""
+    wrong = []
+    with tempfile.TemporaryDirectory() as work:
+        due = {words[0]: out for words, out in meter(program, work)}
+        given = {name: text(work, name) for name in 'dic'}
+        for name in 'dic':
+            os.remove(os.path.join(work, name))
+        for word, name, other in (('simulate', 'd', 'i'), ('simulate', 'i', 'd'), ('crun', 'c', 'i'), ('crun', 'i', 'c')):
+            first, second = (name, other) if name in 'dc' else (other, name)
+            words = [word, first, second, '30', '100']
+            with open(os.path.join(work, other), 'wb') as file:
+                file.write(given[other])
+            middle = len(given[name]) // 2
+            whole = begun_through_fifo(program, words, work, name, [given[name][:1], given[name][1:middle], given[name][middle:]])
+            cut = begun_through_fifo(program, words, work, name, [given[name][:middle]])
+            os.remove(os.path.join(work, other))
+            end = given[name][:middle].rfind(b'\n') + 1
+            refused = {'d': b'refused 1 NotJson at -\n', 'i': b'refused 27 InputShape at -\n', 'c': b'refused 26 NotC at - %d\n' % end}[name]
+            if whole != (due[word], b'', 0) or cut != (b'', refused, 1):
+                wrong.append('%s, %s: %r, %r' % (word, name, whole, cut))
+    return '; '.join(wrong)[:800]
+
+
+def unreadable(program):
+    """Files and folders that the user may not read."""
+    nobody = 65534
+    as_nobody = {'preexec_fn': lambda: os.setuid(nobody)} if os.geteuid() == 0 else {}
+    with tempfile.TemporaryDirectory() as work:
+        copy = os.path.join(work, 'program')  # the program may lie where nobody else reads
+        shutil.copy(program, copy)
+        os.chmod(copy, 0o755)
+        os.chmod(work, 0o755)
+        given = meter(program, work)
+        for name in 'dic':
+            os.chmod(os.path.join(work, name), 0o644)
+        wrong = ['%s: %r' % (words[0], answer) for words, due in given for answer in [run(copy, words, cwd=work, **as_nobody)] if answer != (due, b'', 0)]
+        os.mkdir(os.path.join(work, 'f'))
+        shutil.copy(os.path.join(work, 'd'), os.path.join(work, 'f', 'd'))
+        for name in ('d', 'i', 'c', 'f'):
+            shutil.copy(os.path.join(work, name), os.path.join(work, 'open-' + name)) if name != 'f' else None
+            os.chmod(os.path.join(work, name), 0)
+        lines = ('check d', 'check f/d', 'simulate d i 30 100', 'simulate open-d i 30 100', 'crun c i 30 100', 'crun open-c i 30 100', 'ccode d')
+        wrong.append(without(READ_FAULT, *((line, run(copy, line.split(), cwd=work, **as_nobody)) for line in lines)))
+        os.chmod(os.path.join(work, 'f'), 0o755)
+    return '; '.join(filter(None, wrong))
+
+
+def cut_while_read(program):
+    """A file that is cut at some time while it is read: it is read whole, or as the front that was there; nothing else comes of it."""
+    whole, wrong = (b'ok 0 1 0 0\n', b'', 0), []
+    content = b' ' * (16777216 - 11) + b'{"objs":[]}'
+    with tempfile.TemporaryDirectory() as work:
+        path = os.path.join(work, 'd')
+        for turn in range(12):
+            with open(path, 'wb') as file:
+                file.write(content)
+            begun = subprocess.Popen([program, 'check', 'd'], cwd=work, stdin=subprocess.DEVNULL, stdout=subprocess.PIPE, stderr=subprocess.PIPE)
+            time.sleep(0.001 * turn)
+            os.truncate(path, turn * 1200000)
+            out, err = begun.communicate(timeout=60)
+            if (out, err, begun.returncode) not in (whole, (b'', b'refused 1 NotJson at -\n', 1)):
+                wrong.append('cut to %d bytes: %r, %r, %d' % (turn * 1200000, out, err, begun.returncode))
+    return '; '.join(wrong)
+
+
+def endless_files(program):
+    """Files without an end are refused by their length, each by its own limit; an empty one is read."""
+    with tempfile.TemporaryDirectory() as work:
+        meter(program, work)
+        wrong = [without((b'', ('refused %s\n' % due).encode(), 1), (line, run(program, line.split(), cwd=work)))
+                 for line, due in (('check /dev/zero', '29 FileTooLong at - 1 16777216'),
+                                   ('simulate d /dev/zero 30 100', '29 FileTooLong at - 2 16777216'),
+                                   ('crun /dev/zero i 30 100', '29 FileTooLong at - 1 67108864'),
+                                   ('crun c /dev/zero 30 100', '29 FileTooLong at - 2 16777216'),
+                                   ('check /dev/null', '1 NotJson at -'),
+                                   ('simulate d /dev/null 30 100', '27 InputShape at -'),
+                                   ('crun /dev/null i 30 100', '26 NotC at - 0'))]
+    return '; '.join(filter(None, wrong))
+
+
+def blank_files(program):
+    """Files of spaces alone, of the greatest length and one byte more."""
+    wrong = []
+    with tempfile.TemporaryDirectory() as work:
+        for size, due in ((16777216, b'refused 1 NotJson at -\n'), (16777217, b'refused 29 FileTooLong at - 1 16777216\n')):
+            with open(os.path.join(work, 'd'), 'wb') as file:
+                file.write(b' ' * size)
+            wrong.append(without((b'', due, 1), ('%d spaces' % size, run(program, ['check', 'd'], cwd=work))))
+    return '; '.join(filter(None, wrong))
+
+
+def names(program):
+    """Names of files: any text that the machine takes for a name is one, and a word that is no UTF-8 is no word of a command."""
+    wrong = []
+    with tempfile.TemporaryDirectory() as work:
+        meter(program, work)
+        due = text(HERE, 'check-meter', 'out')
+        for name in ('a b', ' ', "a'b\"c", '-', '--help', '--', '*', 'a\nb', 'größe', '名.json', 'a' * 255, './d', '../' + os.path.basename(work) + '/d', '%s%n'):
+            if '/' not in name:
+                shutil.copy(os.path.join(work, 'd'), os.path.join(work, name))
+            wrong.append(without((due, b'', 0), (name, run(program, ['check', name], cwd=work))))
+        for name in ('', 'a' * 256, 'a' * 5000, 'a/' * 2500, '-h', 'd/', 'd '):
+            wrong.append(without(READ_FAULT, (name[:20], run(program, ['check', name], cwd=work)),
+                                 (name[:20] + ' behind d', run(program, ['simulate', 'd', name, '30', '100'], cwd=work))))
+        for words in ([b'check', b'\xff'], [b'\xffcheck', b'd'], [b'simulate', b'd', b'i\xc3', b'30', b'100'], [b'simulate', b'd', b'i', b'30', b'1\x80']):
+            wrong.append(without(USAGE, (repr(words), run(program, words, cwd=work))))
+    return '; '.join(filter(None, wrong))
+
+
+def words(program):
+    """No word, each word alone, one word too many, 200 words and long ones: none is a command, but the one of a word alone."""
+    with tempfile.TemporaryDirectory() as work:
+        due = {words[0]: (words, out) for words, out in meter(program, work)}
+        lines = [[], [''], ['help'], ['--help'], ['--version'], ['x' * 100000], ['check'] * 200, [''] * 200, ['simulate', 'd', 'i', '30', '100'] * 40, ['d', 'check'],
+                 ['Check', 'd'], ['check ', 'd'], ['host', ''], ['simulate', 'd', 'i', '+30', '100'], ['simulate', 'd', 'i', '30', '1e2'], ['simulate', 'd', 'i', '', '100'],
+                 ['simulate', 'd', 'i', '4611686018427387905', '1'], ['simulate', 'd', 'i', '9' * 5000, '1'], ['crun', 'c', 'i', '-0', '1'], ['bulk', '4294967296', '1']]
+        lines += [[word] for word in due if word != 'host']
+        lines += [given[0] + ['x'] for given in due.values()]
+        wrong = without(USAGE, *((repr(line)[:60], run(program, line, cwd=work)) for line in lines))
+        return wrong or without((due['host'][1], b'', 0), ('host', run(program, ['host'], cwd=work)))
+
+
+def deepest():
+    """Files as deep as the rules allow: superblocks in 16 levels, a text of 127 levels, and C where calls are 64 deep, each below 16 statements, with an
+    expression that is 64 deep in the deepest. Beside them a long list of objects, which takes memory by its length."""
+    objs = [{'obj': 'Block', 'gui': 'CONST_m', 'model': {'out': [1], 'outtyp': [3], 'ipar': [7]}}]
+    for _ in range(15):
+        objs = [{'obj': 'Block', 'gui': 'SUPER_f', 'model': {'sim': 'super', 'rpar': {'objs': objs}}}]
+    head = text(HERE, 'crun-primes', 'c').decode().split('static')[0] + 'static int64_t v1;\n'
+    left, right = 'INT64_C(0)', 'INT64_C(0)'
+    for _ in range(63):
+        left, right = '(%s + INT64_C(1))' % left, '(INT64_C(1) + %s)' % right
+    begin, end = ['  ' * k + 'if (INT64_C(1)) {' for k in range(1, 16)], ['  ' * k + '}' for k in range(15, 0, -1)]
+    lines = []
+    for k in range(1, 65):
+        inside = 'v1 = %s;' % left if k == 1 else 'f%d();' % (k - 1)
+        lines += ['static void f%d(void) {' % k] + begin + ['  ' * 16 + inside] + end + ['}']
+    lines += ['void sci_main(void) {'] + begin + ['  ' * 16 + 'f64();'] + end
+    lines += ['  sci_val(INT64_C(1), INT64_C(1), INT64_C(1), v1);', '  v1 = %s;' % right, '  sci_val(INT64_C(1), INT64_C(1), INT64_C(2), v1);', '}']
+    return {'levels': json.dumps({'objs': objs}), 'brackets': '{"unread":%s%s,"objs":[]}' % ('[' * 126, ']' * 126),
+            'texts': json.dumps({'objs': [{'obj': 'Text'}] * 10000}), 'calls': head + '\n'.join(lines) + '\n', 'i': '[]'}
+
+
+DEEPEST = [(['check', 'levels'], b'ok 1 1 1 0\n'),
+           (['simulate', 'levels', 'i', '1', '1'], b'start\nval 1 1 1 7\nend empty\n'),
+           (['check', 'brackets'], b'ok 0 1 0 0\n'),
+           (['check', 'texts'], b'ok 0 1 0 0\n'),
+           (['crun', 'calls', 'i', '1', '1'], b'val 1 1 1 63\nval 1 1 2 63\n')]
+
+
+def limited(program, limits, due_at_last):
+    """What is wrong with the deepest files under each of these limits, which the shell sets: the whole answer, want of memory, or no run."""
+    wrong, wants = [], 0
+    with tempfile.TemporaryDirectory() as work:
+        for name, content in deepest().items():
+            with open(os.path.join(work, name), 'w') as file:
+                file.write(content)
+        for words, due in DEEPEST:
+            for limit in limits:
+                given = run('sh', ['-c', 'ulimit %s; exec "$0" "$@"' % limit, program] + words, cwd=work, env={'PATH': os.environ['PATH']})
+                want = given == (b'', b'out of memory\n', 5)
+                wants += want
+                no_run = given[2] not in range(9) and given[0] == b''
+                if given != (due, b'', 0) and (limit in due_at_last or not (want or no_run)):
+                    wrong.append('%s, %s: %r' % (words[0] + ' ' + words[1], limit, given))
+    return wrong, wants
+
+
+def little_memory(program):
+    """The deepest files in little memory: each answer is whole, or tells want of memory, which comes; with 64 MiB it is whole."""
+    wrong, wants = limited(program, ['-v %d' % size for size in range(512, 16384, 256)] + ['-v 65536', '-v unlimited'], ('-v 65536', '-v unlimited'))
+    return '; '.join(wrong[:3]) or ('' if wants else 'memory never lacked')
+
+
+def little_stack(program):
+    """The deepest files on small stacks: no answer is cut; with 1 MiB, an eighth of what is usual, each is whole."""
+    sizes = [16, 32, 48, 64, 96, 128, 192, 256, 384, 512, 768]
+    return '; '.join(limited(program, ['-s %d' % size for size in sizes] + ['-s 1024', '-s 8192'], ('-s 1024', '-s 8192'))[0][:3])
+
+
+STREAMS = [full_disk, a_file_with_room, closed_streams, reader_leaves, no_reader, slow_reader, terminal, no_files, fifo, unreadable, cut_while_read,
+           endless_files, blank_files, names, words, little_memory, little_stack]
