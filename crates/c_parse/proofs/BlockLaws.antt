@@ -8,17 +8,14 @@ use Rattle.c_ast.specs.Syntax.{Exp, Place, Asked, Told, Statement, set, ask, cho
 use Rattle.c_ast.specs.Spelling.{Line, Row, at_depth, header_line, scalar_line, array_line, function_line, main_line, set_line, ask_line, if_line, else_line, for_line, call_line, tell_line, close_line, statement_rows, block_rows, else_rows}
 use Rattle.c_ast.specs.Bounds.{IsName, IsExp, IsPlace, IsAsked, IsTold, IsBound, StatementFits, BlockFits}
 use Rattle.c_ast.proofs.Fits.{some_room, choice_parts, loop_part}
-use Rattle.c_parse.specs.Reading.{◌>>=◌}
+use Rattle.sci_text.specs.Reading.{◌>>=◌}
+use Rattle.sci_text.proofs.Parts.{bind_some, guarded, some_is}
 use Rattle.c_parse.specs.LineBounds.{IsLine}
 use Rattle.c_parse.specs.Machine.{Opened, first, second, turn, Open, bottom, inner, append, one, depth_of, outer_depth, add, closes, close, otherwise, step_line, expected_depth, is_close, has_room, step_row}
-use Rattle.c_parse.proofs.Parts.{bind_some, guarded}
 
 abbrev pub steps : List Row → Open → Option Open
 steps [] o = Some o
 steps (r ∷ rs) o = step_row r o >>= steps rs
-
-some_is : {A : Type 0} {x y : A} → Some x ≡ Some y → x ≡ y
-some_is e = cc
 
 append-done : (a : Block) → append a done ≡ a
 append-done done = refl

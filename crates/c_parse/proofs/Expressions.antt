@@ -11,10 +11,13 @@ use Rattle.c_ast.specs.declared.Op.{Op}
 use Rattle.c_ast.specs.declared.Op.TheVariants.{Add, Sub, Mul, Div, Rem, Lt, Le, Gt, Ge, Eq, Ne, And, Or}
 use Rattle.c_ast.specs.Syntax.{Exp, num, var, element, neg, not, bin}
 use Rattle.c_ast.specs.Spelling.{name_text, op_text, op_open, is_arithmetic, exp_text}
-use Rattle.c_parse.specs.Reading.{◌>>=◌, or_else, after, closed, number_at, name_at, arithmetic, comparisons, family, op_at, Reader, sides_at, cast_at, bracket_at, place_at, literal_at, level_at, exp_at, ends}
+use Rattle.sci_text.specs.Reading.{◌>>=◌, or_else, after}
+use Rattle.sci_text.specs.Numbers.{number_at}
+use Rattle.sci_text.proofs.Parts.{bind_some, else_cases, chosen, guarded, after_takes, after_again, some_is}
+use Rattle.sci_text.proofs.Numbers.{own, no_digit, number_again, number_takes}
+use Rattle.c_parse.specs.Reading.{closed, name_at, arithmetic, comparisons, family, op_at, Reader, sides_at, cast_at, bracket_at, place_at, literal_at, level_at, exp_at, ends}
 use Rattle.c_ast.specs.Bounds.{is_letter, IsName, IsNumber, Fits}
-use Rattle.c_parse.proofs.Parts.{bind_some, else_cases, chosen, guarded, after_takes, after_again, closed_takes}
-use Rattle.c_parse.proofs.Numbers.{own, no_digit, number_again, number_takes}
+use Rattle.c_parse.proofs.Parts.{closed_takes}
 
 -- what a reader gives of this text, and what must follow
 abbrev Again : Reader → List ℕ → Exp → List ℕ → Type 0
@@ -175,9 +178,6 @@ exp_again (bin op a b) (suc d) rest f n =
 -- What a reader gives is spelled so, up to the rest, and fits.
 abbrev pub Takes : Reader → (Exp → Type 0) → Type 0
 Takes read Fit = (bytes : List ℕ) (y : Exp × List ℕ) → read bytes ≡ Some y → (bytes ≡ exp_text y.0 ++ y.1) × Fit y.0
-
-pub some_is : {A : Type 0} {x y : A} → Some x ≡ Some y → x ≡ y
-some_is e = cc
 
 -- the value under another name
 renamed : (Fit : Exp → Type 0) (bytes rest : List ℕ) (x y : Exp) → x ≡ y → bytes ≡ exp_text x ++ rest → Fit x → (bytes ≡ exp_text y ++ rest) × Fit y

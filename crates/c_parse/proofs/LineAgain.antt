@@ -11,11 +11,13 @@ use Rattle.c_ast.specs.declared.Op.{Op}
 use Rattle.c_ast.specs.Syntax.{Exp, num, var, element, neg, not, bin, Place, scalar, cell, Asked, more, input, until, limit, Told, start, event, value, finish, stop}
 use Rattle.c_ast.specs.Spelling.{name_text, exp_text, op_open, op_text, is_arithmetic, place_text, asked_text, told_text, bound_text, line_text, Line, row_of, header_line, scalar_line, array_line, function_line, main_line, set_line, ask_line, if_line, else_line, for_line, call_line, tell_line, close_line}
 use Rattle.c_ast.specs.Bounds.{is_letter, IsName, IsExp, IsPlace, IsAsked, IsTold, IsBound, Fits}
-use Rattle.c_parse.specs.Reading.{◌>>=◌, or_else, after, closed, number_at, name_at, exp_at, ends}
-use Rattle.c_parse.specs.LineReading.{whole, ending, full_at, next_at, target_at, asked_at, assigned_at, named_at, three_at, four_at, told_at, tell_at, bound_at, same_at, counted_at, for_at, size_at, declared_at, static_at, closing_at, if_at, line_at, blanks, unindented, row_at}
+use Rattle.sci_text.specs.Reading.{◌>>=◌, or_else, after, ended}
+use Rattle.sci_text.specs.Numbers.{number_at}
+use Rattle.sci_text.proofs.Parts.{after_again}
+use Rattle.sci_text.proofs.Numbers.{own, no_digit, number_again}
+use Rattle.c_parse.specs.Reading.{closed, name_at, exp_at, ends}
+use Rattle.c_parse.specs.LineReading.{ending, full_at, next_at, target_at, asked_at, assigned_at, named_at, three_at, four_at, told_at, tell_at, bound_at, same_at, counted_at, for_at, size_at, declared_at, static_at, closing_at, if_at, line_at, blanks, unindented, row_at}
 use Rattle.c_parse.specs.LineBounds.{IsLine, row_bytes}
-use Rattle.c_parse.proofs.Parts.{after_again}
-use Rattle.c_parse.proofs.Numbers.{own, no_digit, number_again}
 use Rattle.c_parse.proofs.Expressions.{no_digit_from, no_bracket, letter_range, not_digit, name_again, exp_again}
 
 skip : {A B : Type 0} (o : Option A) (f : A → B) (z : B) → o ≡ None → or_else o f z ≡ z
@@ -215,7 +217,7 @@ unfolding line_at
 line_named x rest f =
     let b = name_text x ++ rest in
     let r6 = named_at b in
-    let r5 = or_else (after (codes "void sci_main(void) {") b) (whole main_line) r6 in
+    let r5 = or_else (after (codes "void sci_main(void) {") b) (ended main_line) r6 in
     let r4 = or_else (after (codes "static ") b) static_at r5 in
     let r3 = or_else (after (codes "sci_") b) tell_at r4 in
     let r2 = or_else (after (codes "for (") b) for_at r3 in
@@ -225,7 +227,7 @@ line_named x rest f =
     ∙ skip (after (codes "for (") b) for_at r3 (name_not 102 111 (codes "r (") x rest refl f)
     ∙ skip (after (codes "sci_") b) tell_at r4 (name_not 115 99 (codes "i_") x rest refl f)
     ∙ skip (after (codes "static ") b) static_at r5 (name_not 115 116 (codes "atic ") x rest refl f)
-    ∙ skip (after (codes "void sci_main(void) {") b) (whole main_line) r6 (name_not 118 111 (codes "id sci_main(void) {") x rest refl f)
+    ∙ skip (after (codes "void sci_main(void) {") b) (ended main_line) r6 (name_not 118 111 (codes "id sci_main(void) {") x rest refl f)
 
 place_name : (p : Place) → IsPlace p → (x : Name) × (rest : List ℕ) × (place_text p ≡ name_text x ++ rest) × IsName x
 place_name (scalar x) f = (x, [], sym (append-nil (name_text x)), f)

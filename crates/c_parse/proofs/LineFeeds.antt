@@ -1,12 +1,7 @@
 -- No line has a LF in it.
-use Rattle.std.proofs.Common.{◌≡◌, ℕ, zero, suc, ◌*◌, ◌^◌, ◌<◌, ℤ, pos, negsuc, List, [], ◌∷◌, ◌++◌, Bool, true, false, refl, sym, ap, ◌∙◌, arith}
-use Rattle.std.specs.Prelude.{nat_eq, ◌||◌, codes, decimal, replicate, if◌then◌else◌}
-use Rattle.std.specs.Char.{is_ascii_digit}
-use Rattle.std.specs.Str.{all_ascii_digits}
-use Rattle.std.specs.List.{list_any}
-use Rattle.std.proofs.lemmas.Bool.{and_parts, ne_eqb, eqb-true, leb-true}
-use Rattle.std.proofs.lemmas.List.Folds.{list_any-append}
-use Rattle.std.proofs.lemmas.Fmt.{digits_decimal}
+use Rattle.std.proofs.Common.{◌≡◌, ℕ, zero, suc, ◌*◌, ◌<◌, ℤ, pos, negsuc, List, ◌++◌, Bool, true, false, refl, sym, ap, ◌∙◌, arith}
+use Rattle.std.specs.Prelude.{◌||◌, codes, decimal, replicate, if◌then◌else◌}
+use Rattle.std.proofs.lemmas.Bool.{ne_eqb}
 use Rattle.c_ast.specs.declared.Name.{Name}
 use Rattle.c_ast.specs.declared.Bound.{Bound}
 use Rattle.c_ast.specs.declared.Bound.TheVariants as bounds
@@ -16,27 +11,9 @@ use Rattle.c_ast.specs.Syntax.{Exp, num, var, element, neg, not, bin, Place, sca
 use Rattle.c_ast.specs.Spelling.{name_text, exp_text, op_open, op_text, is_arithmetic, place_text, asked_text, told_text, bound_text, line_text, Line, Row, header_line, scalar_line, array_line, function_line, main_line, set_line, ask_line, if_line, else_line, for_line, call_line, tell_line, close_line}
 use Rattle.c_ast.specs.Bounds.{is_letter, IsName, IsNumber, IsExp, IsPlace, IsAsked, IsTold, IsBound, Fits}
 use Rattle.c_parse.specs.LineBounds.{IsLine, row_bytes}
-use Rattle.c_parse.specs.Blame.{has_lf}
-use Rattle.c_parse.proofs.Numbers.{own}
+use Rattle.sci_text.specs.Lines.{has_lf}
+use Rattle.sci_text.proofs.Clear.{both_clear, around, decimal_clear}
 use Rattle.c_parse.proofs.Expressions.{letter_range}
-
-pub both_clear : (a b : List ℕ) → has_lf a ≡ false → has_lf b ≡ false → has_lf (a ++ b) ≡ false
-both_clear a b e f = list_any-append (nat_eq 10) a b ∙ ap (λ (x : Bool). x || has_lf b) e ∙ f
-
-digit_clear : (c : ℕ) → is_ascii_digit c ≡ true → nat_eq 10 c ≡ false
-digit_clear c e = ne_eqb 10 c (λ h. let k : is_ascii_digit 10 ≡ true = ap is_ascii_digit h ∙ e in absurd (wrong k))
-  where
-    wrong : is_ascii_digit 10 ≡ true → ⊥
-    wrong k = cc
-
-digits_clear : (ds : List ℕ) → all_ascii_digits ds ≡ true → has_lf ds ≡ false
-digits_clear [] e = refl
-digits_clear (c ∷ ds) e =
-    let p = and_parts (is_ascii_digit c) (all_ascii_digits ds) e in
-    ap (λ (x : Bool). x || has_lf ds) (digit_clear c p.0) ∙ digits_clear ds p.1
-
-decimal_clear : (n : ℕ) → n < 2 ^ 64 → has_lf (decimal n) ≡ false
-decimal_clear n h = digits_clear (decimal n) (digits_decimal own n h)
 
 name_clear : (x : Name) → IsName x → has_lf (name_text x) ≡ false
 name_clear x f =
@@ -64,10 +41,6 @@ open_clear op = by_kind (is_arithmetic op)
     by_kind : (k : Bool) → has_lf (if k then codes "(" else codes "(int64_t)(") ≡ false
     by_kind true = refl
     by_kind false = refl
-
--- between two texts without a LF
-around : (a t b : List ℕ) → has_lf a ≡ false → has_lf t ≡ false → has_lf b ≡ false → has_lf (a ++ (t ++ b)) ≡ false
-around a t b e f g = both_clear a (t ++ b) e (both_clear t b f g)
 
 fits_clear : (e : Exp) (d : ℕ) → Fits d e → has_lf (exp_text e) ≡ false
 fits_clear e zero f = absurd f

@@ -9,21 +9,20 @@ use Rattle.c_ast.specs.Syntax.{Exp, Place, scalar, cell, Asked, more, input, unt
 use Rattle.c_ast.specs.Spelling.{name_text, exp_text, place_text, asked_text, told_text, bound_text, line_text, Line, Row, row_of, header_line, scalar_line, array_line, function_line, main_line, set_line, ask_line, if_line, else_line, for_line, call_line, tell_line, close_line}
 use Rattle.c_ast.specs.Rules.{same_name}
 use Rattle.c_ast.specs.Bounds.{IsName, IsExp, IsPlace, IsAsked, IsTold, IsBound, Fits}
-use Rattle.c_parse.specs.Reading.{◌>>=◌, or_else, after, closed, number_at, name_at, exp_at}
-use Rattle.c_parse.specs.LineReading.{whole, ending, full_at, next_at, target_at, asked_at, assigned_at, named_at, three_at, four_at, told_at, tell_at, bound_at, same_at, counted_at, for_at, size_at, declared_at, static_at, closing_at, if_at, line_at, blanks, unindented, row_at}
+use Rattle.sci_text.specs.Reading.{◌>>=◌, or_else, after, ended}
+use Rattle.sci_text.specs.Numbers.{number_at}
+use Rattle.sci_text.proofs.Parts.{bind_some, else_cases, guarded, after_takes, some_is, ended_takes}
+use Rattle.sci_text.proofs.Numbers.{number_takes}
+use Rattle.c_parse.specs.Reading.{closed, name_at, exp_at}
+use Rattle.c_parse.specs.LineReading.{ending, full_at, next_at, target_at, asked_at, assigned_at, named_at, three_at, four_at, told_at, tell_at, bound_at, same_at, counted_at, for_at, size_at, declared_at, static_at, closing_at, if_at, line_at, blanks, unindented, row_at}
 use Rattle.c_parse.specs.LineBounds.{IsLine, row_bytes}
-use Rattle.c_parse.proofs.Parts.{bind_some, else_cases, guarded, after_takes, closed_takes}
-use Rattle.c_parse.proofs.Numbers.{number_takes}
-use Rattle.c_parse.proofs.Expressions.{some_is, name_takes, exp_takes}
-
-whole_takes : {A : Type 0} (x : A) (bytes : List ℕ) (y : A) → whole x bytes ≡ Some y → (bytes ≡ []) × (x ≡ y)
-whole_takes x [] y e = (refl, some_is e)
-whole_takes x (c ∷ cs) y e = absurd cc
+use Rattle.c_parse.proofs.Parts.{closed_takes}
+use Rattle.c_parse.proofs.Expressions.{name_takes, exp_takes}
 
 ending_takes : {A : Type 0} (x : A) (text bytes : List ℕ) (y : A) → ending x text bytes ≡ Some y → (bytes ≡ text) × (x ≡ y)
 ending_takes x text bytes y e =
-    let b = bind_some (after text bytes) (whole x) y e in
-    let w = whole_takes x b.0 y b.2 in
+    let b = bind_some (after text bytes) (ended x) y e in
+    let w = ended_takes x b.0 y b.2 in
     (after_takes text bytes b.0 b.1 ∙ ap (λ (l : List ℕ). text ++ l) w.0 ∙ append-nil text, w.1)
 
 full_takes : (bytes : List ℕ) (y : Exp × List ℕ) → full_at bytes ≡ Some y → (bytes ≡ exp_text y.0 ++ y.1) × IsExp y.0
@@ -116,7 +115,7 @@ named_takes bytes l e =
     let t = name_takes bytes x.0 x.1 in
     ⊎_elim
     (λ w.
-    let s = whole_takes (call_line x.0.0) w.0 l w.2 in
+    let s = ended_takes (call_line x.0.0) w.0 l w.2 in
     subst (Spells bytes) s.1
     (t.0 ∙ ap (λ (m : List ℕ). name_text x.0.0 ++ m) (after_takes (codes "();") x.0.1 w.0 w.1 ∙ ap (λ (m : List ℕ). codes "();" ++ m) s.0), t.1))
     (λ w.
@@ -125,7 +124,7 @@ named_takes bytes l e =
     let u = target_takes bytes p.0 p.1 in
     let s = assigned_takes p.0.0 q.0 l u.1 q.2 in
     (u.0 ∙ ap (λ (m : List ℕ). place_text p.0.0 ++ m) (after_takes (codes " = ") p.0.1 q.0 q.1) ∙ s.0, s.1))
-    (else_cases (after (codes "();") x.0.1) (whole (call_line x.0.0)) (target_at bytes >>= λ p. after (codes " = ") p.1 >>= assigned_at p.0) (Some l) x.2)
+    (else_cases (after (codes "();") x.0.1) (ended (call_line x.0.0)) (target_at bytes >>= λ p. after (codes " = ") p.1 >>= assigned_at p.0) (Some l) x.2)
 
 abbrev Tells : List ℕ → Told × List ℕ → Type 0
 Tells bytes y = (codes "sci_" ++ bytes ≡ told_text y.0 ++ y.1) × IsTold y.0
@@ -295,9 +294,9 @@ closing_takes : (bytes : List ℕ) (l : Line) → closing_at bytes ≡ Some l �
 unfolding closing_at
 closing_takes bytes l e =
     ⊎_elim
-    (λ w. let s = whole_takes else_line w.0 l w.2 in subst (Spells (codes "}" ++ bytes)) s.1 (ap (λ (m : List ℕ). codes "}" ++ m) (after_takes (codes " else {") bytes w.0 w.1 ∙ ap (λ (m : List ℕ). codes " else {" ++ m) s.0), tt))
-    (λ w. let s = whole_takes close_line bytes l w.1 in subst (Spells (codes "}" ++ bytes)) s.1 (ap (λ (m : List ℕ). codes "}" ++ m) s.0, tt))
-    (else_cases (after (codes " else {") bytes) (whole else_line) (whole close_line bytes) (Some l) e)
+    (λ w. let s = ended_takes else_line w.0 l w.2 in subst (Spells (codes "}" ++ bytes)) s.1 (ap (λ (m : List ℕ). codes "}" ++ m) (after_takes (codes " else {") bytes w.0 w.1 ∙ ap (λ (m : List ℕ). codes " else {" ++ m) s.0), tt))
+    (λ w. let s = ended_takes close_line bytes l w.1 in subst (Spells (codes "}" ++ bytes)) s.1 (ap (λ (m : List ℕ). codes "}" ++ m) s.0, tt))
+    (else_cases (after (codes " else {") bytes) (ended else_line) (ended close_line bytes) (Some l) e)
 
 if_takes : (bytes : List ℕ) (l : Line) → if_at bytes ≡ Some l → Spells (codes "if (" ++ bytes) l
 unfolding if_at
@@ -325,9 +324,9 @@ line_takes bytes l e =
     (λ u. ⊎_elim
     (λ w. begun (codes "static ") bytes w.0 l w.1 (static_takes w.0 l w.2))
     (λ u. ⊎_elim
-    (λ w. let s = whole_takes main_line w.0 l w.2 in subst (Spells bytes) s.1 (after_takes (codes "void sci_main(void) {") bytes w.0 w.1 ∙ ap (λ (m : List ℕ). codes "void sci_main(void) {" ++ m) s.0, tt))
+    (λ w. let s = ended_takes main_line w.0 l w.2 in subst (Spells bytes) s.1 (after_takes (codes "void sci_main(void) {") bytes w.0 w.1 ∙ ap (λ (m : List ℕ). codes "void sci_main(void) {" ++ m) s.0, tt))
     (λ w. named_takes bytes l w.1)
-    (else_cases (after (codes "void sci_main(void) {") bytes) (whole main_line) (named_at bytes) (Some l) u.1))
+    (else_cases (after (codes "void sci_main(void) {") bytes) (ended main_line) (named_at bytes) (Some l) u.1))
     (else_cases (after (codes "static ") bytes) static_at _ (Some l) u.1))
     (else_cases (after (codes "sci_") bytes) tell_at _ (Some l) u.1))
     (else_cases (after (codes "for (") bytes) for_at _ (Some l) u.1))

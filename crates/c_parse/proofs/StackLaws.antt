@@ -9,11 +9,11 @@ use Rattle.c_ast.specs.declared.Stmt.{Stmt, If, For}
 use Rattle.c_ast.specs.Syntax.{Statement, choice, loop, Block}
 use Rattle.c_ast.specs.View.{exp_of, statement_of, statements_of}
 use Rattle.c_ast.proofs.Views.{choice_is, loop_is}
-use Rattle.c_parse.specs.declared.stop.Stop.{Stop}
+use Rattle.sci_text.specs.declared.stop.Stop.{Stop}
 use Rattle.c_parse.specs.declared.machine.Head.{Head}
 use Rattle.c_parse.specs.declared.machine.Head.TheVariants as heads
 use Rattle.c_parse.specs.declared.machine.Stack.{Stack}
-use Rattle.c_parse.specs.Reading.{Gives}
+use Rattle.sci_text.specs.Stops.{Gives}
 use Rattle.c_parse.specs.Machine.{Opened, Open, add, closes}
 use Rattle.c_parse.specs.MachineView.{opened_of, open_of}
 use Rattle.c_parse.proofs.MemoryLaws.{closes_second, closes_none}

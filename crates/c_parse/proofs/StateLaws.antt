@@ -10,13 +10,13 @@ use Rattle.c_ast.specs.declared.Name.{Name}
 use Rattle.c_ast.specs.Syntax.{Block, done, next, Declared, Function, Whole}
 use Rattle.c_ast.specs.Spelling.{Line, Row, row_of, row_text, rows_text, at_depth, line_text, header_line, scalar_line, array_line, function_line, main_line, set_line, ask_line, if_line, else_line, for_line, call_line, tell_line, close_line, block_rows, declared_line, declared_row, function_rows, main_rows, spelling}
 use Rattle.c_ast.specs.Bounds.{IsName, IsDeclared, IsFunction, IsBody, IsWhole, BlockFits}
-use Rattle.c_parse.specs.Reading.{◌>>=◌, after}
+use Rattle.sci_text.specs.Reading.{◌>>=◌, after}
+use Rattle.sci_text.specs.Lines.{with_lf}
+use Rattle.sci_text.proofs.Parts.{bind_some, guarded, chosen, after_takes, some_is}
 use Rattle.c_parse.specs.LineReading.{row_at}
 use Rattle.c_parse.specs.LineBounds.{IsLine, row_bytes}
 use Rattle.c_parse.specs.Machine.{Open, bottom, inner, depth_of, is_close, step_row, State, heading, outside, body, over, header_text, begun, declares, step_outside, ends_body, is_end, body_of, step_body, step, pass}
-use Rattle.c_parse.specs.Blame.{IsFront, with_lf, behind_rows}
-use Rattle.c_parse.proofs.Parts.{bind_some, guarded, chosen, after_takes}
-use Rattle.c_parse.proofs.Expressions.{some_is}
+use Rattle.c_parse.specs.Blame.{IsFront, behind_rows}
 use Rattle.c_parse.proofs.LineTakes.{row_takes}
 use Rattle.c_parse.proofs.BlockLaws.{steps, so_far, row_rows, OpenFits, row_fits, open_ends}
 

@@ -1,23 +1,23 @@
 -- A program's text leads to the program, line by line, and what begins a program's text passes.
 use Rattle.std.proofs.Common.{◌≡◌, ℕ, zero, suc, ◌+◌, ◌-◌, ◌*◌, ◌<◌, ◌≤◌, List, [], ◌∷◌, ◌++◌, map, length, Option, Some, None, Bool, true, false, cond, refl, sym, ap, ◌∙◌, subst, arith, append_assoc, append-nil}
-use Rattle.std.specs.Prelude.{nat_eq, nat_lt, ◌&&◌, ◌||◌, All, codes}
+use Rattle.std.specs.Prelude.{nat_eq, nat_lt, ◌&&◌, All, codes}
 use Rattle.std.specs.List.{flat_map, list_any}
-use Rattle.std.proofs.lemmas.Bool.{cond-true, cond-false, eq-eqb, eqb-true, eqb-false, and_parts}
+use Rattle.std.proofs.lemmas.Bool.{cond-true, cond-false, eq-eqb, eqb-true, and_parts}
 use Rattle.std.proofs.lemmas.List.{map-append}
 use Rattle.std.proofs.lemmas.List.Folds.{list_any-append}
-use Rattle.std.proofs.lemmas.Grind.{flat_map-append}
 use Rattle.std.proofs.lemmas.List.Elements.{All-head, All-tail}
 use Rattle.c_ast.specs.declared.Name.{Name}
 use Rattle.c_ast.specs.Syntax.{Statement, set, ask, choice, loop, call, tell, Block, done, next, Declared, Function, Whole}
 use Rattle.c_ast.specs.Spelling.{Line, Row, row_of, row_text, rows_text, at_depth, header_line, scalar_line, array_line, function_line, main_line, set_line, ask_line, if_line, else_line, for_line, call_line, tell_line, close_line, statement_rows, block_rows, else_rows, declared_line, declared_row, function_rows, main_rows, header_lines, spelling}
 use Rattle.c_ast.specs.Bounds.{IsName, IsSize, IsDeclared, IsFunction, IsBody, IsWhole, StatementFits, BlockFits}
-use Rattle.c_parse.specs.Reading.{◌>>=◌, after}
+use Rattle.sci_text.specs.Reading.{◌>>=◌, after}
+use Rattle.sci_text.specs.Lines.{has_lf, with_lf, joined, AllClear}
+use Rattle.sci_text.proofs.Parts.{bind_some, guarded, some_is}
+use Rattle.sci_text.proofs.Splits.{joined-append, joined_push, clear_append, split_lines, no_line, through-append, through_front}
 use Rattle.c_parse.specs.LineReading.{row_at}
 use Rattle.c_parse.specs.LineBounds.{IsLine, row_bytes}
 use Rattle.c_parse.specs.Machine.{Open, bottom, inner, expected_depth, is_close, step_row, State, heading, outside, body, over, header_text, outset, begun, step_outside, ends_body, is_end, body_of, step_body, step, pass, passes}
-use Rattle.c_parse.specs.Blame.{Spells, IsFront, has_lf, with_lf, behind_rows, joined, AllClear, Reached}
-use Rattle.c_parse.proofs.Parts.{bind_some, guarded}
-use Rattle.c_parse.proofs.Expressions.{some_is}
+use Rattle.c_parse.specs.Blame.{Spells, IsFront, behind_rows, Reached}
 use Rattle.c_parse.proofs.LineAgain.{row_again}
 use Rattle.c_parse.proofs.LineFeeds.{row_clear}
 use Rattle.c_parse.proofs.BlockLaws.{steps, body_steps}
@@ -156,19 +156,6 @@ passes_runs (r ∷ rs) s t b f g e =
     let v = step_moved r s m.0 f g.0 m.1 in
     ap (λ (q : Option State). q >>= passes (map row_bytes rs)) (pass_row r s b g.0 ∙ m.1) ∙ passes_runs rs m.0 t v.behind v.fits g.1 m.2
 
-pub passes-append : (a b : List (List ℕ)) (s t : State) → passes a s ≡ Some t → passes (a ++ b) s ≡ passes b t
-passes-append [] b s t e = ap (λ (q : Option State). q >>= passes b) e
-passes-append (l ∷ a) b s t e =
-    let m = bind_some (pass l s) (passes a) t e in
-    ap (λ (q : Option State). q >>= passes (a ++ b)) m.1 ∙ passes-append a b m.0 t m.2
-
-passes_front : (a b : List (List ℕ)) (s t : State) → passes (a ++ b) s ≡ Some t → (u : State) × (passes a s ≡ Some u)
-passes_front [] b s t e = (s, refl)
-passes_front (l ∷ a) b s t e =
-    let m = bind_some (pass l s) (passes (a ++ b)) t e in
-    let i = passes_front a b m.0 t m.2 in
-    (i.0, ap (λ (q : Option State). q >>= passes a) m.1 ∙ i.1)
-
 header_passes : passes header_lines outset ≡ Some (outside [] [])
 unfolding header_text
 header_passes = refl
@@ -182,15 +169,12 @@ fits_nothing = (λ i d h. absurd (omega (arith, h)), λ i d h. absurd (omega (ar
 
 pub program_passes : (p : Whole) → IsWhole p → passes (lines_of p) outset ≡ Some (over p)
 program_passes p f =
-    passes-append header_lines (map row_bytes (behind_rows p)) outset (outside [] []) header_passes
+    through-append pass header_lines (map row_bytes (behind_rows p)) outset (outside [] []) header_passes
     ∙ passes_runs (behind_rows p) (outside [] []) (over p) tt fits_nothing (behind_lines p f) (behind_run p f)
 
 rows_joined : (rs : List Row) → rows_text rs ≡ joined (map row_bytes rs)
 rows_joined [] = refl
 rows_joined (r ∷ rs) = ap (λ (l : List ℕ). l ++ rows_text rs) (row_text_is r) ∙ ap (λ (l : List ℕ). with_lf (row_bytes r) ++ l) (rows_joined rs)
-
-pub joined-append : (a b : List (List ℕ)) → joined (a ++ b) ≡ joined a ++ joined b
-joined-append a b = flat_map-append with_lf a b
 
 header_joined : header_text ≡ joined header_lines
 unfolding header_text
@@ -200,10 +184,6 @@ pub spelling_joined : (p : Whole) → spelling p ≡ joined (lines_of p)
 spelling_joined p =
     spelling_is p ∙ ap (λ (h : List ℕ). h ++ rows_text (behind_rows p)) header_joined ∙ ap (λ (l : List ℕ). joined header_lines ++ l) (rows_joined (behind_rows p)) ∙ sym (joined-append header_lines (map row_bytes (behind_rows p)))
 
-pub clear_append : (a b : List (List ℕ)) → AllClear a → AllClear b → AllClear (a ++ b)
-clear_append [] b f g = g
-clear_append (l ∷ a) b f g = (f.0, clear_append a b f.1 g)
-
 rows_clear : (rs : List Row) → AllLines rs → AllClear (map row_bytes rs)
 rows_clear [] f = tt
 rows_clear (r ∷ rs) f = (row_clear r f.0, rows_clear rs f.1)
@@ -211,46 +191,8 @@ rows_clear (r ∷ rs) f = (row_clear r f.0, rows_clear rs f.1)
 header_clear : AllClear header_lines
 header_clear = (refl, (refl, (refl, (refl, (refl, (refl, (refl, (refl, (refl, (refl, tt))))))))))
 
-lines_clear : (p : Whole) → IsWhole p → AllClear (lines_of p)
+pub lines_clear : (p : Whole) → IsWhole p → AllClear (lines_of p)
 lines_clear p f = clear_append header_lines (map row_bytes (behind_rows p)) header_clear (rows_clear (behind_rows p) (behind_lines p f))
-
-or_parts : (a b : Bool) → (a || b) ≡ false → (a ≡ false) × (b ≡ false)
-or_parts true b e = absurd cc
-or_parts false b e = (refl, e)
-
--- the first line of a text is one
-first_line : (a b x y : List ℕ) → has_lf a ≡ false → has_lf b ≡ false → with_lf a ++ x ≡ with_lf b ++ y → (a ≡ b) × (x ≡ y)
-first_line [] [] x y e f h = (refl, cc)
-first_line [] (c ∷ b) x y e f h = let p = or_parts (nat_eq 10 c) (has_lf b) f in let same : 10 ≡ c = cc in absurd (eqb-false 10 c p.0 same)
-first_line (c ∷ a) [] x y e f h = let p = or_parts (nat_eq 10 c) (has_lf a) e in let same : 10 ≡ c = cc in absurd (eqb-false 10 c p.0 same)
-first_line (c ∷ a) (d ∷ b) x y e f h =
-    let p = or_parts (nat_eq 10 c) (has_lf a) e in
-    let q = or_parts (nat_eq 10 d) (has_lf b) f in
-    let heads : c ≡ d = cc in
-    let tails : with_lf a ++ x ≡ with_lf b ++ y = cc in
-    let i = first_line a b x y p.1 q.1 tails in
-    let is = i.0 in
-    (cc, i.1)
-
-line_has_lf : (a x : List ℕ) → has_lf (with_lf a ++ x) ≡ true
-line_has_lf [] x = refl
-line_has_lf (c ∷ a) x = or_true (nat_eq 10 c) (has_lf (with_lf a ++ x)) (line_has_lf a x)
-  where
-    or_true : (a b : Bool) → b ≡ true → (a || b) ≡ true
-    or_true true b e = refl
-    or_true false b e = e
-
--- lines at the beginning of a text are its first lines
-split_lines : (ls ms : List (List ℕ)) (more : List ℕ) → AllClear ls → AllClear ms → joined ms ≡ joined ls ++ more → (ks : List (List ℕ)) × (ms ≡ ls ++ ks) × (joined ks ≡ more)
-split_lines [] ms more f g e = (ms, refl, e)
-split_lines (l ∷ ls) [] more f g e = let h = line_has_lf l (joined ls ++ more) in let k : has_lf [] ≡ true = ap has_lf (e ∙ append_assoc (with_lf l) (joined ls) more) ∙ h in absurd (no_lf k)
-  where
-    no_lf : has_lf [] ≡ true → ⊥
-    no_lf k = cc
-split_lines (l ∷ ls) (m ∷ ms) more f g e =
-    let s = first_line m l (joined ms) (joined ls ++ more) g.0 f.0 (e ∙ append_assoc (with_lf l) (joined ls) more) in
-    let i = split_lines ls ms more f.1 g.1 s.1 in
-    (i.0, ap (λ (h : List ℕ). h ∷ ms) s.0 ∙ ap (λ (t : List (List ℕ)). l ∷ t) i.1, i.2)
 
 pub reached_none : Reached [] outset
 reached_none = record { lines = []; split = refl; clear = tt; ran = refl }
@@ -258,9 +200,9 @@ reached_none = record { lines = []; split = refl; clear = tt; ran = refl }
 pub reached_more : (text line : List ℕ) (s u : State) → Reached text s → has_lf line ≡ false → pass line s ≡ Some u → Reached (text ++ with_lf line) u
 reached_more text line s u r c e = record {
   lines = r.lines ++ line ∷ [];
-  split = ap (λ (t : List ℕ). t ++ with_lf line) r.split ∙ ap (λ (t : List ℕ). joined r.lines ++ t) (sym (append-nil (with_lf line))) ∙ sym (joined-append r.lines (line ∷ []));
+  split = ap (λ (t : List ℕ). t ++ with_lf line) r.split ∙ sym (joined_push r.lines line);
   clear = clear_append r.lines (line ∷ []) r.clear (c, tt);
-  ran = passes-append r.lines (line ∷ []) outset s r.ran ∙ ap (λ (q : Option State). q >>= passes []) e;
+  ran = through-append pass r.lines (line ∷ []) outset s r.ran ∙ ap (λ (q : Option State). q >>= passes []) e;
 }
 
 led_passes : (ls : List (List ℕ)) (t : List ℕ) (s u : State) → Led t s → StateFits s → passes ls s ≡ Some u → Led (t ++ joined ls) u × StateFits u
@@ -287,11 +229,11 @@ pub stops_there : (text line : List ℕ) (s : State) → Reached text s → has_
 stops_there text line s r c e f =
     let p = f.0 in
     let whole : joined (lines_of p) ≡ joined (r.lines ++ line ∷ []) ++ f.1 =
-    sym (spelling_joined p) ∙ f.3 ∙ ap (λ (t : List ℕ). t ++ f.1) (ap (λ (t : List ℕ). t ++ with_lf line) r.split ∙ ap (λ (t : List ℕ). joined r.lines ++ t) (sym (append-nil (with_lf line))) ∙ sym (joined-append r.lines (line ∷ []))) in
+    sym (spelling_joined p) ∙ f.3 ∙ ap (λ (t : List ℕ). t ++ f.1) (ap (λ (t : List ℕ). t ++ with_lf line) r.split ∙ sym (joined_push r.lines line)) in
     let s2 = split_lines (r.lines ++ line ∷ []) (lines_of p) f.1 (clear_append r.lines (line ∷ []) r.clear (c, tt)) (lines_clear p f.2) whole in
     let all : passes ((r.lines ++ line ∷ []) ++ s2.0) outset ≡ Some (over p) = ap (λ (ls : List (List ℕ)). passes ls outset) (sym s2.1) ∙ program_passes p f.2 in
-    let front = passes_front (r.lines ++ line ∷ []) s2.0 outset (over p) all in
-    let here : passes (line ∷ []) s ≡ Some front.0 = sym (passes-append r.lines (line ∷ []) outset s r.ran) ∙ front.1 in
+    let front = through_front pass (r.lines ++ line ∷ []) s2.0 outset (over p) all in
+    let here : passes (line ∷ []) s ≡ Some front.0 = sym (through-append pass r.lines (line ∷ []) outset s r.ran) ∙ front.1 in
     let one = bind_some (pass line s) (passes []) front.0 here in
     no_some one.0 (sym e ∙ one.1)
 
@@ -300,16 +242,9 @@ pub spelled_ends : (bytes text rest : List ℕ) (s : State) (p : Whole) → byte
 spelled_ends bytes text rest s p is r c f =
     let whole : joined (lines_of p) ≡ joined r.lines ++ rest = sym (spelling_joined p) ∙ sym f.1 ∙ is ∙ ap (λ (t : List ℕ). t ++ rest) r.split in
     let k = split_lines r.lines (lines_of p) rest r.clear (lines_clear p f.0) whole in
-    let none = no_more k.0 rest k.2 c in
+    let none = no_line k.0 rest k.2 c in
     let same : r.lines ≡ lines_of p = sym (append-nil r.lines) ∙ ap (λ (ks : List (List ℕ)). r.lines ++ ks) (sym none.0) ∙ sym k.1 in
     (none.1, some_is (sym r.ran ∙ ap (λ (ls : List (List ℕ)). passes ls outset) same ∙ program_passes p f.0))
-  where
-    no_more : (ks : List (List ℕ)) (rest : List ℕ) → joined ks ≡ rest → has_lf rest ≡ false → (ks ≡ []) × (rest ≡ [])
-    no_more [] rest e c = (refl, sym e)
-    no_more (l ∷ ks) rest e c = let h = line_has_lf l (joined ks) in let k : true ≡ false = sym h ∙ ap has_lf e ∙ c in absurd (differ k)
-      where
-        differ : true ≡ false → ⊥
-        differ k = cc
 
 -- a text that has led to a program is the program's
 pub reached_spells : (text : List ℕ) (p : Whole) → Reached text (over p) → Spells text p

@@ -1,6 +1,7 @@
 -- Which byte of a text is blamed.
-use Rattle.std.specs.Prelude.{◌≡◌, ℕ, ◌≤◌, List, [], ◌∷◌, ◌++◌, ◌⊎◌, length, take, drop, codes, Bool, false, nat_eq, Option, Some, None, map}
-use Rattle.std.specs.List.{list_any, flat_map}
+use Rattle.std.specs.Prelude.{◌≡◌, ℕ, ◌≤◌, List, [], ◌++◌, length, take, drop, false, Some, map}
+use Rattle.std.specs.List.{flat_map}
+use Rattle.sci_text.specs.Lines.{has_lf, with_lf, joined, AllClear}
 use Rattle.c_ast.specs.Syntax.{Whole}
 use Rattle.c_ast.specs.Spelling.{Row, declared_row, function_rows, main_rows, spelling}
 use Rattle.c_ast.specs.Bounds.{IsWhole}
@@ -18,13 +19,6 @@ Spells bytes p = IsWhole p × (bytes ≡ spelling p)
 abbrev pub IsFront : List ℕ → Type 0
 IsFront text = (p : Whole) × (more : List ℕ) × IsWhole p × (spelling p ≡ text ++ more)
 
-abbrev pub has_lf : List ℕ → Bool
-has_lf bytes = list_any (nat_eq 10) bytes
-
--- a line, with its LF
-abbrev pub with_lf : List ℕ → List ℕ
-with_lf line = line ++ codes "\n"
-
 -- No program spells these bytes: their lines up to byte n are together the beginning of some program's text, and the next line is not, or
 -- has no LF, or is missing.
 pub record Unspelled (bytes : List ℕ) (n : ℕ) : Type 0 where
@@ -34,15 +28,6 @@ pub record Unspelled (bytes : List ℕ) (n : ℕ) : Type 0 where
   pub front : IsFront (take n bytes)
   pub next : (line : List ℕ) → (rest : List ℕ) → has_lf line ≡ false → drop n bytes ≡ with_lf line ++ rest → IsFront (take n bytes ++ with_lf line) → ⊥
   pub none : (p : Whole) → Spells bytes p → ⊥
-
--- lines with their LFs
-abbrev pub joined : List (List ℕ) → List ℕ
-joined ls = flat_map with_lf ls
-
--- lines without a LF in them
-abbrev pub AllClear : List (List ℕ) → Type 0
-AllClear [] = Unit {0}
-AllClear (l ∷ ls) = (has_lf l ≡ false) × AllClear ls
 
 -- A text was read, all of it whole lines.
 pub record Reached (text : List ℕ) (s : State) : Type 0 where

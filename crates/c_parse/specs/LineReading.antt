@@ -6,16 +6,13 @@ use Rattle.c_ast.specs.declared.Bound.TheVariants as bounds
 use Rattle.c_ast.specs.Rules.{same_name}
 use Rattle.c_ast.specs.Syntax.{Exp, Place, scalar, cell, Asked, more, input, until, limit, Told, start, event, value, finish, stop}
 use Rattle.c_ast.specs.Spelling.{name_text, Line, Row, row_of, header_line, scalar_line, array_line, function_line, main_line, set_line, ask_line, if_line, else_line, for_line, call_line, tell_line, close_line}
-use Rattle.c_parse.specs.Reading.{◌>>=◌, or_else, after, closed, number_at, name_at, exp_at}
-
--- the value, where nothing is left
-abbrev pub whole : {A : Type 0} → A → List ℕ → Option A
-whole x [] = Some x
-whole x (c ∷ cs) = None
+use Rattle.sci_text.specs.Reading.{◌>>=◌, or_else, after, ended}
+use Rattle.sci_text.specs.Numbers.{number_at}
+use Rattle.c_parse.specs.Reading.{closed, name_at, exp_at}
 
 -- the value, where this text is all that is left
 abbrev pub ending : {A : Type 0} → A → List ℕ → List ℕ → Option A
-ending x text bytes = after text bytes >>= whole x
+ending x text bytes = after text bytes >>= ended x
 
 -- an expression at most 64 deep
 unfoldable pub full_at : List ℕ → Option (Exp × List ℕ)
@@ -45,7 +42,7 @@ assigned_at p bytes = or_else (after (codes "sci_") bytes)
 -- a line that begins with a name
 unfoldable pub named_at : List ℕ → Option Line
 named_at bytes = name_at bytes >>= λ x. or_else (after (codes "();") x.1)
-    (whole (call_line x.0))
+    (ended (call_line x.0))
     (target_at bytes >>= λ p. after (codes " = ") p.1 >>= assigned_at p.0)
 
 unfoldable pub three_at : (Exp → Exp → Exp → Told) → List ℕ → Option (Told × List ℕ)
@@ -97,7 +94,7 @@ static_at bytes = or_else (after (codes "int64_t ") bytes) declared_at
 
 -- a line that ends a list
 unfoldable pub closing_at : List ℕ → Option Line
-closing_at bytes = or_else (after (codes " else {") bytes) (whole else_line) (whole close_line bytes)
+closing_at bytes = or_else (after (codes " else {") bytes) (ended else_line) (ended close_line bytes)
 
 unfoldable pub if_at : List ℕ → Option Line
 if_at bytes = full_at bytes >>= λ e. ending (if_line e.0) (codes ") {") e.1
@@ -109,7 +106,7 @@ line_at bytes = or_else (after (codes "}") bytes) closing_at
     (or_else (after (codes "for (") bytes) for_at
     (or_else (after (codes "sci_") bytes) tell_at
     (or_else (after (codes "static ") bytes) static_at
-    (or_else (after (codes "void sci_main(void) {") bytes) (whole main_line)
+    (or_else (after (codes "void sci_main(void) {") bytes) (ended main_line)
     (named_at bytes))))))
 
 -- how many blanks stand in front

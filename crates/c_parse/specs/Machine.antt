@@ -6,7 +6,8 @@ use Rattle.c_ast.specs.declared.Name.{Name}
 use Rattle.c_ast.specs.declared.Bound.{Bound}
 use Rattle.c_ast.specs.Syntax.{Exp, Place, Asked, Told, Statement, set, ask, choice, loop, call, tell, Block, done, next, Declared, Function, Whole}
 use Rattle.c_ast.specs.Spelling.{Line, Row, row_of, header_line, scalar_line, array_line, function_line, main_line, set_line, ask_line, if_line, else_line, for_line, call_line, tell_line, close_line, header_lines}
-use Rattle.c_parse.specs.Reading.{◌>>=◌, after}
+use Rattle.sci_text.specs.Reading.{◌>>=◌, after}
+use Rattle.sci_text.specs.Lines.{through}
 use Rattle.c_parse.specs.LineReading.{row_at}
 
 -- What a block inside another was opened for.
@@ -189,5 +190,4 @@ pass line (body ds fs owner o) = row_at line >>= λ r. step r (body ds fs owner 
 pass line (over p) = None
 
 abbrev pub passes : List (List ℕ) → State → Option State
-passes [] s = Some s
-passes (l ∷ ls) s = pass l s >>= passes ls
+passes = through pass

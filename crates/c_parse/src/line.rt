@@ -4,14 +4,15 @@ ghost use Rattle.std.specs.Prelude.{◌≡◌, ◌≤◌, ◌<◌, ◌∷◌, []
 ghost use Rattle.std.specs.Option.{option_map};
 ghost use Rattle.c_ast.specs.View.{exp_of, place_of, asked_of, told_of};
 ghost use Rattle.c_ast.specs.Syntax.{event, stop};
-ghost use Rattle.c_parse.specs.Reading.{Gives};
+ghost use Rattle.sci_text.specs.Reading.{ended};
+ghost use Rattle.sci_text.specs.Stops.{Gives};
 ghost use Rattle.c_parse.specs.LineView.{line_of, indented_of};
 ghost use Rattle.c_parse.specs.LineReading as read;
 
 use crate::expression::{expr, must};
-use crate::stop::Stop;
-use crate::text::{after_text, name, number};
+use crate::text::name;
 use c_ast::{Ask, Bound, Expr, Name, Target, Tell};
+use sci_text::{Stop, after_text, number};
 use std::alloc::Global;
 
 /// What a line says.
@@ -38,9 +39,8 @@ pub struct Indented {
     pub item: Item,
 }
 
-#[tactic(auto, using(crate::proofs::Scans::whole_some, crate::proofs::Scans::whole_none))]
 fn whole(item: Item, bytes: &[u8]) -> Result<Item, Stop>
-    ensures gives { Gives line_of result (read.whole (line_of item) bytes.now) }
+    ensures gives { Gives line_of result (ended (line_of item) bytes.now) }
     ensures sure { IfErr result (λ e. e ≡ Stop.Other) }
 {
     if bytes.is_empty() {

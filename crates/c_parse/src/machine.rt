@@ -3,14 +3,14 @@
 ghost use Rattle.std.specs.Prelude.{◌≡◌, Some, None, nat_eq, nat_lt};
 ghost use Rattle.c_ast.specs.View.{statement_of, statements_of};
 ghost use Rattle.c_ast.specs.Syntax.{done};
-ghost use Rattle.c_parse.specs.Reading.{Gives};
+ghost use Rattle.sci_text.specs.Stops.{Gives};
 ghost use Rattle.c_parse.specs.LineView.{line_of, indented_of};
 ghost use Rattle.c_parse.specs.Machine as machine;
 ghost use Rattle.c_parse.specs.MachineView.{opened_of, open_of};
 
 use crate::line::{Indented, Item};
-use crate::stop::Stop;
 use c_ast::{Bound, Expr, Name, Stmt};
+use sci_text::Stop;
 use std::alloc::Global;
 
 /// What a block inside another was opened for: the first list of an If, the second with the first, or the body of a For.

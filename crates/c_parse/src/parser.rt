@@ -2,7 +2,7 @@
 
 ghost use Rattle.std.specs.Prelude.{◌≡◌, Some, None, map};
 ghost use Rattle.c_ast.specs.View.{statements_of, declared_of, function_of};
-ghost use Rattle.c_parse.specs.Reading.{Gives};
+ghost use Rattle.sci_text.specs.Stops.{Gives};
 ghost use Rattle.c_ast.specs.Syntax.{done};
 ghost use Rattle.c_parse.specs.LineView.{line_of, indented_of};
 ghost use Rattle.c_parse.specs.Machine as machine;
@@ -11,8 +11,8 @@ ghost use Rattle.c_parse.specs.MachineView.{open_of, state_of};
 use crate::expression::must;
 use crate::line::{Indented, Item, row};
 use crate::machine::{Stack, body_of, is_end, step_row};
-use crate::stop::Stop;
 use c_ast::{Decl, Func, Name, Program, Stmt};
+use sci_text::Stop;
 use std::alloc::Global;
 
 const HEADER: &[u8] = b"#include <stdint.h>

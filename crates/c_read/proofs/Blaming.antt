@@ -9,8 +9,7 @@ use Rattle.c_ast.specs.Rules.{Scope, outset, too_deep, closing, is_last, blamed_
 use Rattle.c_ast.specs.Events.{program_events}
 use Rattle.c_ast.specs.Syntax.{Whole}
 use Rattle.c_parse.specs.Blame.{Spells}
-use Rattle.c_parse.proofs.Parts.{guarded}
-use Rattle.c_parse.proofs.Expressions.{some_is}
+use Rattle.sci_text.proofs.Parts.{guarded, some_is}
 use Rattle.c_read.specs.Names.{program_places}
 use Rattle.c_read.specs.Answers.{place_of, IsRefused}
 use Rattle.c_read.proofs.Standing.{places_length}

@@ -5,4 +5,3 @@ pub mod Standing
 pub mod Blaming
 pub mod Uniqueness
 pub mod Rising
-pub mod Ends

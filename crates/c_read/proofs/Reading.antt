@@ -1,18 +1,21 @@
 -- A text read line by line.
 use Rattle.std.proofs.Common.{◌≡◌, ℕ, ◌+◌, ◌-◌, List, [], ◌∷◌, ◌++◌, length, take, drop, Some, None, false, refl, sym, ap, ◌∙◌, subst, arith, append_assoc, append-nil, length-append}
 use Rattle.std.specs.Prelude.{Result, Ok, Err, IfOk, IfErr}
+use Rattle.std.proofs.lemmas.List.{take_at, drop_at}
 use Rattle.c_ast.specs.Syntax.{Whole}
 use Rattle.c_ast.specs.View.{whole_of}
 use Rattle.c_ast.specs.Spelling.{Row, row_text, rows_text}
-use Rattle.c_parse.specs.Reading.{◌>>=◌, Fails}
-use Rattle.c_parse.specs.declared.stop.Stop.{Stop}
-use Rattle.c_parse.specs.declared.stop.Stop.TheVariants as stop
+use Rattle.sci_text.specs.Reading.{◌>>=◌}
+use Rattle.sci_text.specs.Lines.{has_lf, with_lf}
+use Rattle.sci_text.specs.Stops.{Fails}
+use Rattle.sci_text.proofs.Parts.{bind_some, some_is}
+use Rattle.sci_text.proofs.Splits.{line_has_lf, first_line}
+use Rattle.sci_text.specs.declared.stop.Stop.{Stop}
+use Rattle.sci_text.specs.declared.stop.Stop.TheVariants as stop
 use Rattle.c_parse.specs.LineReading.{row_at}
 use Rattle.c_parse.specs.Machine.{State, heading, outside, body, over, header_text, outset, begun, step, pass}
 use Rattle.c_parse.specs.MachineView.{state_of}
-use Rattle.c_parse.specs.Blame.{Spells, IsFront, Unspelled, has_lf, with_lf, Reached}
-use Rattle.c_parse.proofs.Parts.{bind_some}
-use Rattle.c_parse.proofs.Expressions.{some_is}
+use Rattle.c_parse.specs.Blame.{Spells, IsFront, Unspelled, Reached}
 use Rattle.c_parse.proofs.LineTakes.{row_takes}
 use Rattle.c_parse.proofs.StateLaws.{rows_so_far, IsBehind, StateFits, step_moved, Led, led_behind}
 use Rattle.c_parse.proofs.TextLaws.{reached_more, reached_led, reached_front, stops_there, spelled_ends, reached_spells}
@@ -22,7 +25,7 @@ use Rattle.c_read.specs.declared.ParseStop.{ParseStop}
 use Rattle.c_read.specs.declared.ParseStop.TheVariants as stops
 use Rattle.c_read.specs.Names.{past, row_places, rows_places, program_places}
 use Rattle.c_read.specs.Lines.{read_places, next_places, blame_of, Reads}
-use Rattle.c_read.proofs.Splits.{differ, line_has_lf, first_line, whole_lines}
+use Rattle.c_read.proofs.Splits.{differ, whole_lines}
 
 pub rows_places-append : (n : ℕ) (a b : List Row) → rows_places n (a ++ b) ≡ rows_places n a ++ rows_places (n + length (rows_text a)) b
 rows_places-append n [] b = ap (λ (k : ℕ). rows_places k b) (omega arith)
@@ -92,19 +95,11 @@ at_next bytes rest line more reader new i c is e p =
           ∙ ap (λ (old : List ℕ). old ++ next_places (state_of reader.parser) (length i.text) line) i.places ∙ sym (line_noted i.text line (state_of reader.parser) (state_of new.parser) l.0 l.1 e);
     }
 
-take_front : (a b : List ℕ) → take (length a) (a ++ b) ≡ a
-take_front [] b = refl
-take_front (c ∷ a) b = ap (λ (l : List ℕ). c ∷ l) (take_front a b)
-
-drop_front : (a b : List ℕ) → drop (length a) (a ++ b) ≡ b
-drop_front [] b = refl
-drop_front (c ∷ a) b = drop_front a b
-
 front_is : (bytes rest : List ℕ) (reader : Reader) (i : IsAt bytes rest reader) → take (length bytes - length rest) bytes ≡ i.text
-front_is bytes rest reader i = ap (λ (n : ℕ). take n bytes) (place_at bytes rest reader i) ∙ ap (take (length i.text)) i.split ∙ take_front i.text rest
+front_is bytes rest reader i = ap (λ (n : ℕ). take n bytes) (place_at bytes rest reader i) ∙ ap (take (length i.text)) i.split ∙ take_at i.text rest (length i.text) refl
 
 rest_is : (bytes rest : List ℕ) (reader : Reader) (i : IsAt bytes rest reader) → drop (length bytes - length rest) bytes ≡ rest
-rest_is bytes rest reader i = ap (λ (n : ℕ). drop n bytes) (place_at bytes rest reader i) ∙ ap (drop (length i.text)) i.split ∙ drop_front i.text rest
+rest_is bytes rest reader i = ap (λ (n : ℕ). drop n bytes) (place_at bytes rest reader i) ∙ ap (drop (length i.text)) i.split ∙ drop_at i.text rest (length i.text) refl
 
 -- what is blamed where reading stops
 unspelled_at : (bytes rest : List ℕ) (reader : Reader) (i : IsAt bytes rest reader) → ((line more : List ℕ) → has_lf line ≡ false → rest ≡ with_lf line ++ more → IsFront (i.text ++ with_lf line) → ⊥)

@@ -1,37 +1,10 @@
--- Lines and their LFs.
-use Rattle.std.proofs.Common.{◌≡◌, ℕ, List, [], ◌∷◌, ◌++◌, Bool, true, false, ◌⊎◌, inl, inr, refl, sym, ap, ◌∙◌, append_assoc, append-nil}
-use Rattle.std.specs.Prelude.{nat_eq, ◌||◌}
-use Rattle.std.proofs.lemmas.Bool.{eqb-false}
-use Rattle.c_parse.specs.Blame.{has_lf, with_lf, joined}
-
-pub or_parts : (a b : Bool) → (a || b) ≡ false → (a ≡ false) × (b ≡ false)
-or_parts true b e = absurd cc
-or_parts false b e = (refl, e)
-
-or_true : (a b : Bool) → b ≡ true → (a || b) ≡ true
-or_true true b e = refl
-or_true false b e = e
+-- Where whole lines end.
+use Rattle.std.proofs.Common.{◌≡◌, ℕ, List, [], ◌∷◌, ◌++◌, Bool, true, false, ◌⊎◌, inl, inr, sym, ap, ◌∙◌, append_assoc, append-nil}
+use Rattle.sci_text.specs.Lines.{has_lf, with_lf, joined}
+use Rattle.sci_text.proofs.Splits.{line_has_lf}
 
 pub differ : (b : Bool) → b ≡ true → b ≡ false → ⊥
 differ b t f = cc
-
-pub line_has_lf : (a x : List ℕ) → has_lf (with_lf a ++ x) ≡ true
-line_has_lf [] x = refl
-line_has_lf (c ∷ a) x = or_true (nat_eq 10 c) (has_lf (with_lf a ++ x)) (line_has_lf a x)
-
--- the first line of a text is one
-pub first_line : (a b x y : List ℕ) → has_lf a ≡ false → has_lf b ≡ false → with_lf a ++ x ≡ with_lf b ++ y → (a ≡ b) × (x ≡ y)
-first_line [] [] x y e f h = (refl, cc)
-first_line [] (c ∷ b) x y e f h = let p = or_parts (nat_eq 10 c) (has_lf b) f in let same : 10 ≡ c = cc in absurd (eqb-false 10 c p.0 same)
-first_line (c ∷ a) [] x y e f h = let p = or_parts (nat_eq 10 c) (has_lf a) e in let same : 10 ≡ c = cc in absurd (eqb-false 10 c p.0 same)
-first_line (c ∷ a) (d ∷ b) x y e f h =
-    let p = or_parts (nat_eq 10 c) (has_lf a) e in
-    let q = or_parts (nat_eq 10 d) (has_lf b) f in
-    let heads : c ≡ d = cc in
-    let tails : with_lf a ++ x ≡ with_lf b ++ y = cc in
-    let i = first_line a b x y p.1 q.1 tails in
-    let is = i.0 in
-    (cc, i.1)
 
 -- what stands at the end of a text that ends by x
 ends_by : (a r line : List ℕ) (x : ℕ) → r ++ line ≡ a ++ x ∷ [] → (line ≡ []) ⊎ ((front : List ℕ) × (line ≡ front ++ x ∷ []))

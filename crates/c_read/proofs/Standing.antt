@@ -1,6 +1,6 @@
 -- The name of each event stands at its place.
 use Rattle.std.proofs.Common.{◌≡◌, ℕ, suc, ◌+◌, ◌*◌, List, [], ◌∷◌, ◌++◌, length, drop, Some, refl, sym, ap, ◌∙◌, subst, append_assoc, append-nil, length-append}
-use Rattle.std.proofs.lemmas.List.{length-replicate}
+use Rattle.std.proofs.lemmas.List.{length-replicate, drop_at}
 use Rattle.std.specs.Prelude.{codes, replicate}
 use Rattle.c_ast.specs.declared.Name.{Name}
 use Rattle.c_ast.specs.declared.Bound.{Bound}
@@ -37,12 +37,8 @@ right text n a b p = record {
 inside : (text : List ℕ) (n : ℕ) (a b c : List ℕ) → At text n (a ++ (b ++ c)) → At text (past n a) b
 inside text n a b c p = left text (past n a) b c (right text n a (b ++ c) p)
 
-drop_front : (f t : List ℕ) → drop (length f) (f ++ t) ≡ t
-drop_front [] t = refl
-drop_front (c ∷ f) t = drop_front f t
-
 begins : (text : List ℕ) (n : ℕ) (x : Name) → At text n (name_text x) → Begins (drop n text) (Some x)
-begins text n x p = (p.back, ap (λ (k : ℕ). drop k text) p.byte ∙ ap (drop (length p.front)) p.split ∙ drop_front p.front (name_text x ++ p.back))
+begins text n x p = (p.back, ap (λ (k : ℕ). drop k text) p.byte ∙ ap (drop (length p.front)) p.split ∙ drop_at p.front (name_text x ++ p.back) (length p.front) refl)
 
 stand_append : (text : List ℕ) (a : List ℕ) (x : List Event) (b : List ℕ) (y : List Event) → NamesStand text a x → NamesStand text b y → NamesStand text (a ++ b) (x ++ y)
 stand_append text [] [] b y s t = t

@@ -1,62 +1,24 @@
 -- A text spells one program, and one byte of it is blamed.
-use Rattle.std.proofs.Common.{◌≡◌, ℕ, zero, suc, ◌+◌, ◌-◌, ◌<◌, ◌≤◌, List, [], ◌∷◌, ◌++◌, length, take, drop, map, Option, Some, None, Bool, true, false, ◌⊎◌, inl, inr, ⊎_elim, refl, sym, ap, ◌∙◌, subst, arith, append_assoc, append-nil, length-append}
+use Rattle.std.proofs.Common.{◌≡◌, ℕ, zero, suc, ◌+◌, ◌-◌, ◌<◌, ◌≤◌, List, [], ◌∷◌, ◌++◌, length, take, drop, Option, Some, None, Bool, true, false, ◌⊎◌, inl, inr, ⊎_elim, refl, sym, ap, ◌∙◌, subst, arith, append_assoc, append-nil, length-append}
 use Rattle.std.specs.Prelude.{nat_eq, ◌||◌, codes, Result, Ok, Err}
-use Rattle.std.proofs.lemmas.Bool.{eqb-true, cases_lt}
+use Rattle.std.proofs.lemmas.Bool.{eqb-true, cases_lt, or_parts}
 use Rattle.std.proofs.lemmas.List.{take-append-drop, take-append-le, length-take-le, length-drop}
 use Rattle.std.proofs.Math.Seq.{take-append-add}
 use Rattle.c_ast.specs.declared.Program.{Program}
 use Rattle.c_ast.specs.Syntax.{Whole}
 use Rattle.c_ast.specs.View.{whole_of}
-use Rattle.c_ast.specs.Spelling.{Row, header_lines, spelling}
+use Rattle.c_ast.specs.Spelling.{spelling}
 use Rattle.c_ast.specs.Bounds.{IsWhole}
-use Rattle.c_parse.specs.LineReading.{row_at}
-use Rattle.c_parse.specs.LineBounds.{row_bytes}
-use Rattle.c_parse.specs.Machine.{State, heading, outside, body, over, header_text, outset, step, pass, passes}
-use Rattle.c_parse.specs.Blame.{Spells, Unspelled, has_lf, with_lf, behind_rows, AllClear, Reached}
-use Rattle.c_parse.proofs.Parts.{bind_some}
-use Rattle.c_parse.proofs.Expressions.{some_is}
-use Rattle.c_parse.proofs.LineTakes.{row_takes}
-use Rattle.c_parse.proofs.LineFeeds.{row_clear}
-use Rattle.c_parse.proofs.StateLaws.{IsBehind, StateFits, step_moved}
-use Rattle.c_parse.proofs.TextLaws.{passes-append, lines_of, program_passes, spelling_joined, clear_append, spelled_ends}
-use Rattle.c_read.proofs.Splits.{or_parts}
+use Rattle.c_parse.specs.Machine.{over}
+use Rattle.sci_text.specs.Lines.{has_lf, with_lf}
+use Rattle.sci_text.proofs.Parts.{some_is}
+use Rattle.c_parse.specs.Blame.{Spells, Unspelled, Reached}
+use Rattle.c_parse.proofs.TextLaws.{lines_of, lines_clear, program_passes, spelling_joined, spelled_ends}
 use Rattle.c_read.specs.declared.ParseStop.{ParseStop}
 use Rattle.c_read.specs.declared.reader.Placed.{Placed}
 use Rattle.c_read.specs.Lines.{Reads}
 use Rattle.c_read.specs.declared.ParseStop.TheVariants as stops
 use Rattle.c_read.specs.Answers.{place_of, blamed_byte, IsRefused, IsAccepted, Answers, Accepts, Blames}
-
-row_passed : (l : List ℕ) (s u : State) → IsBehind s → pass l s ≡ Some u → (r : Row) × (row_at l ≡ Some r) × (step r s ≡ Some u)
-row_passed l (heading t) u b e = absurd b
-row_passed l (outside ds fs) u b e = bind_some (row_at l) (λ r. step r (outside ds fs)) u e
-row_passed l (body ds fs owner o) u b e = bind_some (row_at l) (λ r. step r (body ds fs owner o)) u e
-row_passed l (over p) u b e = absurd cc
-
--- lines behind the header that pass have no LF in them
-clear_behind : (ls : List (List ℕ)) (s t : State) → IsBehind s → StateFits s → passes ls s ≡ Some t → AllClear ls
-clear_behind [] s t b f e = tt
-clear_behind (l ∷ ls) s t b f e =
-    let m = bind_some (pass l s) (passes ls) t e in
-    let r = row_passed l s m.0 b m.1 in
-    let w = row_takes l r.0 r.1 in
-    let v = step_moved r.0 s m.0 f w.1 r.2 in
-    (ap has_lf w.0 ∙ row_clear r.0 w.1, clear_behind ls m.0 t v.behind v.fits m.2)
-
-header_passes : passes header_lines outset ≡ Some (outside [] [])
-unfolding header_text
-header_passes = refl
-
-header_clear : AllClear header_lines
-header_clear = (refl, (refl, (refl, (refl, (refl, (refl, (refl, (refl, (refl, (refl, tt))))))))))
-
-fits_nothing : StateFits (outside [] [])
-fits_nothing = (λ i d h. absurd (omega (arith, h)), λ i d h. absurd (omega (arith, h)))
-
-lines_clear : (p : Whole) → IsWhole p → AllClear (lines_of p)
-lines_clear p f =
-    let rows = map row_bytes (behind_rows p) in
-    let e : passes rows (outside [] []) ≡ Some (over p) = sym (passes-append header_lines rows outset (outside [] []) header_passes) ∙ program_passes p f in
-    clear_append header_lines rows header_clear (clear_behind rows (outside [] []) (over p) tt fits_nothing e)
 
 reached_whole : (bytes : List ℕ) (p : Whole) → Spells bytes p → Reached bytes (over p)
 reached_whole bytes p s = record { lines = lines_of p; split = s.1 ∙ spelling_joined p; clear = lines_clear p s.0; ran = program_passes p s.0 }

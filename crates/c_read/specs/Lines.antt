@@ -1,20 +1,17 @@
 -- The lines of a text, read one by one.
-use Rattle.std.specs.Prelude.{◌≡◌, ℕ, List, [], Option, Some, None, Result, Ok, Err, Bool, nat_eq}
+use Rattle.std.specs.Prelude.{◌≡◌, ℕ, List, [], Option, Some, None, Result, Ok, Err}
 use Rattle.c_ast.specs.Spelling.{Row}
 use Rattle.c_ast.specs.View.{whole_of}
-use Rattle.c_parse.specs.Reading.{◌>>=◌}
+use Rattle.sci_text.specs.Reading.{◌>>=◌}
 use Rattle.c_parse.specs.LineReading.{row_at}
 use Rattle.c_parse.specs.Machine.{State, heading, outside, body, over, step}
 use Rattle.c_parse.specs.Blame.{Spells, Unspelled}
-use Rattle.c_parse.specs.declared.stop.Stop.{Stop}
-use Rattle.c_parse.specs.declared.stop.Stop.TheVariants as stop
+use Rattle.sci_text.specs.declared.stop.Stop.{Stop}
+use Rattle.sci_text.specs.declared.stop.Stop.TheVariants as stop
 use Rattle.c_read.specs.Names.{row_places, program_places}
 use Rattle.c_read.specs.declared.ParseStop.{ParseStop}
 use Rattle.c_read.specs.declared.ParseStop.TheVariants as stops
 use Rattle.c_read.specs.declared.reader.Placed.{Placed}
-
-abbrev pub is_lf : ℕ → Bool
-is_lf c = nat_eq c 10
 
 -- what a line behind the header leads to
 abbrev pub row_led : List ℕ → State → Option State

@@ -1,21 +1,19 @@
 // The lines of a text, one by one.
 
-ghost use Rattle.std.specs.Prelude.{◌≡◌, ◌+◌, ◌<◌, ◌^◌, ◌++◌, [], false, length, IfSome, IfNone, IfOk, IfErr};
-ghost use Rattle.std.specs.List.{position};
+ghost use Rattle.std.specs.Prelude.{◌≡◌, ◌+◌, ◌<◌, ◌^◌, ◌++◌, [], length, IfOk, IfErr};
 ghost use Rattle.c_ast.specs.View.{whole_of};
 ghost use Rattle.c_ast.specs.Syntax.{Whole};
-ghost use Rattle.c_parse.specs.Reading.{Gives};
+ghost use Rattle.sci_text.specs.Stops.{Gives};
 ghost use Rattle.c_parse.specs.LineReading.{row_at};
 ghost use Rattle.c_parse.specs.Machine as machine;
 ghost use Rattle.c_parse.specs.MachineView.{state_of};
-ghost use Rattle.c_parse.specs.Blame.{has_lf, with_lf};
-ghost use Rattle.c_read.specs.Lines.{is_lf, row_led, read_places, next_places, blame_of, Reads};
+ghost use Rattle.c_read.specs.Lines.{row_led, read_places, next_places, blame_of, Reads};
 
 use crate::{ParseStop, names};
 use c_ast::Program;
 use c_parse::line::row;
 use c_parse::parser::{Parser, begin, heading, step};
-use c_parse::stop::Stop;
+use sci_text::{Stop, split_line};
 use std::alloc::Global;
 
 /// What was read so far, and the first byte of each of its names.
@@ -23,23 +21,6 @@ use std::alloc::Global;
 pub struct Reader {
     pub parser: Parser,
     pub places: Vec<usize>,
-}
-
-fn line_end(bytes: &[u8]) -> Option<usize>
-    ensures { result ≡ position is_lf bytes.now }
-{
-    bytes.iter().position(|byte| *byte == b'\n')
-}
-
-/// The first line, without its LF, and what stands behind it.
-#[tactic(auto, using(crate::proofs::Ends::line_within, crate::proofs::Ends::line_clear, crate::proofs::Ends::line_split, crate::proofs::Ends::no_line))]
-fn split_line(bytes: &[u8]) -> Option<(&[u8], &[u8])>
-    ensures clear { IfSome result (λ x. has_lf x.0.now ≡ false) }
-    ensures split { IfSome result (λ x. bytes.now ≡ with_lf x.0.now ++ x.1.now) }
-    ensures none { IfNone result (has_lf bytes.now ≡ false) }
-{
-    let end = line_end(bytes)?;
-    Some((&bytes[..end], &bytes[end + 1..]))
 }
 
 /// A line behind the header that begins at this byte.

@@ -2,6 +2,7 @@
 use Rattle.std.proofs.Common.{◌≡◌, ◌⊎◌, inl, inr, ℕ, ◌+◌, ◌-◌, ◌≤◌, List, [], ◌∷◌, ◌++◌, length, take, Result, Ok, Err, Bool, false, cond, refl, sym, ap, ap₂, ◌∙◌, subst, arith, append_assoc, append-nil, length-append}
 use Rattle.std.specs.Prelude.{nat_eq, codes, count_by}
 use Rattle.std.specs.List.{sum_by}
+use Rattle.std.proofs.lemmas.Bool.{or_parts}
 use Rattle.std.proofs.lemmas.List.{take_at}
 use Rattle.std.proofs.lemmas.List.Sums.{sum_by-cons, sum_by-append}
 use Rattle.sci_net.specs.Parts.{Parts}
@@ -14,10 +15,12 @@ use Rattle.sci_save.specs.Saved.{Saved, saved_of}
 use Rattle.sci_save.specs.Bounds.{AreShort}
 use Rattle.sci_save.specs.Valid.{IsValid}
 use Rattle.sci_save.specs.Text.{saved_text}
-use Rattle.sci_save.specs.Blame.{Spells, has_lf, with_lf, joined, AreClear, IsBlamed}
+use Rattle.sci_text.specs.Lines.{has_lf, with_lf, joined, AllClear}
+use Rattle.sci_text.proofs.FirstWrong.{one_first_wrong}
+use Rattle.sci_save.specs.Blame.{Spells, IsFront, IsBlamed}
 use Rattle.sci_save.specs.Reading.{Read, saved_at}
 use Rattle.sci_save.specs.Answers.{Answers, Accepts, Blames}
-use Rattle.sci_save.proofs.Readers.{or_parts, first_line, joined_append, AreLines, SameLine, not_both, same_value, IsReader}
+use Rattle.sci_save.proofs.Readers.{AreLines, SameLine, not_both, same_value, IsReader}
 use Rattle.sci_save.proofs.Whole.{saved_read}
 
 -- ---- line feeds
@@ -31,7 +34,7 @@ clear_none (c ∷ cs) e =
     let p = or_parts (nat_eq 10 c) (has_lf cs) e in
     sum_by-cons one_lf c cs ∙ ap₂ (λ (t : Bool) (m : ℕ). cond t 1 0 + m) p.0 (clear_none cs p.1)
 
-lines_count : (ls : List (List ℕ)) → AreClear ls → sum_by one_lf (joined ls) ≡ length ls
+lines_count : (ls : List (List ℕ)) → AllClear ls → sum_by one_lf (joined ls) ≡ length ls
 lines_count [] c = refl
 lines_count (l ∷ ls) c =
     let whole = sum_by-append one_lf (with_lf l) (joined ls) in
@@ -113,53 +116,14 @@ module _ (n : Parts) (i : Columns) (net : IsNet n) (short : AreShort i) where
 
 -- ---- one line is blamed
 
--- the lines of b go on behind those of a
-record Longer (a : List (List ℕ)) (r : List ℕ) (b : List (List ℕ)) (s : List ℕ) : Type 0 where
-  line : List ℕ
-  lines : List (List ℕ)
-  clear : has_lf line ≡ false
-  are : b ≡ a ++ line ∷ lines
-  left : r ≡ with_lf line ++ (joined lines ++ s)
-
-data Compared (a : List (List ℕ)) (r : List ℕ) (b : List (List ℕ)) (s : List ℕ) : Type 0 where
-  alike : a ≡ b → Compared a r b s
-  b_longer : Longer a r b s → Compared a r b s
-  a_longer : Longer b s a r → Compared a r b s
-
-longer_cons : (l m : List ℕ) (a : List (List ℕ)) (r : List ℕ) (b : List (List ℕ)) (s : List ℕ) → l ≡ m → Longer a r b s → Longer (l ∷ a) r (m ∷ b) s
-longer_cons l m a r b s e w = record { line = w.line; lines = w.lines; clear = w.clear; are = ap₂ (λ (x : List ℕ) (xs : List (List ℕ)). x ∷ xs) (sym e) w.are; left = w.left }
-
-compared_cons : (l m : List ℕ) (a : List (List ℕ)) (r : List ℕ) (b : List (List ℕ)) (s : List ℕ) → l ≡ m → Compared a r b s → Compared (l ∷ a) r (m ∷ b) s
-compared_cons l m a r b s e (alike f) = alike (ap₂ (λ (x : List ℕ) (xs : List (List ℕ)). x ∷ xs) e f)
-compared_cons l m a r b s e (b_longer w) = b_longer (longer_cons l m a r b s e w)
-compared_cons l m a r b s e (a_longer w) = a_longer (longer_cons m l b s a r (sym e) w)
-
-compared : (a : List (List ℕ)) (r : List ℕ) (b : List (List ℕ)) (s : List ℕ) → AreClear a → AreClear b → joined a ++ r ≡ joined b ++ s → Compared a r b s
-compared [] r [] s c d e = alike refl
-compared [] r (m ∷ ms) s c d e = b_longer (record { line = m; lines = ms; clear = d.0; are = refl; left = e ∙ append_assoc (with_lf m) (joined ms) s })
-compared (l ∷ ls) r [] s c d e = a_longer (record { line = l; lines = ls; clear = c.0; are = refl; left = sym e ∙ append_assoc (with_lf l) (joined ls) r })
-compared (l ∷ ls) r (m ∷ ms) s c d e =
-    let both : with_lf l ++ (joined ls ++ r) ≡ with_lf m ++ (joined ms ++ s) = sym (append_assoc (with_lf l) (joined ls) r) ∙ e ∙ append_assoc (with_lf m) (joined ms) s in
-    let p = first_line l m (joined ls ++ r) (joined ms ++ s) c.0 d.0 both in
-    compared_cons l m ls r ms s p.0 (compared ls r ms s c.1 d.1 p.1)
-
-not_longer : (n : Parts) (i : Columns) (bytes : List ℕ) (j k : ℕ) (p : IsBlamed n i bytes j) (q : IsBlamed n i bytes k) → Longer p.before p.rest q.before q.rest → ⊥
-not_longer n i bytes j k p q w =
-    let f = q.front in
-    let text : saved_text n f.saved ≡ (joined p.before ++ with_lf w.line) ++ (joined w.lines ++ f.more) =
-    f.text
-    ∙ ap (λ (b : List (List ℕ)). joined b ++ f.more) w.are
-    ∙ ap (λ (l : List ℕ). l ++ f.more) (joined_append p.before (w.line ∷ w.lines) ∙ sym (append_assoc (joined p.before) (with_lf w.line) (joined w.lines)))
-    ∙ append_assoc (joined p.before ++ with_lf w.line) (joined w.lines) f.more in
-    p.next w.line (joined w.lines ++ q.rest) w.clear w.left (record { saved = f.saved; valid = f.valid; more = joined w.lines ++ f.more; text = text })
+front_shorter : (n : Parts) (i : Columns) (a b : List ℕ) → IsFront n i (a ++ b) → IsFront n i a
+front_shorter n i a b f = record { saved = f.saved; valid = f.valid; more = b ++ f.more; text = f.text ∙ append_assoc a b f.more }
 
 pub one_blamed : (n : Parts) (i : Columns) (bytes : List ℕ) (j k : ℕ) → IsBlamed n i bytes j → IsBlamed n i bytes k → j ≡ k
-one_blamed n i bytes j k p q = by_lines (compared p.before p.rest q.before q.rest p.clear q.clear (sym p.split ∙ q.split))
-  where
-    by_lines : Compared p.before p.rest q.before q.rest → j ≡ k
-    by_lines (alike e) = p.number ∙ ap (λ (ls : List (List ℕ)). length ls + 1) e ∙ sym q.number
-    by_lines (b_longer w) = absurd (not_longer n i bytes j k p q w)
-    by_lines (a_longer w) = absurd (not_longer n i bytes k j q p w)
+one_blamed n i bytes j k p q =
+    p.number
+    ∙ ap (λ (m : ℕ). m + 1) (one_first_wrong (IsFront n i) (front_shorter n i) p.before q.before p.rest q.rest p.clear q.clear (sym p.split ∙ q.split) p.front q.front p.next q.next)
+    ∙ sym q.number
 
 -- ---- what is answered
 

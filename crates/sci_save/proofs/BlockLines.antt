@@ -1,14 +1,9 @@
 -- The lines about blocks.
 use Rattle.std.proofs.Common.{◌≡◌, ℕ, zero, suc, ◌+◌, ◌^◌, ◌<◌, ◌≤◌, ℤ, pos, negsuc, ◌≤ℤ◌, ◌-ℤ◌, List, [], ◌∷◌, ◌++◌, length, replicate, Option, Some, None, Ok, Err, Bool, true, false, cond, refl, sym, ap, ◌∙◌, subst, arith, append_assoc, Vec}
 use Rattle.std.specs.declared.alloc.Global.{Global}
-use Rattle.std.specs.Prelude.{nat_eq, nat_le, is_none, ◌||◌, codes, decimal, unsigned_abs, slice_index_or}
+use Rattle.std.specs.Prelude.{nat_le, is_none, codes, decimal, unsigned_abs, slice_index_or}
 use Rattle.std.specs.Fmt.{signed_decimal}
-use Rattle.std.specs.Char.{is_ascii_digit}
-use Rattle.std.specs.Str.{all_ascii_digits}
 use Rattle.std.proofs.lemmas.Int.{ints}
-use Rattle.std.proofs.lemmas.Bool.{and_parts, ne_eqb}
-use Rattle.std.proofs.lemmas.List.Folds.{list_any-append}
-use Rattle.std.proofs.lemmas.Fmt.{digits_decimal}
 use mir.Val.{SFits}
 use mir.Syntax.{w64}
 use Rattle.sci_base.specs.declared.Ty.{Ty}
@@ -29,13 +24,13 @@ use Rattle.sci_net.specs.Parts.{numbered, is_sensor, column_of}
 use Rattle.sci_reaction.specs.Memory.{Columns}
 use Rattle.sci_trace.specs.Columns.{columns_view}
 use Rattle.sci_trace.specs.Lines.{numbers}
-use Rattle.c_parse.proofs.Numbers.{own}
+use Rattle.sci_text.specs.Lines.{has_lf, with_lf}
+use Rattle.sci_text.proofs.Clear.{both_clear, decimal_clear}
 use Rattle.sci_save.specs.declared.bounds.Bounds.{Bounds}
 use Rattle.sci_save.specs.declared.bounds.Part.{Part}
 use Rattle.sci_save.specs.declared.bounds.Part.TheVariants.{State, Held, Cursor}
 use Rattle.sci_save.specs.Bounds.{from_to, of_type, AreWithin, AreByBlock, state_bound_of, port_bounds, AreShort, word_of, bounds_of}
 use Rattle.sci_save.specs.Text.{row_text, rows_text}
-use Rattle.sci_save.specs.Blame.{has_lf, with_lf}
 use Rattle.sci_save.specs.Numbers.{behind, start_text}
 use Rattle.sci_save.specs.Reading.{Read, ◌>>=◌, told, line_at, row_at, rows_at}
 use Rattle.sci_save.proofs.Numbers.{IsSmall, AreSmall, within_small, behind_takes, behind_again}
@@ -151,24 +146,6 @@ outs_small s k h l =
     nat_le_told (elements (port_at s.outs k)) 256 (both_true (is_known (port_at s.outs k)) (nat_le (elements (port_at s.outs k)) 256) (all_to_at (known_out s) (length s.outs) k1.1 k l)).1
 
 -- ---- lines have no LF in them
-
-both_clear : (a b : List ℕ) → has_lf a ≡ false → has_lf b ≡ false → has_lf (a ++ b) ≡ false
-both_clear a b e f = list_any-append (nat_eq 10) a b ∙ ap (λ (x : Bool). x || has_lf b) e ∙ f
-
-digit_clear : (c : ℕ) → is_ascii_digit c ≡ true → nat_eq 10 c ≡ false
-digit_clear c e = ne_eqb 10 c (λ h. let k : is_ascii_digit 10 ≡ true = ap is_ascii_digit h ∙ e in absurd (wrong k))
-  where
-    wrong : is_ascii_digit 10 ≡ true → ⊥
-    wrong k = cc
-
-digits_clear : (ds : List ℕ) → all_ascii_digits ds ≡ true → has_lf ds ≡ false
-digits_clear [] e = refl
-digits_clear (c ∷ ds) e =
-    let p = and_parts (is_ascii_digit c) (all_ascii_digits ds) e in
-    ap (λ (x : Bool). x || has_lf ds) (digit_clear c p.0) ∙ digits_clear ds p.1
-
-decimal_clear : (n : ℕ) → n < 2 ^ 64 → has_lf (decimal n) ≡ false
-decimal_clear n h = digits_clear (decimal n) (digits_decimal own n h)
 
 signed_clear : (z : ℤ) → unsigned_abs z < 2 ^ 63 → has_lf (signed_decimal z) ≡ false
 signed_clear (pos n) h = decimal_clear n (omega arith)

@@ -7,7 +7,7 @@ use Rattle.sci_base.specs.Lists.{at}
 use Rattle.std.proofs.lemmas.Bool.{and_from}
 use Rattle.sci_net.specs.Parts.{Parts}
 use Rattle.sci_net.specs.Sources.{source_of}
-use Rattle.c_parse.specs.Reading.{◌>>=◌, after}
+use Rattle.sci_text.specs.Reading.{◌>>=◌, after}
 use Rattle.sci_save.specs.declared.bounds.Bounds.{Bounds}
 use Rattle.sci_save.specs.declared.stop.LineStop.{LineStop}
 use Rattle.sci_save.specs.Bounds.{from_to, AreWithin}

@@ -5,7 +5,7 @@ use Rattle.std.proofs.lemmas.List.{drop_more, drop_all}
 use Rattle.sci_forms.specs.declared.spec.Spec.{Spec}
 use Rattle.sci_net.specs.Parts.{Parts}
 use Rattle.sci_reaction.specs.Memory.{Columns}
-use Rattle.c_parse.specs.Reading.{after}
+use Rattle.sci_text.specs.Reading.{after}
 use Rattle.sci_save.specs.declared.bounds.Part.{Part}
 use Rattle.sci_save.specs.declared.stop.LineStop.{LineStop}
 use Rattle.sci_save.specs.declared.stop.LineStop.TheVariants as stops

@@ -9,9 +9,10 @@ use Rattle.std.proofs.lemmas.Bool.{and_parts, ne_eqb, cond-false}
 use Rattle.std.proofs.lemmas.Fmt.{digits_decimal, decimal_nonempty}
 use Rattle.sci_base.proofs.FitLemmas.{int_le_yes}
 use Rattle.sci_forms.proofs.TestLemmas.{both_true, int_le_told}
-use Rattle.c_parse.specs.Reading.{◌>>=◌, after, number_at}
-use Rattle.c_parse.proofs.Parts.{bind_some, else_cases, guarded, after_takes, after_again}
-use Rattle.c_parse.proofs.Numbers.{own, no_digit, number_again, number_takes}
+use Rattle.sci_text.specs.Reading.{◌>>=◌, after}
+use Rattle.sci_text.specs.Numbers.{number_at}
+use Rattle.sci_text.proofs.Parts.{bind_some, else_cases, guarded, after_takes, after_again}
+use Rattle.sci_text.proofs.Numbers.{own, no_digit, number_again, number_takes}
 use Rattle.sci_trace.specs.Lines.{numbers}
 use Rattle.sci_save.specs.declared.bounds.Bounds.{Bounds}
 use Rattle.sci_save.specs.Bounds.{is_within, IsWithin, AreWithin}

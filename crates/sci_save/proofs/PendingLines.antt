@@ -12,16 +12,17 @@ use Rattle.sci_net.specs.Net.{IsNet}
 use Rattle.sci_net.specs.Sources.{sources_of, source_of}
 use Rattle.sci_run.specs.Anew.{Rises}
 use Rattle.sci_trace.specs.Lines.{numbers}
-use Rattle.c_parse.specs.Reading.{after}
-use Rattle.c_parse.proofs.Parts.{guarded, after_takes, after_again}
+use Rattle.sci_text.specs.Reading.{after}
+use Rattle.sci_text.specs.Lines.{with_lf}
+use Rattle.sci_text.proofs.Parts.{guarded, after_takes, after_again}
+use Rattle.sci_text.proofs.Splits.{first_line}
 use Rattle.sci_save.specs.declared.bounds.Bounds.{Bounds}
 use Rattle.sci_save.specs.Bounds.{from_to, IsWithin, AreWithin}
 use Rattle.sci_save.specs.Text.{port_numbers, event_text, events_text}
 use Rattle.sci_save.specs.Valid.{IsNear, AreOnce, ArePending}
-use Rattle.sci_save.specs.Blame.{with_lf}
 use Rattle.sci_save.specs.Reading.{Read, ◌>>=◌, told, line_at, place_of, is_port, is_free, free_place, event_of, event_bounds, event_at, or_over, events_at, unmarked, pending_at}
 use Rattle.sci_save.proofs.Numbers.{AreSmall}
-use Rattle.sci_save.proofs.Readers.{first_line, AreLines, lines_append, no_lines, IsOneLine, one_line, SameLine, bind_ok, not_both, same_count, IsReader, IsLineReader, line_alone}
+use Rattle.sci_save.proofs.Readers.{AreLines, lines_append, no_lines, IsOneLine, one_line, SameLine, bind_ok, not_both, same_count, IsReader, IsLineReader, line_alone}
 use Rattle.sci_save.proofs.BlockLines.{line_text, line_is_read, told_ok}
 use Rattle.sci_save.proofs.Sources.{IsOutput, output_of, all_small}
 

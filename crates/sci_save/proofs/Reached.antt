@@ -4,7 +4,7 @@ use Rattle.std.specs.Prelude.{nat_eq}
 use Rattle.std.specs.Int.{int_rem_euclid}
 use Rattle.std.specs.List.{AllByRecursion, list_any}
 use Rattle.std.proofs.lemmas.Int.{ints}
-use Rattle.std.proofs.lemmas.Bool.{eqb-false}
+use Rattle.std.proofs.lemmas.Bool.{eqb-false, or_parts}
 use Rattle.std.proofs.lemmas.Bool.Decides.{nat_tests}
 use Rattle.std.proofs.lemmas.List.{get_or-replicate, length-replicate}
 use Rattle.std.proofs.lemmas.Option.{slice_get_within}
@@ -45,7 +45,6 @@ use Rattle.sci_save.specs.Bounds.{from_to, IsWithin, AreWithin, AreByBlock, stat
 use Rattle.sci_save.specs.Text.{cursor_rows}
 use Rattle.sci_save.specs.Valid.{AreCursors, IsNear, AreOnce, ArePending, IsShaped, IsValid}
 use Rattle.sci_save.specs.Resumed.{IsSavedOf}
-use Rattle.sci_save.proofs.Readers.{or_parts}
 use Rattle.sci_save.proofs.InRange.{ports_total, port_at_element}
 
 -- ---- counters count below their base

@@ -1,42 +1,15 @@
 -- Readers of whole lines: what is read is spelled so, what is spelled so is read, and where reading fails.
-use Rattle.std.proofs.Common.{◌≡◌, ℕ, List, [], ◌∷◌, ◌++◌, length, Result, Ok, Err, Bool, true, false, refl, sym, ap, ap₂, ◌∙◌, subst, append_assoc, append-nil}
-use Rattle.std.specs.Prelude.{nat_eq, ◌||◌}
-use Rattle.std.proofs.lemmas.Bool.{eqb-false}
-use Rattle.sci_save.specs.Blame.{has_lf, with_lf, joined, AreClear}
+use Rattle.std.proofs.Common.{◌≡◌, ℕ, List, [], ◌∷◌, ◌++◌, length, Result, Ok, Err, false, refl, sym, ap, ap₂, ◌∙◌, subst, append_assoc, append-nil}
+use Rattle.sci_text.specs.Lines.{has_lf, with_lf, joined, AllClear}
+use Rattle.sci_text.proofs.Splits.{first_line, joined-append, clear_append}
 use Rattle.sci_save.specs.Reading.{Read, ◌>>=◌}
 
 -- ---- lines
 
-pub or_parts : (a b : Bool) → (a || b) ≡ false → (a ≡ false) × (b ≡ false)
-or_parts true b e = absurd cc
-or_parts false b e = (refl, e)
-
--- the first line of a text is one
-pub first_line : (a b x y : List ℕ) → has_lf a ≡ false → has_lf b ≡ false → with_lf a ++ x ≡ with_lf b ++ y → (a ≡ b) × (x ≡ y)
-first_line [] [] x y e f h = (refl, cc)
-first_line [] (c ∷ b) x y e f h = let p = or_parts (nat_eq 10 c) (has_lf b) f in let same : 10 ≡ c = cc in absurd (eqb-false 10 c p.0 same)
-first_line (c ∷ a) [] x y e f h = let p = or_parts (nat_eq 10 c) (has_lf a) e in let same : 10 ≡ c = cc in absurd (eqb-false 10 c p.0 same)
-first_line (c ∷ a) (d ∷ b) x y e f h =
-    let p = or_parts (nat_eq 10 c) (has_lf a) e in
-    let q = or_parts (nat_eq 10 d) (has_lf b) f in
-    let heads : c ≡ d = cc in
-    let tails : with_lf a ++ x ≡ with_lf b ++ y = cc in
-    let i = first_line a b x y p.1 q.1 tails in
-    let is = i.0 in
-    (cc, i.1)
-
-pub joined_append : (a b : List (List ℕ)) → joined (a ++ b) ≡ joined a ++ joined b
-joined_append [] b = refl
-joined_append (l ∷ ls) b = ap (λ (t : List ℕ). with_lf l ++ t) (joined_append ls b) ∙ sym (append_assoc (with_lf l) (joined ls) (joined b))
-
-pub clear_append : (a b : List (List ℕ)) → AreClear a → AreClear b → AreClear (a ++ b)
-clear_append [] b p q = q
-clear_append (l ∷ ls) b p q = (p.0, clear_append ls b p.1 q)
-
 -- whole lines
 pub record AreLines (text : List ℕ) : Type 0 where
   pub lines : List (List ℕ)
-  pub clear : AreClear lines
+  pub clear : AllClear lines
   pub text_is : text ≡ joined lines
 
 pub no_lines : AreLines []
@@ -46,7 +19,7 @@ pub lines_append : (a b : List ℕ) → AreLines a → AreLines b → AreLines (
 lines_append a b p q = record {
   lines = p.lines ++ q.lines;
   clear = clear_append p.lines q.lines p.clear q.clear;
-  text_is = ap₂ (λ (x : List ℕ) (y : List ℕ). x ++ y) p.text_is q.text_is ∙ sym (joined_append p.lines q.lines);
+  text_is = ap₂ (λ (x : List ℕ) (y : List ℕ). x ++ y) p.text_is q.text_is ∙ sym (joined-append p.lines q.lines);
 }
 
 -- one line, with its LF

@@ -1,6 +1,6 @@
 -- Which line of a text is blamed.
-use Rattle.std.specs.Prelude.{◌≡◌, ℕ, ◌+◌, List, [], ◌∷◌, ◌++◌, length, codes, Bool, false, nat_eq}
-use Rattle.std.specs.List.{list_any}
+use Rattle.std.specs.Prelude.{◌≡◌, ℕ, ◌+◌, List, ◌++◌, length, false}
+use Rattle.sci_text.specs.Lines.{has_lf, with_lf, joined, AllClear}
 use Rattle.sci_net.specs.Parts.{Parts}
 use Rattle.sci_reaction.specs.Memory.{Columns}
 use Rattle.sci_save.specs.Saved.{Saved}
@@ -19,28 +19,11 @@ pub record IsFront (n : Parts) (i : Columns) (front : List ℕ) : Type 0 where
   pub more : List ℕ
   pub text : saved_text n saved ≡ front ++ more
 
-abbrev pub has_lf : List ℕ → Bool
-has_lf bytes = list_any (nat_eq 10) bytes
-
--- a line, with its LF
-abbrev pub with_lf : List ℕ → List ℕ
-with_lf line = line ++ codes "\n"
-
--- lines with their LFs
-abbrev pub joined : List (List ℕ) → List ℕ
-joined [] = []
-joined (line ∷ lines) = with_lf line ++ joined lines
-
--- lines without a LF in them
-abbrev pub AreClear : List (List ℕ) → Type 0
-AreClear [] = Unit {0}
-AreClear (line ∷ lines) = (has_lf line ≡ false) × AreClear lines
-
 -- No text of what may be saved is these bytes. The lines before line k, counted from 1, are together the beginning of one; with line k they
 -- are not, or it has no LF, or it is missing.
 pub record IsBlamed (n : Parts) (i : Columns) (bytes : List ℕ) (k : ℕ) : Type 0 where
   pub before : List (List ℕ)
-  pub clear : AreClear before
+  pub clear : AllClear before
   pub number : k ≡ length before + 1
   pub rest : List ℕ
   pub split : bytes ≡ joined before ++ rest

@@ -1,6 +1,7 @@
 -- Numbers of a line, from left to right: what was read and the bytes behind it, or none.
 use Rattle.std.specs.Prelude.{ℕ, zero, suc, ◌^◌, ℤ, pos, negsuc, List, [], ◌∷◌, ◌++◌, codes, decimal, Option, Some, None, if◌then◌else◌}
-use Rattle.c_parse.specs.Reading.{◌>>=◌, or_else, after, number_at}
+use Rattle.sci_text.specs.Reading.{◌>>=◌, or_else, after}
+use Rattle.sci_text.specs.Numbers.{number_at}
 use Rattle.sci_save.specs.declared.bounds.Bounds.{Bounds}
 use Rattle.sci_save.specs.Bounds.{is_within}
 

@@ -7,7 +7,7 @@ use Rattle.sci_net.specs.declared.Source.TheVariants.{Start, Port}
 use Rattle.sci_net.specs.Parts.{Parts}
 use Rattle.sci_net.specs.Sources.{block_sources, sources_from, sources_of, source_of}
 use Rattle.sci_reaction.specs.Memory.{Columns}
-use Rattle.c_parse.specs.Reading.{after}
+use Rattle.sci_text.specs.Reading.{after}
 use Rattle.sci_save.specs.declared.bounds.Bounds.{Bounds}
 use Rattle.sci_save.specs.declared.stop.LineStop.{LineStop}
 use Rattle.sci_save.specs.declared.stop.LineStop.TheVariants as stops

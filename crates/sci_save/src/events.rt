@@ -7,9 +7,9 @@ ghost use Rattle.sci_save.specs.Reading.{Gives, befores, is_port, free_place, ev
 use crate::bounds::Bounds;
 use crate::line::line;
 use crate::stop::LineStop;
-use c_parse::text::after_text;
 use sci_base::NoMemory;
 use sci_net::{Net, Source};
+use sci_text::after_text;
 use std::alloc::Global;
 
 /// How many sources a block is.

@@ -7,8 +7,8 @@ ghost use Rattle.sci_save.specs.Reading.{Gives, told, line_at};
 
 use crate::bounds::Bounds;
 use crate::stop::LineStop;
-use c_parse::text::{after_text, number};
 use itoa::Buffer;
+use sci_text::{after_text, number};
 use std::alloc::Global;
 
 /// The number below 0 of this size.

@@ -1,5 +1,5 @@
 use Rattle.std.proofs.Common.{◌≡◌, false, rules}
-use Rattle.c_parse.specs.Blame.{has_lf}
+use Rattle.sci_text.specs.Lines.{has_lf}
 use Rattle.c_read.proofs.Reading.{at_next, blamed_line, finished}
 use Rattle.c_read.proofs.reader.read.Goals as goal
 

@@ -7,8 +7,7 @@ use Rattle.std.proofs.lemmas.List.{take-append-drop, drop_more, length-drop}
 use Rattle.std.proofs.lemmas.List.Quantifiers.{position-Some}
 use Rattle.std.proofs.lemmas.List.Sums.{fails_before_first}
 use Rattle.std.proofs.Math.Seq.{take-length}
-use Rattle.c_parse.specs.Blame.{has_lf, with_lf}
-use Rattle.c_read.specs.Lines.{is_lf}
+use Rattle.sci_text.specs.Lines.{is_lf, has_lf, with_lf}
 
 pub line_within : (bytes : List ℕ) (i : ℕ) → position is_lf bytes ≡ Some i → i < length bytes
 line_within bytes i e = (position-Some is_lf bytes i 0 e).0

@@ -1,0 +1,7 @@
+pub mod Parts
+pub mod Scans
+pub mod Numbers
+pub mod Splits
+pub mod Ends
+pub mod Clear
+pub mod FirstWrong

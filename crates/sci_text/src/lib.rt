@@ -1,0 +1,12 @@
+//! Texts and numbers at the front of bytes, in their one spelling, and the lines of a text.
+#![tactic(auto)]
+
+mod lines;
+mod stop;
+#[cfg(test)]
+mod tests;
+mod text;
+
+pub use lines::split_line;
+pub use stop::Stop;
+pub use text::{after_text, digits_len, number};
