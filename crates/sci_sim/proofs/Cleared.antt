@@ -1,5 +1,5 @@
 -- Where the marks of the reaction before are cleared, a net stands as it did.
-use Rattle.std.proofs.Common.{◌≡◌, Bool, ℕ, List, ⊎_elim, true, true≢false, length, sym, ap, subst, ◌∙◌, Contains, Option}
+use Rattle.std.proofs.Common.{◌≡◌, ◌<◌, Bool, ℕ, List, ⊎_elim, true, true≢false, length, sym, ap, subst, ◌∙◌, Contains, Option}
 use Rattle.sci_base.specs.declared.observation.StopWord.{StopWord}
 use Rattle.sci_net.specs.Parts.{IsBlock}
 use Rattle.sci_net.specs.Sources.{source_of}
@@ -8,24 +8,26 @@ use Rattle.sci_net.specs.declared.Source.{Source}
 use Rattle.sci_reaction.specs.Equations.{Signals}
 use Rattle.sci_reaction.proofs.Lists.{Has-cases}
 use Rattle.sci_reaction.proofs.Rows.{Contains-has, has-Contains}
+use Rattle.sci_agenda.specs.Wheel.{Wheel}
 use Rattle.sci_agenda.specs.Firing.{Meaning as Waiting}
 use Rattle.sci_bank.specs.Bank.{Meaning}
 use Rattle.sci_run.specs.Activity.{Activity, halts}
 use Rattle.sci_run.specs.Run.{State, ReactionOutcome, IsOutcome}
-use Rattle.sci_sim.specs.Marks.{mark_at, idle}
-use Rattle.sci_sim.specs.Tally.{lines_after}
-use Rattle.sci_sim.specs.Frame.{Fixed, row_in}
-use Rattle.sci_sim.specs.Store.{Standing, AreIdle, ShowsValues}
-use Rattle.sci_sim.specs.declared.marks.Mark.{Mark}
+use Rattle.sci_store.specs.Marks.{mark_at, idle}
+use Rattle.sci_store.specs.Tally.{lines_after}
+use Rattle.sci_store.specs.Frame.{Fixed}
+use Rattle.sci_store.specs.Store.{Standing, IsStore, AreIdle, ShowsValues}
+use Rattle.sci_store.specs.declared.marks.Mark.{Mark}
+use Rattle.sci_sim.specs.Rows.{Row, row_in}
 use Rattle.sci_sim.specs.At.{IsAt, IsReady, Running}
 use Rattle.sci_sim.specs.Reacting.{ShowsFiring, IsReacted, AreMarksOf, seen_in}
-use Rattle.sci_sim.specs.Written.{AreAmong, sum_of}
+use Rattle.sci_store.specs.Written.{AreAmong, sum_of}
 
 -- no block is marked: those of the last row are cleared, and no other was
-pub all_idle : (f : Fixed) (k : ℕ) (s t : Standing) → ((b : ℕ) → Contains (row_in f k).blocks b → mark_at t.marks b ≡ idle) → ((b : ℕ) → mark_at s.marks b ≡ idle → mark_at t.marks b ≡ idle)
-    → ((b : ℕ) → IsBlock f.net b → (Contains (row_in f k).blocks b → ⊥) → mark_at s.marks b ≡ idle) → AreIdle f t
-all_idle f k s t cleared others marked b block =
-    ⊎_elim (λ h. cleared b (has-Contains (row_in f k).blocks b h)) (λ h. others b (marked b block (λ c. h (Contains-has (row_in f k).blocks b c)))) (Has-cases (row_in f k).blocks b)
+pub all_idle : (f : Fixed) (blocks : List ℕ) (s t : Standing) → ((b : ℕ) → Contains blocks b → mark_at t.marks b ≡ idle) → ((b : ℕ) → mark_at s.marks b ≡ idle → mark_at t.marks b ≡ idle)
+    → ((b : ℕ) → IsBlock f.net b → (Contains blocks b → ⊥) → mark_at s.marks b ≡ idle) → AreIdle f t
+all_idle f blocks s t cleared others marked b block =
+    ⊎_elim (λ h. cleared b (has-Contains blocks b h)) (λ h. others b (marked b block (λ c. h (Contains-has blocks b c)))) (Has-cases blocks b)
 
 -- what a reaction comes to, by the view
 pub outcome_in : (r v : Running) → v ≡ r → (i : Columns) (source : ℕ) (st : State) (o : ReactionOutcome) → IsOutcome v.fixed.net i v.now (source_of v.fixed.net source) st o
@@ -40,29 +42,46 @@ module _ (r v : Running) (t : Standing) (is : v ≡ r) (cleared : t ≡ record v
       subst (λ (x : Standing). ShowsFiring v.fixed x banks v.wheel.meaning v.wheel.puts v.offset v.now st) (sym cleared)
       (record { seated = s.seated; memory = record { held = s.memory.held; cursor = s.memory.cursor; state = s.memory.state }; in_range = s.in_range; pending = s.pending; counts = s.counts })
 
-  pub reacted_cleared : (source : ℕ) (new : Standing) (later : List Meaning) (waiting : Waiting) (puts : ℕ) (o : ReactionOutcome) (stop : Option StopWord)
-      → IsReacted v.fixed source t new banks later waiting puts v.offset o stop → IsReacted r.fixed source r.store new banks later waiting puts r.offset o stop
-  reacted_cleared source new later waiting puts o stop h =
-      subst (λ (x : Running). IsReacted x.fixed source x.store new banks later waiting puts x.offset o stop) is (record {
+  pub reacted_cleared : (source : ℕ) (row : Row) → row ≡ row_in r.rows source → (new : Standing) (later : List Meaning) (waiting : Waiting) (puts : ℕ) (o : ReactionOutcome) (stop : Option StopWord)
+      → IsReacted v.fixed source row t new banks later waiting puts v.offset o stop → IsReacted r.fixed source (row_in r.rows source) r.store new banks later waiting puts r.offset o stop
+  reacted_cleared source row kept new later waiting puts o stop h =
+      subst (λ (w : Row). IsReacted r.fixed source w r.store new banks later waiting puts r.offset o stop) kept
+      (subst (λ (x : Running). IsReacted x.fixed source row x.store new banks later waiting puts x.offset o stop) is (record {
         stops = h.stops;
         leads = h.leads;
         tallied = record {
           lines = h.tallied.lines ∙ ap (λ (x : Standing). lines_after x.lines (length (seen_in o))) cleared;
           sum = h.tallied.sum ∙ ap (λ (x : Standing). sum_of x.sum (seen_in o)) cleared;
         };
-      })
+      }))
 
 -- whether a HALT_f was active, as the view tells it
-pub halted_in : (r v : Running) → v ≡ r → (source : ℕ) (new : Standing) (after : State) (result : Bool) → AreMarksOf r.fixed source new after
-    → ((s : Source) (y : Signals) (active : Activity) → ShowsValues v.fixed s new y active → AreAmong v.fixed.net active (row_in v.fixed source).blocks → result ≡ halts v.fixed.net active)
+pub halted_in : (r v : Running) → v ≡ r → (source : ℕ) (blocks : List ℕ) → blocks ≡ (row_in r.rows source).blocks → (new : Standing) (after : State) (result : Bool)
+    → AreMarksOf r.fixed source (row_in r.rows source) new after
+    → ((s : Source) (y : Signals) (active : Activity) → ShowsValues v.fixed s new y active → AreAmong v.fixed.net active blocks → result ≡ halts v.fixed.net active)
     → result ≡ halts r.fixed.net after.active
-halted_in r v is source new after result marks h =
-    let m = subst (λ (x : Running). AreMarksOf x.fixed source new after) (sym is) marks in
-    subst (λ (x : Running). result ≡ halts x.fixed.net after.active) is (h (source_of v.fixed.net source) m.y after.active m.shown m.among)
+halted_in r v is source blocks same new after result marks h =
+    let f : Fixed = v.fixed in
+    let e : f ≡ r.fixed = ap (λ (x : Running). x.fixed) is in
+    let shown = subst (λ (x : Fixed). ShowsValues x (source_of x.net source) new marks.y after.active) (sym e) marks.shown in
+    let among = subst (λ (x : Fixed). AreAmong x.net after.active blocks) (sym e) (subst (AreAmong r.fixed.net after.active) (sym same) marks.among) in
+    subst (λ (x : Fixed). result ≡ halts x.net after.active) e (h (source_of f.net source) marks.y after.active shown among)
+
+-- behind a reaction what is kept holds again: only blocks of its source's row are marked
+pub ready_behind : (v : Running) (source : ℕ) (row : Row) (t : Standing) (w : Wheel) (halted : Bool) → IsReady v → source < length v.rows → row ≡ row_in v.rows source
+    → IsStore v.fixed t → ((b : ℕ) → IsBlock v.fixed.net b → (Contains row.blocks b → ⊥) → mark_at t.marks b ≡ idle)
+    → IsReady (record v { store = t; wheel = w; row = source; halted = halted })
+ready_behind v source row t w halted h within kept store marked = record {
+  frame = h.frame;
+  rows = h.rows;
+  store = store;
+  row = within;
+  marked = subst (λ (x : Row). (b : ℕ) → IsBlock v.fixed.net b → (Contains x.blocks b → ⊥) → mark_at t.marks b ≡ idle) kept marked;
+}
 
 -- the blocks that the last reaction activated are in its source's row
-pub active_in_row : (r : Running) (banks : List Meaning) (st : State) → IsReady r → IsAt r banks st → (b : ℕ) → IsBlock r.fixed.net b → st.active b ≡ true → Contains (row_in r.fixed r.row).blocks b
+pub active_in_row : (r : Running) (banks : List Meaning) (st : State) → IsReady r → IsAt r banks st → (b : ℕ) → IsBlock r.fixed.net b → st.active b ≡ true → Contains (row_in r.rows r.row).blocks b
 active_in_row r banks st ready at b block on =
-    ⊎_elim (λ h. has-Contains (row_in r.fixed r.row).blocks b h)
-    (λ h. absurd (true≢false (sym on ∙ sym (at.active b block) ∙ ap (λ (m : Mark). m.active) (ready.marked b block (λ c. h (Contains-has (row_in r.fixed r.row).blocks b c))))))
-    (Has-cases (row_in r.fixed r.row).blocks b)
+    ⊎_elim (λ h. has-Contains (row_in r.rows r.row).blocks b h)
+    (λ h. absurd (true≢false (sym on ∙ sym (at.active b block) ∙ ap (λ (m : Mark). m.active) (ready.marked b block (λ c. h (Contains-has (row_in r.rows r.row).blocks b c))))))
+    (Has-cases (row_in r.rows r.row).blocks b)

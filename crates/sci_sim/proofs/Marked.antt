@@ -8,8 +8,8 @@ use Rattle.sci_reaction.specs.Schedule.{Guard}
 use Rattle.sci_sched.specs.declared.schedule.Guard.{Guard as Kept}
 use Rattle.sci_sched.specs.declared.schedule.Entry.{Entry}
 use Rattle.sci_sched.specs.Plain.{guard_of, guards_of, entry_of}
-use Rattle.sci_sim.specs.declared.marks.Mark.{Mark}
-use Rattle.sci_sim.specs.Marks.{HasMark, is_taken, with_guards, activation}
+use Rattle.sci_store.specs.declared.marks.Mark.{Mark}
+use Rattle.sci_sim.specs.Entries.{HasMark, is_taken, with_guards, activation}
 
 pub guard_has : (marks : List Mark) (gs : List Kept) (k : ℕ) (d : Kept) → All (HasMark marks) (guards_of gs) → k < length gs
     → HasMark marks (guard_of (get_or gs k d))

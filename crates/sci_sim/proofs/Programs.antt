@@ -44,7 +44,7 @@ firing_small n q h = let small = typed_firing (spec_of n q.block) q.port h in om
 -- ---- dates that are less
 
 -- none falls due before this date
-abbrev AreFrom : ℕ → List (ℕ × ℕ) → Type 0
+abbrev pub AreFrom : ℕ → List (ℕ × ℕ) → Type 0
 AreFrom k [] = Unit {0}
 AreFrom k (e ∷ es) = (k ≤ e.0) × AreFrom k es
 
@@ -86,7 +86,7 @@ from_put k e (x ∷ xs) h all =
     by_cases (is_earlier e x) (λ (l : List Event). AreFrom k (map due l)) (e ∷ x ∷ xs) (x ∷ put_sorted e xs) (λ _. (h, all))
     (λ _. (all.0, from_put k e xs h all.1))
 
-from_sorted : (k : ℕ) (es : List Event) → All (λ e. k ≤ e.date) es → AreFrom k (in_order es)
+pub from_sorted : (k : ℕ) (es : List Event) → All (λ e. k ≤ e.date) es → AreFrom k (in_order es)
 from_sorted k [] h = tt
 from_sorted k (e ∷ es) h =
     from_put k e (sorted es) (h 0 e (omega arith)) (from_sorted k es (λ j d l. h (suc j) d (omega (arith, l))))

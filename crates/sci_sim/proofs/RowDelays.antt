@@ -1,44 +1,33 @@
 -- The active blocks of a row program what the run says.
-use Rattle.std.proofs.Common.{◌≡◌, ℕ, zero, suc, ◌+◌, ◌-◌, ◌<◌, ◌≤◌, Bool, true, false, true≢false, ◌&&◌, ◌⊎◌, inl, inr, ℤ, pos, negsuc, List, [], ◌∷◌, ◌++◌, AllPairs, Contains, length, take, get_or, if◌then◌else◌, refl, sym, ◌∙◌, ap, subst, arith}
-use Rattle.std.specs.Prelude.{◌<ℤ◌, ◌≤ℤ◌, ⊤}
-use Rattle.std.proofs.lemmas.Int.{ints}
-use Rattle.std.proofs.lemmas.List.{get_or-map, length-map}
+use Rattle.std.proofs.Common.{◌≡◌, ℕ, zero, suc, ◌+◌, ◌-◌, ◌<◌, ◌≤◌, Bool, true, false, true≢false, ◌&&◌, ◌⊎◌, inl, inr, ℤ, negsuc, List, [], ◌∷◌, ◌++◌, AllPairs, Contains, length, take, get_or, if◌then◌else◌, refl, sym, ◌∙◌, ap, subst, arith}
 use Rattle.sci_base.specs.Lists.{at, listed}
 use Rattle.sci_forms.specs.declared.Kind.{Kind}
 use Rattle.sci_forms.specs.declared.Kind.TheVariants.{EvtDly, EvtVarDly}
 use Rattle.sci_forms.specs.declared.ports.Port.{Port as Signal}
 use Rattle.sci_forms.specs.declared.spec.Spec.{Spec}
 use Rattle.sci_forms.specs.Forms.{is_sync, has_delay}
-use Rattle.sci_forms.specs.Ports.{elements, Fills}
-use Rattle.sci_kinds.specs.Asks.{laid, entering_of, entering}
+use Rattle.sci_forms.specs.Ports.{elements}
+use Rattle.sci_kinds.specs.Asks.{laid}
 use Rattle.sci_kinds.specs.Table.{delay}
-use Rattle.sci_kinds.proofs.LawProofs.{delay_law}
 use Rattle.sci_net.specs.declared.Feed.{Feed}
 use Rattle.sci_net.specs.declared.Source.{Source}
 use Rattle.sci_net.specs.Parts.{Parts, IsBlock, spec_of, wire_of}
 use Rattle.sci_net.specs.Net.{IsNet}
 use Rattle.sci_net.specs.Sources.{ports_to, block_sources, sources_from, sources_of, source_of}
 use Rattle.sci_net.proofs.TypedSpecs.{all_typed, sources_few}
-use Rattle.sci_reaction.specs.Equations.{Signals, AreInRange, output_among, input_in, all_inputs}
-use Rattle.sci_reaction.specs.Schedule.{IsRow}
-use Rattle.sci_reaction.proofs.Fills.{inputs_in_range}
+use Rattle.sci_reaction.specs.Equations.{Signals, output_among, input_in, all_inputs}
 use Rattle.sci_reaction.proofs.Lists.{cons-Contains, and_both, and_true}
-use Rattle.sci_reaction.proofs.Spreading.{Spread-block}
-use Rattle.sci_pass.specs.State.{AreAlike}
-use Rattle.sci_pass.proofs.Meanings.{no_delay, same_but_state}
+use Rattle.sci_pass.proofs.Meanings.{no_delay}
 use Rattle.sci_pending.specs.Pending.{Pending}
 use Rattle.sci_run.specs.Activity.{Activity}
 use Rattle.sci_run.specs.Programs.{with_delays, delay_of, next_pending}
 use Rattle.sci_places.specs.Flat.{values_at}
-use Rattle.sci_bank.specs.Bank.{Meaning, spec_at}
-use Rattle.sci_bank.specs.Library.{bank_of}
-use Rattle.sci_bank.proofs.LibraryLemmas.{kind_of-bank, Holds-full}
-use Rattle.sci_sim.specs.Marks.{mark_at}
-use Rattle.sci_sim.specs.Rows.{Row, no_row}
-use Rattle.sci_sim.specs.Frame.{Fixed, row_in, seat_of, IsFrame, AreSeated, instance_of}
-use Rattle.sci_sim.specs.Store.{Standing, ShowsValues}
-use Rattle.sci_sim.specs.Written.{AreAmong}
-use Rattle.sci_sim.specs.Programming.{delays_in}
+use Rattle.sci_store.specs.Marks.{mark_at}
+use Rattle.sci_store.specs.Blocks.{AreBlocksByNumber}
+use Rattle.sci_store.specs.Frame.{Fixed, seat_of, IsFrame}
+use Rattle.sci_store.specs.Store.{Standing, ShowsValues}
+use Rattle.sci_store.specs.Written.{AreAmong}
+use Rattle.sci_store.specs.Delays.{delays_in}
 use Rattle.sci_sim.proofs.Delays.{source_at, sources_to, same_blocks, Rises, one, over, over_more, over_all}
 
 -- ---- kinds with delays
@@ -47,11 +36,6 @@ not_sync : (k : Kind) → has_delay k ≡ true → is_sync k ≡ false
 not_sync EvtDly h = refl
 not_sync EvtVarDly h = refl
 not_sync _ h = absurd (true≢false (sym h))
-
-plain_inputs : (k : Kind) (s : Spec) → has_delay k ≡ true → entering_of k s ≡ s.ins
-plain_inputs EvtDly s h = refl
-plain_inputs EvtVarDly s h = refl
-plain_inputs _ s h = absurd (true≢false (sym h))
 
 off_of : (t active : Bool) (d : ℤ) → (t && active) ≡ false → (t ≡ false → d ≡ negsuc 0) → (if active then d else negsuc 0) ≡ negsuc 0
 off_of t false d h none = refl
@@ -107,40 +91,6 @@ module _ (f : Fixed) (frame : IsFrame f) (b : ℕ) (block : IsBlock f.net b) (de
   pub own_ports : (date : ℕ) (g : Feed → ℤ) (k : ℕ) (p : Pending)
       → with_delays date g k (ports_to b (spec_of f.net b).evtout) p ≡ with_delays date g k (block_sources b (spec_of f.net b)) p
   own_ports date g k p = ap (λ (t : Bool). with_delays date g k (if t then [] else ports_to b (spec_of f.net b).evtout) p) (sym sync)
-
-  module _ (banks : List Meaning) (seated : AreSeated f banks) where
-    alike : AreAlike (spec_of f.net b) (instance_of f banks b).spec
-    alike = same_but_state (spec_of f.net b) (instance_of f banks b).spec (seated.specs b block)
-
-    pub bank_delays : has_delay (bank_of banks (seat_of f b).kind).kind ≡ true
-    bank_delays =
-        ap has_delay (kind_of-bank banks (seat_of f b).kind seated.in_order (Holds-full banks (seat_of f b).kind seated.full))
-        ∙ (ap has_delay (frame.seated b block).kind ∙ delayed)
-
-    pub filled : (y : Signals) (vs : List ℤ) → AreInRange f.net y → vs ≡ all_inputs (spec_of f.net b) (input_in f.net y b)
-        → Fills (entering (spec_at (bank_of banks (seat_of f b).kind) (seat_of f b).slot)) vs
-    filled y vs range e =
-        subst (λ (ps : List Signal). Fills ps vs) (sym (plain_inputs (spec_of f.net b).kind (spec_of f.net b) delayed) ∙ alike.entering)
-        (subst (Fills (spec_of f.net b).ins) (sym e) (inputs_in_range f.net frame.net y b block range))
-
-    pub delay_is : (p : ℕ) (u : List ℤ) → delay (spec_at (bank_of banks (seat_of f b).kind) (seat_of f b).slot) p u ≡ delay (spec_of f.net b) p u
-    delay_is p u = sym (alike.delay p u)
-
-    pub delay_small : (p : ℕ) (u : List ℤ) → delay (spec_at (bank_of banks (seat_of f b).kind) (seat_of f b).slot) p u <ℤ pos 2147483648
-    delay_small p u =
-        subst (λ (d : ℤ). d <ℤ pos 2147483648) (alike.delay p u)
-        (below (delay (spec_of f.net b) p u) (delay_law (spec_of f.net b) p u (frame.net.typed_specs b block)).1)
-      where
-        below : (d : ℤ) → d ≤ℤ pos 2147483647 → d <ℤ pos 2147483648
-        below d h = omega (arith, ints, h)
-
-    -- on the values on its inputs, where it is active
-    pub delay_in : (s : Standing) (vs : List ℤ) (i : ℕ) → (mark_at s.marks b).active ≡ true
-        → vs ≡ all_inputs (spec_of f.net b) (input_in f.net (values_at f.net s.values) b)
-        → delay (spec_at (bank_of banks (seat_of f b).kind) (seat_of f b).slot) i vs ≡ delays_in f s (record { block = b; port = i })
-    delay_in s vs i active e =
-        delay_is i vs ∙ (ap (λ u. delay (spec_of f.net b) i u) e
-        ∙ sym (ap (λ t. if t then delay (spec_of f.net b) i (all_inputs (spec_of f.net b) (input_in f.net (values_at f.net s.values) b)) else negsuc 0) active))
 
 -- ---- the blocks of a row
 
@@ -215,17 +165,8 @@ rises_of most r (b ∷ bs) pairs each =
     )
 
 module _ (f : Fixed) (frame : IsFrame f) where
-  row_entries : (k : ℕ) → k < length f.rows → IsRow f.net (source_of f.net k) (row_in f k).entries
-  row_entries k h =
-      let long = length-map f.rows (λ (r : Row). r.entries) in
-      subst (IsRow f.net (source_of f.net k)) (get_or-map (λ (r : Row). r.entries) f.rows k no_row [] h) (frame.schedule.each k (omega (arith, h, long)))
-
-  pub row_block : (k b : ℕ) → k < length f.rows → Contains (row_in f k).blocks b → IsBlock f.net b
-  row_block k b h has = Spread-block f.net (source_of f.net k) (λ c p. ⊤) (((row_entries k h).exactly b).0 (((frame.by_number k h).same b).0 has))
-
-  row_rises : (k : ℕ) → k < length f.rows → Rises (length f.net.specs) 0 (row_in f k).blocks
-  row_rises k h =
-      rises_of (length f.net.specs) 0 (row_in f k).blocks (frame.by_number k h).rising (λ c has. let b = row_block k c h has in (b.least, b.most))
+  row_rises : (blocks : List ℕ) → AreBlocksByNumber f.net blocks → Rises (length f.net.specs) 0 blocks
+  row_rises blocks h = rises_of (length f.net.specs) 0 blocks h.rising (λ c has. let b = h.blocks c has in (b.least, b.most))
 
   first_is : (b : ℕ) → IsBlock f.net (suc b) → has_delay (spec_of f.net (suc b)).kind ≡ true → 1 ≤ (spec_of f.net (suc b)).evtout
       → first_of f (suc b) ≡ length (sources_to f.net b)
@@ -264,9 +205,9 @@ module _ (f : Fixed) (frame : IsFrame f) where
           ∙ ap (λ (u : List ℤ). if active q.block then delay spec q.port u else negsuc 0)
           (inputs_same f.net (values_at f.net s.values) y frame.net shown.values q.block block)
 
-      pub row_all : (k : ℕ) (blocks : List ℕ) (p : Pending) → k < length f.rows → blocks ≡ (row_in f k).blocks → AreAmong f.net active blocks
+      pub row_all : (blocks : List ℕ) (p : Pending) → AreBlocksByNumber f.net blocks → AreAmong f.net active blocks
           → row_programmed f s date blocks p ≡ next_pending f.net date y active p
-      row_all k blocks p h e among =
-          over_all f.net date (delays_in f s) (programs f s) (first_of f) off placed blocks p (subst (Rises (length f.net.specs) 0) (sym e) (row_rises k h))
+      row_all blocks p by_number among =
+          over_all f.net date (delays_in f s) (programs f s) (first_of f) off placed blocks p (row_rises blocks by_number)
           (λ c block is_on. among c block (sym (shown.active_are c block) ∙ (and_both (has_delay (spec_of f.net c).kind) (mark_at s.marks c).active is_on).1))
           ∙ same_blocks f.net date (delays_in f s) (delay_of f.net y active) p shown_delays

@@ -27,14 +27,14 @@ use Rattle.sci_sim.specs.declared.end.RunEnd.{RunEnd}
 use Rattle.sci_sim.specs.declared.end.RunEnd.TheVariants.{End as Ended, Stop as Stopped}
 use Rattle.sci_sim.specs.declared.end.Step.{Step}
 use Rattle.sci_sim.specs.declared.end.Step.TheVariants.{More, Over as IsOver}
-use Rattle.sci_sim.specs.Frame.{Fixed, IsFrame}
-use Rattle.sci_sim.specs.Store.{Standing}
-use Rattle.sci_sim.specs.Tally.{lines_after}
-use Rattle.sci_sim.specs.Written.{sum_of}
+use Rattle.sci_store.specs.Frame.{Fixed, IsFrame}
+use Rattle.sci_store.specs.Store.{Standing}
+use Rattle.sci_store.specs.Tally.{lines_after}
+use Rattle.sci_store.specs.Written.{sum_of}
 use Rattle.sci_sim.specs.At.{Running, IsAt, IsAtStart, IsTallied, AreTallied}
 use Rattle.sci_sim.specs.Reacting.{FiresNext, start as at_start, event as by_event}
 use Rattle.sci_sim.specs.Steps.{end_seen, step_of, step_seen, IsStep, IsFiring, start, event, IsFinished}
-use Rattle.sci_sim.proofs.Writing.{lines_twice, sum_twice, text-append}
+use Rattle.sci_store.proofs.Writing.{lines_twice, sum_twice, text-append}
 
 -- ---- the net in the midst of a run
 
@@ -172,11 +172,11 @@ one_more old false was is k n h g z = absurd (cc n)
 pub start_on_way : (i : Columns) (until limit : ℕ) (r : Running) (banks : List Meaning) (s : SinkState) → IsAtStart r.fixed.net r banks → IsOnWay i until limit r r banks s s 0
 start_on_way i until limit r banks s h = record { seen = []; before = inl (h, refl); fixed = refl; offset = refl; steps = none_yet r.started r.fired h.not_started; written = nothing_due s tt }
 
-some_event : (d : Decision) → step_of d ≡ More → (e : Event) × (d ≡ Fires e)
+pub some_event : (d : Decision) → step_of d ≡ More → (e : Event) × (d ≡ Fires e)
 some_event (Over word) h = absurd (cc h)
 some_event (Fires e) h = (e, refl)
 
-the_end : (d : Decision) (end : RunEnd) → step_of d ≡ IsOver end → (word : EndWord) × (d ≡ Over word) × (end ≡ Ended word)
+pub the_end : (d : Decision) (end : RunEnd) → step_of d ≡ IsOver end → (word : EndWord) × (d ≡ Over word) × (end ≡ Ended word)
 the_end (Over word) end h = (word, refl, cc h)
 the_end (Fires e) end h = absurd (cc h)
 

@@ -5,68 +5,46 @@ use Rattle.std.proofs.lemmas.List.{length-map}
 use Rattle.std.proofs.lemmas.List.Elements.{All-get_or, All-map}
 use Rattle.sci_forms.specs.declared.spec.Spec.{Spec}
 use Rattle.sci_forms.specs.Names.{number_of}
-use Rattle.sci_kinds.specs.Table.{state_len}
-use Rattle.sci_net.specs.Parts.{Parts, IsBlock, spec_of}
-use Rattle.sci_net.specs.Net.{IsNet}
+use Rattle.sci_net.specs.Parts.{Parts, IsBlock}
 use Rattle.sci_reaction.specs.Memory.{first_memory}
 use Rattle.sci_reaction.specs.Schedule.{Entry, blocks_of, IsSchedule}
 use Rattle.sci_reaction.proofs.Next.{first_in_range}
-use Rattle.sci_pass.specs.State.{IsSameButState}
 use Rattle.sci_run.specs.Activity.{halts_from}
 use Rattle.sci_run.specs.Counts.{activations_from}
 use Rattle.sci_run.specs.Programs.{first_pending}
 use Rattle.sci_sched.specs.Answer.{IsPlan}
 use Rattle.sci_places.specs.Flat.{values_at}
-use Rattle.sci_places.specs.Layout.{Layout, IsLayout}
 use Rattle.sci_agenda.specs.Wheel.{Wheel}
 use Rattle.sci_bank.specs.declared.rows.Row.{Row as Instance}
 use Rattle.sci_bank.specs.Bank.{Meaning}
 use Rattle.sci_bank.specs.Library.{AreInOrder, IsFull}
-use Rattle.sci_sim.specs.declared.frame.Row.{Row as Kept}
-use Rattle.sci_sim.specs.declared.seats.Seat.{Seat}
-use Rattle.sci_sim.specs.declared.marks.Mark.{Mark}
-use Rattle.sci_sim.specs.Rows.{Row, row_of, no_row, AreRows, AreByNumber}
-use Rattle.sci_sim.specs.Frame.{Fixed, IsFrame, AreSeated}
-use Rattle.sci_sim.specs.Seating.{IsSeating}
-use Rattle.sci_sim.specs.Store.{Standing, IsStore, AreIdle, cursor_at}
+use Rattle.sci_sim.specs.declared.rows.Row.{Row as Kept}
+use Rattle.sci_store.specs.declared.marks.Mark.{Mark}
+use Rattle.sci_sim.specs.Rows.{Row, row_of, no_row, AreRows, AreByNumber, AreRowsOf}
+use Rattle.sci_store.specs.Frame.{Fixed, IsFrame}
+use Rattle.sci_store.specs.Seating.{IsSeating}
+use Rattle.sci_store.specs.Store.{Standing, IsStore, AreIdle, cursor_at}
+use Rattle.sci_store.proofs.Starting.{seats_are}
 use Rattle.sci_sim.specs.Programming.{Keeps}
 use Rattle.sci_sim.specs.At.{Running, IsReady, IsAtStart}
 
--- ---- what stays
+-- ---- the rows
 
 entries_kept : (rows : List Kept) → map (λ (r : Row). r.entries) (map row_of rows) ≡ map (λ (r : Kept). (row_of r).entries) rows
 entries_kept [] = refl
 entries_kept (r ∷ rows) = ap (λ es. (row_of r).entries ∷ es) (entries_kept rows)
 
-abbrev pub fixed_of : Parts → List Kept → Layout → List Seat → Fixed
-fixed_of n rows layout seats = record { net = n; rows = map row_of rows; layout = layout; seats = seats }
-
-pub frame_is : (n : Parts) (rows : List Kept) (plan : List (List Entry)) (layout : Layout) (seats : List Seat) (banks : List Meaning) → IsNet n → IsPlan n plan
-    → map (λ (r : Kept). (row_of r).entries) rows ≡ plan → AreRows rows → IsLayout n layout → IsSeating n seats banks → IsFrame (fixed_of n rows layout seats)
-frame_is n rows plan layout seats banks net is e sorted laid seated = record {
-  net = net;
-  free = is.free;
+pub rows_are : (n : Parts) (rows : List Kept) (plan : List (List Entry)) → IsPlan n plan → map (λ (r : Kept). (row_of r).entries) rows ≡ plan → AreRows rows
+    → AreRowsOf n (map row_of rows)
+rows_are n rows plan is e sorted = record {
   schedule = subst (IsSchedule n) (sym (entries_kept rows ∙ e)) is.schedule;
   by_number = λ k l. All-get_or (λ (r : Row). AreByNumber (blocks_of r.entries) r.blocks) (map row_of rows) k no_row l
       (All-map (λ (r : Row). AreByNumber (blocks_of r.entries) r.blocks) row_of rows sorted);
-  layout = laid;
-  one_seat_each = seated.one_each;
-  seated = seated.seats_are;
 }
 
 -- the first source is start
-pub first_row_within : (f : Fixed) → IsFrame f → 0 < length f.rows
-first_row_within f h = let l = length-map f.rows (λ (r : Row). r.entries) in omega (arith, l, h.schedule.enough)
-
-pub seats_are : (f : Fixed) (banks : List Meaning) → IsFull banks → AreInOrder banks → IsSeating f.net f.seats banks → AreSeated f banks
-seats_are f banks full order h = record {
-  full = full;
-  in_order = order;
-  known = h.known;
-  specs = λ b block. subst (λ (r : Instance). IsSameButState (spec_of f.net b) r.spec) (sym (h.rows b block)) refl;
-  lengths = λ b block. ap (λ (r : Instance). state_len r.spec) (sym (h.rows b block));
-  apart = h.apart;
-}
+pub first_row_within : (n : Parts) (rows : List Row) → AreRowsOf n rows → 0 < length rows
+first_row_within n rows h = let l = length-map rows (λ (r : Row). r.entries) in omega (arith, l, h.schedule.enough)
 
 -- ---- the state before the run
 
@@ -74,26 +52,26 @@ no_call : (t : Bool) → ◌≡◌ {A = ℕ} (cond t 0 0) 0
 no_call true = refl
 no_call false = refl
 
-no_activations : (counts : Spec → Bool) (b : ℕ) (ss : List Spec) → activations_from counts b ss (λ c. 0) ≡ 0
+pub no_activations : (counts : Spec → Bool) (b : ℕ) (ss : List Spec) → activations_from counts b ss (λ c. 0) ≡ 0
 no_activations counts b [] = refl
 no_activations counts b (s ∷ ss) = let here = no_call (counts s) in let rest = no_activations counts (b + 1) ss in omega (arith, here, rest)
 
-no_halt : (b : ℕ) (ss : List Spec) → false ≡ halts_from b ss (λ c. false)
+pub no_halt : (b : ℕ) (ss : List Spec) → false ≡ halts_from b ss (λ c. false)
 no_halt b [] = refl
 no_halt b (s ∷ ss) = no_halt (b + 1) ss
 
-abbrev pub at_rest : Fixed → Standing → Wheel → Running
-at_rest f s w = record { fixed = f; store = s; wheel = w; offset = 0; now = 0; fired = 0; row = 0; started = false; halted = false }
+abbrev pub at_rest : Fixed → List Row → Standing → Wheel → Running
+at_rest f rows s w = record { fixed = f; rows = rows; store = s; wheel = w; offset = 0; now = 0; fired = 0; row = 0; started = false; halted = false }
 
-module _ (f : Fixed) (s : Standing) (w : Wheel) (frame : IsFrame f) (store : IsStore f s) (idle : AreIdle f s) where
-  pub ready_is : IsReady (at_rest f s w)
-  ready_is = record { frame = frame; store = store; row = first_row_within f frame; marked = λ b block out. idle b block }
+module _ (f : Fixed) (rows : List Row) (s : Standing) (w : Wheel) (frame : IsFrame f) (store : IsStore f s) (idle : AreIdle f s) where
+  pub ready_is : AreRowsOf f.net rows → IsReady (at_rest f rows s w)
+  ready_is are = record { frame = frame; rows = are; store = store; row = first_row_within f.net rows are; marked = λ b block out. idle b block }
 
-  pub start_is : (banks : List Meaning) → IsFull banks → AreInOrder banks → IsSeating f.net f.seats banks
+  pub start_is : (n : Parts) → f.net ≡ n → (banks : List Meaning) → IsFull banks → AreInOrder banks → IsSeating f.net f.seats banks
       → ((b : ℕ) → IsBlock f.net b → values_at f.net s.values b ≡ (first_memory f.net).held b) → ((b : ℕ) → IsBlock f.net b → cursor_at s b ≡ 0)
       → s.lines ≡ 0 → s.sum ≡ 0
-      → Keeps f.net 0 0 w.meaning w.puts (first_pending f.net) → IsAtStart f.net (at_rest f s w) banks
-  start_is banks full order seated held cursors lines sum keeps = record {
+      → Keeps n 0 0 w.meaning w.puts (first_pending n) → IsAtStart n (at_rest f rows s w) banks
+  start_is n same banks full order seated held cursors lines sum keeps = subst (λ (m : Parts). IsAtStart m (at_rest f rows s w) banks) same (record {
     net = refl;
     not_started = refl;
     at = record {
@@ -101,7 +79,7 @@ module _ (f : Fixed) (s : Standing) (w : Wheel) (frame : IsFrame f) (store : IsS
         seated = seats_are f banks full order seated;
         memory = record { held = held; cursor = cursors; state = λ b block. ap (λ (r : Instance). r.state) (seated.rows b block) };
         in_range = first_in_range f.net frame.net;
-        pending = keeps;
+        pending = subst (λ (m : Parts). Keeps m 0 0 w.meaning w.puts (first_pending m)) (sym same) keeps;
         counts = λ k.
             let none = no_activations (λ (t : Spec). number_of t.kind == number_of k) 1 f.net.specs in
             let calls = seated.counts k in
@@ -117,4 +95,4 @@ module _ (f : Fixed) (s : Standing) (w : Wheel) (frame : IsFrame f) (store : IsS
     row = refl;
     lines = lines;
     sum = sum;
-  }
+  })

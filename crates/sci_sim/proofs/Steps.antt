@@ -23,14 +23,15 @@ use Rattle.sci_bank.specs.Library.{bank_of}
 use Rattle.sci_sim.specs.declared.end.RunEnd.TheVariants.{End as Ended, Stop as Stopped}
 use Rattle.sci_sim.specs.declared.end.Step.{Step}
 use Rattle.sci_sim.specs.declared.end.Step.TheVariants.{More, Over as IsOver}
-use Rattle.sci_sim.specs.Frame.{Fixed}
-use Rattle.sci_sim.specs.Store.{Standing, AreCountedWithin, active_of}
-use Rattle.sci_sim.specs.Tally.{lines_after}
-use Rattle.sci_sim.specs.Written.{sum_of, tallied}
+use Rattle.sci_store.specs.Frame.{Fixed}
+use Rattle.sci_store.specs.Store.{Standing, AreCountedWithin, active_of}
+use Rattle.sci_store.specs.Tally.{lines_after}
+use Rattle.sci_store.specs.Written.{sum_of, tallied}
+use Rattle.sci_sim.specs.Rows.{row_in}
 use Rattle.sci_sim.specs.At.{Running, IsReady, Shows, IsAt, AreTallied}
 use Rattle.sci_sim.specs.Reacting.{ShowsFiring, HasSetOut, AreMarksOf, IsReacted, IsStopOf, seen_in}
 use Rattle.sci_sim.specs.Steps.{end_due, end_seen, step_of, step_seen, AreCountedToStop, IsStep}
-use Rattle.sci_sim.proofs.Writing.{lines_twice, sum_twice, text-append}
+use Rattle.sci_store.proofs.Writing.{lines_twice, sum_twice, text-append}
 
 -- ---- what is due behind a reaction
 
@@ -105,7 +106,7 @@ module _ (until : ℕ) (r a : Running) (banks : List Meaning) (date source : ℕ
   -- behind the reaction
   module _ (i : Columns) (b : Running) (later : List Meaning) (b_is : b ≡ record a { store = b.store; wheel = b.wheel; row = fires; halted = b.halted })
       (o : ReactionOutcome) (outcome : IsOutcome r.fixed.net i date (source_of r.fixed.net source) from o) (stop : Option StopWord)
-      (reacted : IsReacted a.fixed fires a.store b.store banks later b.wheel.meaning b.wheel.puts a.offset o stop) where
+      (reacted : IsReacted a.fixed fires (row_in a.rows fires) a.store b.store banks later b.wheel.meaning b.wheel.puts a.offset o stop) where
     b_fixed : b.fixed ≡ a.fixed
     b_fixed = ap (λ (x : Running). x.fixed) b_is
 
@@ -132,11 +133,11 @@ module _ (until : ℕ) (r a : Running) (banks : List Meaning) (date source : ℕ
       pub at : IsAt b later after
       pub row : b.row ≡ source
 
-    pub stands : stop ≡ None → ((after : State) → AreMarksOf a.fixed fires b.store after → b.halted ≡ halts a.fixed.net after.active) → Stands
+    pub stands : stop ≡ None → ((after : State) → AreMarksOf a.fixed fires (row_in a.rows fires) b.store after → b.halted ≡ halts a.fixed.net after.active) → Stands
     stands none halted = let q = by_outcome o stop none outcome reacted in record { seen = q.0; after = q.1; leads = q.2; at = q.3; row = b_row }
       where
         by_outcome : (p : ReactionOutcome) (stop : Option StopWord) → stop ≡ None → IsOutcome r.fixed.net i date (source_of r.fixed.net source) from p
-            → IsReacted a.fixed fires a.store b.store banks later b.wheel.meaning b.wheel.puts a.offset p stop
+            → IsReacted a.fixed fires (row_in a.rows fires) a.store b.store banks later b.wheel.meaning b.wheel.puts a.offset p stop
             → (seen : List Obs) × (after : State) × (p ≡ Leads seen after) × IsAt b later after
         by_outcome (StopsWith seen) (Some word) n h g = absurd (cc n)
         by_outcome (StopsWith seen) None n h g = absurd g.stops
@@ -167,7 +168,7 @@ module _ (until : ℕ) (r a : Running) (banks : List Meaning) (date source : ℕ
     stops_at limit word is counts = by_outcome o stop is outcome reacted
       where
         by_outcome : (p : ReactionOutcome) (stop : Option StopWord) → stop ≡ Some word → IsOutcome r.fixed.net i date (source_of r.fixed.net source) from p
-            → IsReacted a.fixed fires a.store b.store banks later b.wheel.meaning b.wheel.puts a.offset p stop → IsStep i until limit date source from b later p (IsOver (Stopped word))
+            → IsReacted a.fixed fires (row_in a.rows fires) a.store b.store banks later b.wheel.meaning b.wheel.puts a.offset p stop → IsStep i until limit date source from b later p (IsOver (Stopped word))
         by_outcome (Leads seen after) stop n h g = absurd (cc (n, g.stops))
         by_outcome (StopsWith seen) None n h g = absurd (cc n)
         by_outcome (StopsWith seen) (Some w) n h g =

@@ -11,18 +11,20 @@ use Rattle.sci_agenda.specs.Wheel.{Wheel}
 use Rattle.sci_agenda.specs.Firing.{Meaning as Waiting}
 use Rattle.sci_bank.specs.Bank.{Meaning}
 use Rattle.sci_bank.specs.Library.{bank_of}
-use Rattle.sci_sim.specs.Marks.{mark_at, idle}
-use Rattle.sci_sim.specs.Frame.{Fixed, IsFrame, AreSeated, row_in}
-use Rattle.sci_sim.specs.Store.{Standing, IsStore, AreIdle, ShowsMemory}
+use Rattle.sci_store.specs.Marks.{mark_at, idle}
+use Rattle.sci_store.specs.Frame.{Fixed, IsFrame, AreSeated}
+use Rattle.sci_store.specs.Store.{Standing, IsStore, AreIdle, ShowsMemory}
+use Rattle.sci_sim.specs.Rows.{Row, AreRowsOf, row_in}
 use Rattle.sci_sim.specs.Programming.{Keeps}
-use Rattle.sci_sim.specs.Written.{sum_of}
-use Rattle.sci_sim.specs.Tally.{lines_after}
+use Rattle.sci_store.specs.Written.{sum_of}
+use Rattle.sci_store.specs.Tally.{lines_after}
 
--- a net that is ready to run, or whose run is under way: what stays and what changes, the wheel and how much less its dates are, the date
+-- a net that is ready to run, or whose run is under way: what stays, the rows of its schedule, what changes, the wheel and how much less its dates are, the date
 -- of the last reaction, how many events have fired, the source of the last reaction, whether the run has begun, and whether a HALT_f was
 -- active in the last reaction
 pub record Running : Type 0 where
   pub fixed : Fixed
+  pub rows : List Row
   pub store : Standing
   pub wheel : Wheel
   pub offset : ℕ
@@ -34,10 +36,11 @@ pub record Running : Type 0 where
 
 pub record IsReady (r : Running) : Type 0 where
   pub frame : IsFrame r.fixed
+  pub rows : AreRowsOf r.fixed.net r.rows
   pub store : IsStore r.fixed r.store
-  pub row : r.row < length r.fixed.rows
+  pub row : r.row < length r.rows
   -- only blocks of the last source's row are marked
-  pub marked : (b : ℕ) → IsBlock r.fixed.net b → (Contains (row_in r.fixed r.row).blocks b → ⊥) → mark_at r.store.marks b ≡ idle
+  pub marked : (b : ℕ) → IsBlock r.fixed.net b → (Contains (row_in r.rows r.row).blocks b → ⊥) → mark_at r.store.marks b ≡ idle
 
 -- ---- the state of the run
 

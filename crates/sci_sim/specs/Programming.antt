@@ -1,6 +1,5 @@
 -- What programming leaves in an agenda.
 use Rattle.std.specs.Prelude.{◌≡◌, ℕ, ◌+◌, ◌-◌, ◌≤◌, min, ℤ, negsuc, map, length}
-use Rattle.sci_net.specs.declared.Feed.{Feed}
 use Rattle.sci_net.specs.declared.Source.{Source}
 use Rattle.sci_net.specs.declared.Source.TheVariants.{Start, Port}
 use Rattle.sci_net.specs.Parts.{Parts}
@@ -9,11 +8,7 @@ use Rattle.sci_agenda.specs.Firing.{Meaning}
 use Rattle.sci_pending.specs.Pending.{Pending}
 use Rattle.sci_pending.specs.Order.{in_order}
 use Rattle.sci_run.specs.Order.{PendingInOrder}
-use Rattle.sci_run.specs.Programs.{firing_of, delay_of}
-use Rattle.sci_places.specs.Flat.{values_at}
-use Rattle.sci_sim.specs.Marks.{mark_at}
-use Rattle.sci_sim.specs.Frame.{Fixed}
-use Rattle.sci_sim.specs.Store.{Standing}
+use Rattle.sci_run.specs.Programs.{firing_of}
 
 -- the date of the event that a source has before the run; none is -1
 abbrev pub firing_at : Parts → Source → ℤ
@@ -33,7 +28,3 @@ pub record Keeps (n : Parts) (offset now : ℕ) (m : Meaning) (puts : ℕ) (p : 
   pub pending : PendingInOrder n now p
   pub events : m.events ≡ map (less offset) (in_order p.events)
   pub counted : puts ≡ min p.programmed 18446744073709551615
-
--- the delays on the values that are kept, of the blocks that are marked as active
-abbrev pub delays_in : Fixed → Standing → Feed → ℤ
-delays_in f s = delay_of f.net (values_at f.net s.values) (λ b. (mark_at s.marks b).active)

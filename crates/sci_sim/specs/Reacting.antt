@@ -10,9 +10,10 @@ use Rattle.sci_pending.specs.Pending.{Event}
 use Rattle.sci_run.specs.Run.{State, first_state, taken, ReactionOutcome, Leads, StopsWith, Fires, comes_next}
 use Rattle.sci_agenda.specs.Firing.{Meaning as Waiting}
 use Rattle.sci_bank.specs.Bank.{Meaning}
-use Rattle.sci_sim.specs.Frame.{Fixed, row_in}
-use Rattle.sci_sim.specs.Store.{Standing, ShowsValues, AreCountedWithin}
-use Rattle.sci_sim.specs.Written.{AreAmong}
+use Rattle.sci_store.specs.Frame.{Fixed}
+use Rattle.sci_store.specs.Store.{Standing, ShowsValues, AreCountedWithin}
+use Rattle.sci_store.specs.Written.{AreAmong}
+use Rattle.sci_sim.specs.Rows.{Row}
 use Rattle.sci_sim.specs.At.{Running, Shows, IsAt, AreTallied}
 
 -- ---- the source that fires
@@ -51,21 +52,21 @@ IsStopOf (Leads seen after) stop = stop ≡ None
 IsStopOf (StopsWith seen) None = ⊥
 IsStopOf (StopsWith seen) (Some word) = (h : Obs) × (b : ℕ) × (seen ≡ h ∷ Stop word (pos b) (pos 0) ∷ [])
 
--- the marks are those of the reaction that led to this state
-pub record AreMarksOf (f : Fixed) (source : ℕ) (s : Standing) (after : State) : Type 0 where
+-- the marks are those of the reaction that led to this state, of the source at this place, whose row this is
+pub record AreMarksOf (f : Fixed) (source : ℕ) (row : Row) (s : Standing) (after : State) : Type 0 where
   pub y : Signals
   pub shown : ShowsValues f (source_of f.net source) s y after.active
-  pub among : AreAmong f.net after.active (row_in f source).blocks
+  pub among : AreAmong f.net after.active row.blocks
 
 -- a reaction with values leads to the state that is shown now; of one that stops, the banks have counted at most a call for each block that the
 -- source may activate
-abbrev pub LeadsTo : Fixed → (source : ℕ) → Standing → (old banks : List Meaning) → Waiting → (puts offset : ℕ) → ReactionOutcome → Type 0
-LeadsTo f source new old banks waiting puts offset (Leads seen after) = Shows f new banks waiting puts offset after × AreMarksOf f source new after
-LeadsTo f source new old banks waiting puts offset (StopsWith seen) = AreCountedWithin f.net (source_of f.net source) old banks
+abbrev pub LeadsTo : Fixed → (source : ℕ) → Row → Standing → (old banks : List Meaning) → Waiting → (puts offset : ℕ) → ReactionOutcome → Type 0
+LeadsTo f source row new old banks waiting puts offset (Leads seen after) = Shows f new banks waiting puts offset after × AreMarksOf f source row new after
+LeadsTo f source row new old banks waiting puts offset (StopsWith seen) = AreCountedWithin f.net (source_of f.net source) old banks
 
 -- behind a reaction; what was observed is counted
-pub record IsReacted (f : Fixed) (source : ℕ) (old new : Standing) (before banks : List Meaning) (waiting : Waiting) (puts offset : ℕ) (o : ReactionOutcome)
+pub record IsReacted (f : Fixed) (source : ℕ) (row : Row) (old new : Standing) (before banks : List Meaning) (waiting : Waiting) (puts offset : ℕ) (o : ReactionOutcome)
     (stop : Option StopWord) : Type 0 where
   pub stops : IsStopOf o stop
-  pub leads : LeadsTo f source new before banks waiting puts offset o
+  pub leads : LeadsTo f source row new before banks waiting puts offset o
   pub tallied : AreTallied old new (seen_in o)

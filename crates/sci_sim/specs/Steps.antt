@@ -22,7 +22,7 @@ use Rattle.sci_sim.specs.declared.end.RunEnd.{RunEnd}
 use Rattle.sci_sim.specs.declared.end.RunEnd.TheVariants.{End as Ended, Stop as Stopped}
 use Rattle.sci_sim.specs.declared.end.Step.{Step}
 use Rattle.sci_sim.specs.declared.end.Step.TheVariants.{More, Over as IsOver}
-use Rattle.sci_sim.specs.Store.{active_of, MayActivate}
+use Rattle.sci_store.specs.Store.{active_of, MayActivate}
 use Rattle.sci_sim.specs.At.{Running, IsAt, IsTallied}
 
 -- ---- behind a reaction with values

@@ -2,23 +2,19 @@
 //! goes.
 #![tactic(auto)]
 
-mod block;
 mod end;
-mod frame;
-mod head;
+mod entries;
+mod image;
 mod laws;
-mod lines;
-mod marks;
-mod page;
-mod pieces;
+mod pass;
 mod programming;
 mod reaction;
 mod ready;
-mod seats;
+mod rest;
+mod restore;
+mod rows;
 mod sorted;
-mod store;
-mod tally;
 
 pub use end::{RunEnd, Step};
-pub use laws::a_step_may_be_done;
+pub use laws::{a_step_may_be_done, what_is_restored_is_saved};
 pub use ready::Ready;

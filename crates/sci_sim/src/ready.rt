@@ -17,20 +17,17 @@ ghost use Rattle.sci_bank.specs.Library.{AreInOrder, IsFull};
 ghost use Rattle.sci_bank.specs.Bank.{Meaning};
 
 use crate::end::{RunEnd, Step};
-use crate::frame::{Frame, rows};
-use crate::lines::Lines;
 use crate::programming::program_first;
 use crate::reaction::{Firing, react};
-use crate::seats::seat_all;
-use crate::store::Store;
+use crate::rows::{Row, rows};
 use sci_agenda::agenda::Agenda;
 use sci_agenda::wheel::WheelAgenda;
 use sci_bank::library::{Banks, Library};
 use sci_base::{EndWord, NoMemory, Obs, StopWord};
 use sci_io::{Failed, Sink};
 use sci_net::Net;
-use sci_places::Places;
 use sci_sched::Schedule;
+use sci_store::{Frame, Lines, Store};
 use sci_trace::inputs::Inputs;
 use std::alloc::Global;
 use std::marker::Model;
@@ -38,36 +35,41 @@ use std::marker::Model;
 /// A net that is ready to run, or whose run is under way, with all memory that the run needs.
 #[derive(Drop)]
 pub struct Ready {
-    frame: Frame,
-    store: Store,
+    pub(crate) frame: Frame,
+    // one for each source of the net, in order
+    pub(crate) rows: Vec<Row>,
+    pub(crate) store: Store,
     // its dates are less by `offset`
-    wheel: WheelAgenda,
-    offset: u64,
-    now: u64,
-    fired: u64,
+    pub(crate) wheel: WheelAgenda,
+    pub(crate) offset: u64,
+    pub(crate) now: u64,
+    pub(crate) fired: u64,
     // the source of the last reaction, or 0 before the first
-    row: u32,
-    started: bool,
-    halted: bool,
+    pub(crate) row: u32,
+    pub(crate) started: bool,
+    pub(crate) halted: bool,
     // what waits there is forgotten by the next reaction
-    lines: Lines,
+    pub(crate) lines: Lines,
 }
 
 impl Model for Ready {
+    ghost use Rattle.std.specs.Prelude.{map};
+    ghost use Rattle.sci_sim.specs.Rows.{row_of};
     ghost use Rattle.sci_sim.specs.At.{Running, IsReady};
 
     ghost Value = { Running };
 
-    ghost view = { λ r. record { fixed = r.frame; store = r.store; wheel = r.wheel; offset = r.offset; now = r.now; fired = r.fired; row = r.row; started = r.started; halted = r.halted } };
+    ghost view = { λ r. record { fixed = r.frame; rows = map row_of r.rows.items; store = r.store; wheel = r.wheel; offset = r.offset; now = r.now; fired = r.fired; row = r.row; started = r.started; halted = r.halted } };
 
-    ghost invariant = { λ r. IsReady (record { fixed = r.frame; store = r.store; wheel = r.wheel; offset = r.offset; now = r.now; fired = r.fired; row = r.row; started = r.started; halted = r.halted }) };
+    ghost invariant = { λ r. IsReady (record { fixed = r.frame; rows = map row_of r.rows.items; store = r.store; wheel = r.wheel; offset = r.offset; now = r.now; fired = r.fired; row = r.row; started = r.started; halted = r.halted }) };
 }
 
 impl Ready {
     ghost use Rattle.sci_places.specs.Flat.{values_at};
-    ghost use Rattle.sci_sim.specs.Marks.{mark_at};
+    ghost use Rattle.sci_store.specs.Marks.{mark_at};
+    ghost use Rattle.sci_store.specs.Frame.{AreSeated};
+    ghost use Rattle.sci_sim.specs.Rows.{row_in};
     ghost use Rattle.sci_sim.specs.Programming.{Keeps};
-    ghost use Rattle.sci_sim.specs.Frame.{row_in, AreSeated};
     ghost use Rattle.sci_sim.specs.At.{Running, IsAt, IsAtStart, AreTallied};
     ghost use Rattle.sci_sim.specs.Reacting.{FiresNext, MayStep, ShowsFiring, HasSetOut, IsReacted, AreMarksOf, seen_in};
     ghost use Rattle.sci_sim.specs.Steps.{step_seen, IsStep, IsFinished, end_due};
@@ -82,22 +84,16 @@ impl Ready {
         ensures full { IsFull (⟦<Library as Banks>⟧.banks lib.new) }
         ensures in_order { AreInOrder (⟦<Library as Banks>⟧.banks lib.new) }
     {
-        n.well_formed();
-        let places = Places::new(alloc, &n)?;
         let rows = rows(alloc, p)?;
-        let seats = seat_all(alloc, &n, lib)?;
         let mut wheel = WheelAgenda::new(alloc, n.source_count() - 1)?;
         program_first(&n, &mut wheel);
-        let frame = Frame {
-            net: n,
-            rows,
-            places,
-            seats,
-        };
+        let frame = Frame::new(alloc, n, lib)?;
+        frame.well_formed();
         let store = Store::new(alloc, &frame)?;
         let lines = Lines::new(alloc, store.len())?;
         Ok(Ready {
             frame,
+            rows,
             store,
             wheel,
             offset: 0,
@@ -118,17 +114,19 @@ impl Ready {
         source: u32,
         out: &mut S,
     ) -> Result<Option<StopWord>, Failed>
-        requires source { source < length self.old.fixed.rows }
+        requires source { source < length self.old.rows }
         requires date { self.old.now ≤ 2 ^ 62 }
         requires columns { AreColumns self.old.fixed.net ins.now }
         requires shown { (st : State) × ShowsFiring self.old.fixed self.old.store (⟦<Library as Banks>⟧.banks lib.old) self.old.wheel.meaning self.old.wheel.puts self.old.offset self.old.now st }
-        ensures reacted { (st : State) → ShowsFiring self.old.fixed self.old.store (⟦<Library as Banks>⟧.banks lib.old) self.old.wheel.meaning self.old.wheel.puts self.old.offset self.old.now st → (o : ReactionOutcome) × IsOutcome self.old.fixed.net ins.now self.old.now (source_of self.old.fixed.net source) st o × Writes (S.state out.old) (S.state out.new) (text (seen_in o)) result × IfOk result (λ stop. IsReacted self.old.fixed source self.old.store self.new.store (⟦<Library as Banks>⟧.banks lib.old) (⟦<Library as Banks>⟧.banks lib.new) self.new.wheel.meaning self.new.wheel.puts self.old.offset o stop) }
-        ensures halted { IfOk result (λ stop. stop ≡ None → (after : State) → AreMarksOf self.old.fixed source self.new.store after → self.new.halted ≡ halts self.old.fixed.net after.active) }
+        ensures reacted { (st : State) → ShowsFiring self.old.fixed self.old.store (⟦<Library as Banks>⟧.banks lib.old) self.old.wheel.meaning self.old.wheel.puts self.old.offset self.old.now st → (o : ReactionOutcome) × IsOutcome self.old.fixed.net ins.now self.old.now (source_of self.old.fixed.net source) st o × Writes (S.state out.old) (S.state out.new) (text (seen_in o)) result × IfOk result (λ stop. IsReacted self.old.fixed source (row_in self.old.rows source) self.old.store self.new.store (⟦<Library as Banks>⟧.banks lib.old) (⟦<Library as Banks>⟧.banks lib.new) self.new.wheel.meaning self.new.wheel.puts self.old.offset o stop) }
+        ensures halted { IfOk result (λ stop. stop ≡ None → (after : State) → AreMarksOf self.old.fixed source (row_in self.old.rows source) self.new.store after → self.new.halted ≡ halts self.old.fixed.net after.active) }
         ensures rest { self.new ≡ record self.old { store = self.new.store; wheel = self.new.wheel; row = source; halted = self.new.halted } }
         ensures seated { AreSeated self.old.fixed (⟦<Library as Banks>⟧.banks lib.new) }
     {
-        self.store.clear(&self.frame, self.row);
+        let last = &self.rows[self.row as usize];
+        self.store.clear(&self.frame, &last.blocks);
         self.row = source;
+        let row = &self.rows[source as usize];
         let firing = Firing {
             source,
             date: self.now,
@@ -140,12 +138,13 @@ impl Ready {
             &mut self.wheel,
             lib,
             ins,
+            row,
             firing,
             &mut self.lines,
             out,
         )?;
         if stop.is_none() {
-            self.halted = self.store.halts(&self.frame, source);
+            self.halted = self.store.halts(&self.frame, &row.blocks);
         }
         Ok(stop)
     }
@@ -154,7 +153,7 @@ impl Ready {
     fn next_source(&mut self) -> u32
         requires before { (until limit : ℕ) × (banks : List Meaning) × (st from : State) × (date source : ℕ) × IsAt self.old banks st × FiresNext self.old.fixed.net until limit self.old.started st date source from × (until ≤ 2 ^ 62) × (limit ≤ 1000000) }
         ensures fires { (until limit : ℕ) (banks : List Meaning) (st from : State) (date source : ℕ) → IsAt self.old banks st → FiresNext self.old.fixed.net until limit self.old.started st date source from → HasSetOut until self.old self.new banks date source from result }
-        ensures source { result < length self.old.fixed.rows }
+        ensures source { result < length self.old.rows }
         ensures fired { self.new.fired ≡ (if self.old.started then self.old.fired + 1 else self.old.fired) }
         ensures rest { self.new ≡ record self.old { wheel = self.new.wheel; now = self.new.now; fired = self.new.fired; started = true } }
     {
@@ -274,6 +273,13 @@ impl Ready {
         self.store.value(&self.frame, block, element)
     }
 
+    /// The net.
+    pub fn net(&self) -> &Net
+        ensures { result.now ≡ self.entry.now.fixed.net }
+    {
+        &self.frame.net
+    }
+
     /// The date of the last reaction, in ticks; 0 before the first.
     pub fn now(&self) -> u64
         ensures { result ≡ self.entry.now.now }
@@ -313,12 +319,12 @@ impl Ready {
     /// The blocks that the source of the last reaction may activate, by number; before the first reaction those of start.
     /// No block but these was active in it.
     pub fn possible(&self) -> &[u32]
-        ensures value { result.now ≡ (row_in self.entry.now.fixed self.entry.now.row).blocks }
+        ensures value { result.now ≡ (row_in self.entry.now.rows self.entry.now.row).blocks }
         ensures rising { AllPairs (λ b c. b < c) result.now }
         ensures possible { (b : ℕ) → Contains result.now b ↔ Possible self.entry.now.fixed.net (source_of self.entry.now.fixed.net self.entry.now.row) b }
         ensures active { (banks : List Meaning) (st : State) → IsAt self.entry.now banks st → (b : ℕ) → IsBlock self.entry.now.fixed.net b → st.active b ≡ true → Contains result.now b }
     {
-        self.frame.possible(self.row)
+        self.rows[self.row as usize].blocks.as_slice()
     }
 
     /// Whether the last reaction activated the block. The run hasn't stopped.

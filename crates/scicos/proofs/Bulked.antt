@@ -27,7 +27,7 @@ use Rattle.sci_run.specs.Run.{IsRun}
 use Rattle.sci_run.proofs.Traces.{some_trace}
 use Rattle.sci_bank.specs.Bank.{Meaning}
 use Rattle.sci_sim.specs.At.{Running, IsAtStart, IsTallied}
-use Rattle.sci_sim.specs.Tally.{lines_after}
+use Rattle.sci_store.specs.Tally.{lines_after}
 use Rattle.sci_sim.specs.Steps.{IsFinished}
 use Rattle.sci_sim.specs.declared.end.RunEnd.{RunEnd}
 use Rattle.sci_sim.specs.declared.end.RunEnd.TheVariants.{End as Ended, Stop as Stopped}

@@ -16,7 +16,7 @@ use Rattle.sci_run.specs.Finish.{Ending, Finish, ended, stopped, stopped_at_star
 use Rattle.sci_run.proofs.Ranges.{fired_within, activations_within}
 use Rattle.sci_bank.specs.Bank.{Meaning}
 use Rattle.sci_bank.specs.Library.{bank_of}
-use Rattle.sci_sim.specs.Store.{active_of}
+use Rattle.sci_store.specs.Store.{active_of}
 use Rattle.sci_sim.specs.At.{Running}
 use Rattle.sci_sim.specs.Steps.{IsFiring, start, event, IsFinished}
 use Rattle.sci_sim.specs.declared.end.RunEnd.{RunEnd}

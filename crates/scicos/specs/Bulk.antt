@@ -6,7 +6,7 @@ use Rattle.sci_base.specs.declared.observation.Obs.{Obs}
 use Rattle.sci_net.specs.Sources.{sources_of}
 use Rattle.sci_sched.specs.Size.{entry_count, guard_count}
 use Rattle.sci_run.specs.Run.{IsRun}
-use Rattle.sci_sim.specs.Written.{sum_of}
+use Rattle.sci_store.specs.Written.{sum_of}
 use Rattle.sci_verdict.specs.Verdict.{Plan, TreeAccepts}
 use Rattle.sci_bulk.specs.Bulk.{bulk}
 use Rattle.scicos.specs.Answer.{Answer, prints}

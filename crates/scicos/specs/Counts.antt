@@ -15,7 +15,7 @@ use Rattle.sci_run.specs.Run.{State}
 use Rattle.sci_run.specs.Finish.{ByEnd, Finish}
 use Rattle.sci_bank.specs.Bank.{Meaning}
 use Rattle.sci_bank.specs.Library.{bank_of}
-use Rattle.sci_sim.specs.Store.{active_of, MayActivate}
+use Rattle.sci_store.specs.Store.{active_of, MayActivate}
 use Rattle.sci_sim.specs.Steps.{IsFiring}
 use Rattle.sci_verdict.specs.Verdict.{Plan, Accepts, TreeAccepts}
 use Rattle.sci_bulk.specs.Bulk.{bulk as bulk_tree}

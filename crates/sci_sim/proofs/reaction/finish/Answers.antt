@@ -1,5 +1,5 @@
 use Rattle.std.proofs.Common.{◌∙◌}
-use Rattle.sci_sim.proofs.Reacting.{AreKept, kept_counts, kept_room, kept_then, store_alike, range_alike, masks_alike, sensed_alike, shown_alike, before_alike}
+use Rattle.sci_store.proofs.Reacting.{AreKept, kept_counts, kept_room, kept_then, store_alike, range_alike, masks_alike, sensed_alike, shown_alike, before_alike}
 use Rattle.sci_sim.proofs.reaction.finish.Given.{Over}
 use Rattle.sci_sim.proofs.reaction.finish.Goals as goal
 use Rattle.sci_sim.proofs.reaction.finish.Goals.{After-write_values, After-program_all}
@@ -8,10 +8,10 @@ use Rattle.sci_sim.proofs.reaction.finish.Goals.{After-write_values, After-progr
 written : (g : Over) (c : After-write_values g) → AreKept c.args.store.now c.write_values.new.self
 written g c = kept_counts c.args.store.now c.write_values.new.self c.write_values.ensures.same
 
-programmed : (g : Over) (c : After-program_all g) → AreKept c.args.store.now c.program_all.new.self
+programmed : (g : Over) (c : After-program_all g) → AreKept c.args.store.now c.program_all.new.store
 programmed g c =
-    kept_then c.args.store.now c.write_values.new.self c.program_all.new.self (kept_counts c.args.store.now c.write_values.new.self c.write_values.ensures.same)
-    (kept_room c.write_values.new.self c.program_all.new.self c.program_all.ensures.same c.program_all.ensures.room)
+    kept_then c.args.store.now c.write_values.new.self c.program_all.new.store (kept_counts c.args.store.now c.write_values.new.self c.write_values.ensures.same)
+    (kept_room c.write_values.new.self c.program_all.new.store c.program_all.ensures.same c.program_all.ensures.room)
 
 pub returns-in_err-write_values-clause-store : goal.returns-in_err-write_values-clause-store
 returns-in_err-write_values-clause-store g c =
@@ -31,19 +31,19 @@ program_all-requires-clause-values g c =
 
 pub update_all-requires-clause-store : goal.update_all-requires-clause-store
 update_all-requires-clause-store g c =
-    store_alike c.args.frame.now c.args.store.now c.program_all.new.self (programmed g (goal.at.update_all-requires-clause-store g c).After-program_all) c.requires.store
+    store_alike c.args.frame.now c.args.store.now c.program_all.new.store (programmed g (goal.at.update_all-requires-clause-store g c).After-program_all) c.requires.store
 
 pub update_all-requires-clause-values : goal.update_all-requires-clause-values
 update_all-requires-clause-values g c =
-    range_alike c.args.frame.now c.args.store.now c.program_all.new.self (programmed g (goal.at.update_all-requires-clause-values g c).After-program_all) c.requires.values
+    range_alike c.args.frame.now c.args.store.now c.program_all.new.store (programmed g (goal.at.update_all-requires-clause-values g c).After-program_all) c.requires.values
 
 pub update_all-requires-clause-masks : goal.update_all-requires-clause-masks
 update_all-requires-clause-masks g c =
-    masks_alike c.args.frame.now c.args.store.now c.program_all.new.self (programmed g (goal.at.update_all-requires-clause-masks g c).After-program_all) c.requires.masks
+    masks_alike c.args.frame.now c.args.store.now c.program_all.new.store (programmed g (goal.at.update_all-requires-clause-masks g c).After-program_all) c.requires.masks
 
 pub update_all-requires-clause-sensed : goal.update_all-requires-clause-sensed
 update_all-requires-clause-sensed g c =
-    sensed_alike c.args.frame.now c.args.store.now c.program_all.new.self (programmed g (goal.at.update_all-requires-clause-sensed g c).After-program_all) c.args.inputs.now c.requires.sensed
+    sensed_alike c.args.frame.now c.args.store.now c.program_all.new.store (programmed g (goal.at.update_all-requires-clause-sensed g c).After-program_all) c.args.inputs.now c.requires.sensed
 
 pub returns-clause-programmed : goal.returns-clause-programmed
 returns-clause-programmed g c source y active offset p shown among keeps =
@@ -53,8 +53,8 @@ returns-clause-programmed g c source y active offset p shown among keeps =
 pub returns-clause-stepped : goal.returns-clause-stepped
 returns-clause-stepped g c source m y active is shown among before memory =
     let kept = programmed g (goal.at.returns-clause-stepped g c).After-program_all in
-    c.update_all.ensures.stepped source m y active is (shown_alike c.args.frame.now c.args.store.now c.program_all.new.self kept source y active shown) among
-    (before_alike c.args.frame.now c.args.store.now c.program_all.new.self kept _ m before) memory
+    c.update_all.ensures.stepped source m y active is (shown_alike c.args.frame.now c.args.store.now c.program_all.new.store kept source y active shown) among
+    (before_alike c.args.frame.now c.args.store.now c.program_all.new.store kept _ m before) memory
 
 pub returns-clause-marks : goal.returns-clause-marks
 returns-clause-marks g c =

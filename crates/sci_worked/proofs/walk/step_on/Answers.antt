@@ -2,7 +2,7 @@ use Rattle.std.proofs.Common.{◌≤◌, length, sym, subst}
 use Rattle.sci_forms.specs.Ports.{total}
 use Rattle.sci_net.specs.Parts.{spec_of}
 use Rattle.sci_reaction.specs.Memory.{AreColumns}
-use Rattle.sci_sim.specs.Frame.{Fixed}
+use Rattle.sci_store.specs.Frame.{Fixed}
 use Rattle.sci_worked.proofs.Walking.{may_go_on}
 use Rattle.sci_worked.proofs.walk.step_on.Goals as goal
 

@@ -1,5 +1,5 @@
 use Rattle.std.proofs.Common.{rules, ap}
-use Rattle.sci_sim.specs.Frame.{Fixed}
+use Rattle.sci_store.specs.Frame.{Fixed}
 use Rattle.scicos.proofs.Bulked.{no_columns, stands_there, has_run, has_counts}
 use Rattle.scicos.proofs.bulk.run_net.Goals as goal
 

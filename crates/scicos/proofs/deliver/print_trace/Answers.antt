@@ -1,5 +1,5 @@
 use Rattle.std.proofs.Common.{rules, ap}
-use Rattle.sci_sim.specs.Frame.{Fixed}
+use Rattle.sci_store.specs.Frame.{Fixed}
 use Rattle.scicos.proofs.Counting.{run_counts}
 use Rattle.scicos.proofs.Giving.{ran_failed, ran_unflushed, ran_flushed}
 use Rattle.scicos.proofs.Traced.{finished_stops}

@@ -22,6 +22,16 @@ overflow_add-self c =
     let offset = ap (λ (x : Running). x.offset) c.self.view_is in
     grind (arith, m.date_is, m.soon, b.9, offset)
 
+pub overflow_add-self-in-Some : goal.overflow_add-self-in-Some
+overflow_add-self-in-Some c =
+    let r = c.args.self.now in
+    let b = c.requires.before in
+    let began : r.started ≡ true = sym (ap (λ (x : Running). x.started) c.self.view_is) ∙ c.if-not-self.false in
+    let is : Some (c.in-Some.date, c.in-Some.source) ≡ first r.wheel.meaning.events = c.in-Some.ensures.taken ∙ ap (λ (x : Running). first x.wheel.meaning.events) c.self.view_is in
+    let m = event_is b.0 b.1 r b.2 b.3 b.4 b.5 b.6 began b.7 b.8 c.in-Some.date c.in-Some.source is in
+    let fired = ap (λ (x : Running). x.fired) c.self.view_is in
+    grind (arith, m.few, b.10, fired)
+
 pub unreachable-requires : goal.unreachable-requires
 unreachable-requires c =
     let r = c.args.self.now in

@@ -1,12 +1,45 @@
-use Rattle.std.proofs.Common.{rules, sym, subst}
+use Rattle.std.proofs.Common.{◌≡◌, ◌<◌, ℕ, List, Contains, map, length, ap, rules, sym, subst, ◌∙◌}
+use Rattle.sci_net.specs.Parts.{IsBlock}
+use Rattle.sci_net.specs.Sources.{source_of}
 use Rattle.sci_reaction.specs.Memory.{AreColumns}
+use Rattle.sci_store.specs.Marks.{mark_at, idle}
+use Rattle.sci_sim.specs.Rows.{Row, row_of, row_in, IsRowOf}
 use Rattle.sci_sim.specs.At.{Running}
 use Rattle.sci_sim.proofs.Steps.{err_as, no_ok}
-use Rattle.sci_sim.proofs.Cleared.{all_idle, shown_cleared, outcome_in, reacted_cleared, halted_in}
+use Rattle.sci_sim.proofs.Reacting.{row_here, row_kept, blocks_kept}
+use Rattle.sci_sim.proofs.Cleared.{all_idle, shown_cleared, outcome_in, reacted_cleared, halted_in, ready_behind}
+use Rattle.sci_sim.proofs.ready.Ready.react.Given.{Over}
+use Rattle.sci_sim.proofs.ready.Ready.react.Goals.{After-index-row}
 use Rattle.sci_sim.proofs.ready.Ready.react.Goals as goal
 
+module _ (g : Over) (c : After-index-row g) where
+  within : c.args.source < length (map row_of c.self.inside.rows.items)
+  within = subst (λ (x : Running). c.args.source < length x.rows) (sym c.self.view_is) c.requires.source
+
+  -- the row of the source
+  row_is : row_of c.index-row.result.now ≡ row_in (map row_of c.self.inside.rows.items) c.args.source
+  row_is = row_kept c.self.inside.rows.items c.args.source c.index-row.result.now within c.index-row.ensures
+
+  row_now : row_of c.index-row.result.now ≡ row_in c.args.self.now.rows c.args.source
+  row_now = row_is ∙ ap (λ (x : Running). row_in x.rows c.args.source) c.self.view_is
+
+pub clear-requires-clause-blocks : goal.clear-requires-clause-blocks
+clear-requires-clause-blocks g c =
+    blocks_kept c.self.inside.frame.net c.self.inside.rows.items c.self.inside.row c.index-last.result.now _ c.self.invariant.rows c.self.invariant.row c.index-last.ensures
+    c.deref.ensures.value
+
+pub react-requires-clause-row : goal.react-requires-clause-row
+react-requires-clause-row g c =
+    let at = (goal.at.react-requires-clause-row g c).After-index-row in
+    let n = c.self.inside.frame.net in
+    subst (IsRowOf n (source_of n c.args.source)) (sym (row_is g at)) (row_here n (map row_of c.self.inside.rows.items) c.args.source c.self.invariant.rows (within g at))
+
 pub react-requires-clause-idle : goal.react-requires-clause-idle
-react-requires-clause-idle g c = all_idle c.self.inside.frame c.self.inside.row c.self.inside.store c.clear.new.self c.clear.ensures.cleared c.clear.ensures.others c.self.invariant.marked
+react-requires-clause-idle g c =
+    let last = row_kept c.self.inside.rows.items c.self.inside.row c.index-last.result.now c.self.invariant.row c.index-last.ensures in
+    all_idle c.self.inside.frame c.deref.result.now c.self.inside.store c.clear.new.self c.clear.ensures.cleared c.clear.ensures.others
+    (subst (λ (bs : List ℕ). (b : ℕ) → IsBlock c.self.inside.frame.net b → (Contains bs b → ⊥) → mark_at c.self.inside.store.marks b ≡ idle)
+    (sym (c.deref.ensures.value ∙ ap (λ (r : Row). r.blocks) last)) c.self.invariant.marked)
 
 pub react-requires-clause-columns : goal.react-requires-clause-columns
 react-requires-clause-columns g c = subst (λ (x : Running). AreColumns x.fixed.net c.args.ins.now) (sym c.self.view_is) c.requires.columns
@@ -31,7 +64,7 @@ returns-then-is_none-clause-reacted g c st h =
       q.0,
       outcome_in c.args.self.now _ c.self.view_is c.args.ins.now c.args.source st q.0 q.1,
       q.2,
-      reacted_cleared c.args.self.now _ c.clear.new.self c.self.view_is c.clear.ensures.rest _ c.args.source c.react.new.store _ c.react.new.agenda.meaning c.react.new.agenda.puts q.0 c.in_ok-stop.stop q.3,
+      reacted_cleared c.args.self.now _ c.clear.new.self c.self.view_is c.clear.ensures.rest _ c.args.source _ (row_now g (goal.at.returns-then-is_none-clause-reacted g c).After-index-row) c.react.new.store _ c.react.new.agenda.meaning c.react.new.agenda.puts q.0 c.in_ok-stop.stop q.3,
     )
 
 pub returns-else-is_none-clause-reacted : goal.returns-else-is_none-clause-reacted
@@ -41,9 +74,31 @@ returns-else-is_none-clause-reacted g c st h =
       q.0,
       outcome_in c.args.self.now _ c.self.view_is c.args.ins.now c.args.source st q.0 q.1,
       q.2,
-      reacted_cleared c.args.self.now _ c.clear.new.self c.self.view_is c.clear.ensures.rest _ c.args.source c.react.new.store _ c.react.new.agenda.meaning c.react.new.agenda.puts q.0 c.in_ok-stop.stop q.3,
+      reacted_cleared c.args.self.now _ c.clear.new.self c.self.view_is c.clear.ensures.rest _ c.args.source _ (row_now g (goal.at.returns-else-is_none-clause-reacted g c).After-index-row) c.react.new.store _ c.react.new.agenda.meaning c.react.new.agenda.puts q.0 c.in_ok-stop.stop q.3,
     )
 
 pub returns-then-is_none-clause-halted : goal.returns-then-is_none-clause-halted
 returns-then-is_none-clause-halted g c none after marks =
-    halted_in c.args.self.now _ c.self.view_is c.args.source c.react.new.store after c.halts-self-inside.result marks c.halts-self-inside.ensures
+    let row = row_now g (goal.at.returns-then-is_none-clause-halted g c).After-index-row in
+    halted_in c.args.self.now _ c.self.view_is c.args.source c.deref-then-is_none.result.now (c.deref-then-is_none.ensures.value ∙ ap (λ (r : Row). r.blocks) row)
+    c.react.new.store after c.halts-self-inside.result marks c.halts-self-inside.ensures
+
+pub halts-self-inside-requires-clause-blocks : goal.halts-self-inside-requires-clause-blocks
+halts-self-inside-requires-clause-blocks g c =
+    blocks_kept c.self.inside.frame.net c.self.inside.rows.items c.args.source c.index-row.result.now _ c.self.invariant.rows
+    (within g (goal.at.halts-self-inside-requires-clause-blocks g c).After-index-row) c.index-row.ensures c.deref-then-is_none.ensures.value
+
+pub invariant_of-self : goal.invariant_of-self
+invariant_of-self g c =
+    let at = (goal.at.invariant_of-self g c).After-index-row in
+    ready_behind _ c.args.source _ c.react.new.store c.react.new.agenda c.self.inside.halted c.self.invariant (within g at) (row_is g at) c.react.ensures.store c.react.ensures.marked
+
+pub invariant_of-self-then-is_none : goal.invariant_of-self-then-is_none
+invariant_of-self-then-is_none g c =
+    let at = (goal.at.invariant_of-self-then-is_none g c).After-index-row in
+    ready_behind _ c.args.source _ c.react.new.store c.react.new.agenda c.halts-self-inside.result c.self.invariant (within g at) (row_is g at) c.react.ensures.store c.react.ensures.marked
+
+pub invariant_of-self-else-is_none : goal.invariant_of-self-else-is_none
+invariant_of-self-else-is_none g c =
+    let at = (goal.at.invariant_of-self-else-is_none g c).After-index-row in
+    ready_behind _ c.args.source _ c.react.new.store c.react.new.agenda c.self.inside.halted c.self.invariant (within g at) (row_is g at) c.react.ensures.store c.react.ensures.marked

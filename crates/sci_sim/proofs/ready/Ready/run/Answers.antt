@@ -1,7 +1,7 @@
 use Rattle.std.proofs.Common.{◌∙◌, sym, subst, arith}
 use Rattle.std.proofs.lemmas.Result.{err_from_is_err_and}
 use Rattle.sci_reaction.specs.Memory.{AreColumns}
-use Rattle.sci_sim.specs.Frame.{Fixed, IsFrame}
+use Rattle.sci_store.specs.Frame.{Fixed, IsFrame}
 use Rattle.sci_sim.specs.At.{Running}
 use Rattle.sci_sim.proofs.Runs.{start_on_way, fires_now, goes_further, trace_is, trace_written, trace_cut, no_more, not_over, finished_by}
 use Rattle.sci_sim.proofs.ready.Ready.run.Goals as goal

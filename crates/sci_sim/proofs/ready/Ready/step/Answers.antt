@@ -4,9 +4,9 @@ use Rattle.sci_base.specs.declared.observation.Obs.TheVariants.{End}
 use Rattle.sci_io.proofs.Advance.{same_text}
 use Rattle.sci_trace.specs.Lines.{text, line}
 use Rattle.sci_reaction.specs.Memory.{AreColumns}
-use Rattle.sci_sim.specs.Frame.{Fixed}
+use Rattle.sci_store.specs.Frame.{Fixed}
 use Rattle.sci_sim.specs.At.{Running, AreTallied}
-use Rattle.sci_sim.specs.Written.{tallied}
+use Rattle.sci_store.specs.Written.{tallied}
 use Rattle.sci_sim.specs.Reacting.{seen_in}
 use Rattle.sci_sim.proofs.Steps.{within_until, shows_taken, outcome_of, fixed_stays, stands, stops_at, is_tallied, tallied_more, tallied_is, at_tallied, leads_to, leads_to_in, goes_on, is_over, none_of, ok_as, err_as, no_ok, step_cut, step_written, ready_kept, all_seen}
 use Rattle.sci_sim.proofs.ready.Ready.step.Goals as goal

@@ -1,5 +1,0 @@
-use Rattle.sci_sim.proofs.Stored.{AreHeldTo}
-use Rattle.sci_sim.proofs.store.all_held.Given as goal
-
-abbrev pub invariant-loop-block : goal.invariant-loop-block
-invariant-loop-block l = AreHeldTo l.frame.net l.block l.values.items

@@ -1,0 +1,116 @@
+// What is saved of a run behind a reaction.
+ghost use Rattle.std.specs.Prelude.{◌≡◌, ℕ, ◌+◌, ◌<◌, ◌^◌, [], map, All, IfOk};
+ghost use Rattle.sci_bank.specs.Bank.{Meaning};
+ghost use Rattle.sci_kinds.specs.Asks.{IsState};
+ghost use Rattle.sci_net.specs.Parts.{IsBlock, spec_of, rows_of};
+ghost use Rattle.sci_places.specs.Flat.{values_at};
+ghost use Rattle.sci_run.specs.Run.{State};
+ghost use Rattle.sci_save.specs.Saved.{Saved, saved_of};
+ghost use Rattle.sci_save.specs.Resumed.{IsSavedOf};
+ghost use Rattle.sci_store.specs.Frame.{AreSeated};
+ghost use Rattle.sci_store.specs.Store.{IsStore, state_of};
+ghost use Rattle.sci_sim.specs.Saving.{IsByBlock, more};
+
+use crate::ready::Ready;
+use sci_agenda::agenda::Agenda;
+use sci_bank::library::{Banks, Library};
+use sci_base::NoMemory;
+use sci_save::Image;
+use sci_store::{Frame, Store};
+use std::alloc::Global;
+
+/// The state of a block.
+fn state(alloc: Global, frame: &Frame, lib: &Library, block: u32) -> Result<Vec<i64>, NoMemory>
+    requires seated { AreSeated frame.now (⟦<Library as Banks>⟧.banks lib.now) }
+    requires block { IsBlock frame.now.net block }
+    requires state { IsState (spec_of frame.now.net block) (state_of frame.now (⟦<Library as Banks>⟧.banks lib.now) block) }
+    ensures { IfOk result (λ v. v.items ≡ state_of frame.now (⟦<Library as Banks>⟧.banks lib.now) block) }
+{
+    frame.well_formed();
+    let seat = frame.seat(block);
+    let count = frame.net.spec(block).state_len();
+    let mut values = Vec::with_capacity(alloc, count)?;
+    for at in 0..count {
+        values.push(lib.state_at(seat.kind, seat.slot, at))?;
+    }
+    Ok(values)
+}
+
+/// The states of all blocks.
+fn states(alloc: Global, frame: &Frame, lib: &Library) -> Result<Vec<Vec<i64>>, NoMemory>
+    requires seated { AreSeated frame.now (⟦<Library as Banks>⟧.banks lib.now) }
+    requires states { (b : ℕ) → IsBlock frame.now.net b → IsState (spec_of frame.now.net b) (state_of frame.now (⟦<Library as Banks>⟧.banks lib.now) b) }
+    ensures { IfOk result (λ v. IsByBlock frame.now.net [] (state_of frame.now (⟦<Library as Banks>⟧.banks lib.now)) (rows_of v.items)) }
+{
+    let mut states = Vec::with_capacity(alloc, frame.net.len() as usize)?;
+    for block in 0..frame.net.len() {
+        states.push(state(alloc, frame, lib, block + 1)?)?;
+    }
+    Ok(states)
+}
+
+/// The values that the outputs of all blocks hold.
+fn held(alloc: Global, frame: &Frame, store: &Store) -> Result<Vec<Vec<i64>>, NoMemory>
+    requires { IsStore frame.now store.now }
+    ensures { IfOk result (λ v. IsByBlock frame.now.net [] (values_at frame.now.net store.now.values) (rows_of v.items)) }
+{
+    let mut held = Vec::with_capacity(alloc, frame.net.len() as usize)?;
+    for block in 0..frame.net.len() {
+        held.push(store.held(frame, block + 1).to_vec(alloc)?)?;
+    }
+    Ok(held)
+}
+
+/// How many values of its column each sensor has taken.
+fn cursors(alloc: Global, store: &Store) -> Result<Vec<u64>, NoMemory>
+    ensures { IfOk result (λ v. v.items ≡ store.now.cursors) }
+{
+    let taken = store.cursors();
+    let mut cursors = Vec::with_capacity(alloc, taken.len())?;
+    for cursor in taken {
+        cursors.push(*cursor as u64)?;
+    }
+    Ok(cursors)
+}
+
+/// Takes the pending events out of an agenda, whose dates are less by `offset`, in the order in which they fire.
+fn pending<A: Agenda>(
+    alloc: Global,
+    agenda: &mut A,
+    offset: u64,
+) -> Result<Vec<(u64, u32)>, NoMemory>
+    requires { All (λ e. e.0 + offset < 2 ^ 64) (A.meaning agenda.old).events }
+    ensures { IfOk result (λ v. v.items ≡ map (more offset) (A.meaning agenda.old).events) }
+{
+    let mut events = Vec::new(alloc);
+    while let Some((date, source)) = agenda.take() {
+        events.push((date + offset, source))?;
+    }
+    Ok(events)
+}
+
+impl Ready {
+    ghost use Rattle.sci_sim.specs.At.{IsAt};
+
+    /// What is saved of the state behind the last reaction, at which the net stands with its library. The state is one of which something is saved,
+    /// as each is that a run reaches. It takes the pending events out, so the net goes on no more; it is of use but for the calls that read it, those of
+    /// pending events apart.
+    pub fn image(&mut self, alloc: Global, lib: &Library) -> Result<Image, NoMemory>
+        requires { (st : State) × (m : Saved) × IsAt self.old (⟦<Library as Banks>⟧.banks lib.now) st × IsSavedOf self.old.fixed.net st m }
+        ensures image { (st : State) (m : Saved) → IsAt self.old (⟦<Library as Banks>⟧.banks lib.now) st → IsSavedOf self.old.fixed.net st m → IfOk result (λ image. saved_of image ≡ m) }
+        ensures net { self.new.fixed ≡ self.old.fixed }
+    {
+        let states = states(alloc, &self.frame, lib)?;
+        let held = held(alloc, &self.frame, &self.store)?;
+        let cursors = cursors(alloc, &self.store)?;
+        let pending = pending(alloc, &mut self.wheel, self.offset)?;
+        Ok(Image {
+            fired: self.fired,
+            now: self.now,
+            states,
+            held,
+            cursors,
+            pending,
+        })
+    }
+}

@@ -1,0 +1,121 @@
+// A net that stands where a run was saved.
+ghost use Rattle.std.specs.Prelude.{◌≡◌, ℕ, [], length, flat_map, IfOk};
+ghost use Rattle.sci_net.specs.Parts.{IsBlock, numbered, rows_of};
+ghost use Rattle.sci_places.specs.Flat.{values_at};
+ghost use Rattle.sci_sched.specs.Plain.{rows_of as plan_of};
+ghost use Rattle.sci_sched.specs.Answer.{IsPlan};
+ghost use Rattle.sci_bank.specs.Library.{AreInOrder, IsFull};
+ghost use Rattle.sci_run.specs.Anew.{numbered_anew};
+ghost use Rattle.sci_save.specs.Saved.{saved_of};
+ghost use Rattle.sci_save.specs.Valid.{ArePending, IsShaped};
+ghost use Rattle.sci_store.specs.Store.{IsStore, AreIdle, cursor_at};
+ghost use Rattle.sci_sim.specs.Programming.{Keeps};
+
+use crate::programming::program;
+use crate::ready::Ready;
+use crate::rows::rows;
+use sci_agenda::wheel::WheelAgenda;
+use sci_bank::library::{Banks, Library};
+use sci_base::NoMemory;
+use sci_net::Net;
+use sci_save::Image;
+use sci_sched::Schedule;
+use sci_store::{Frame, Lines, Store};
+use std::alloc::Global;
+
+/// The numbers of all rows, one row behind the other.
+fn joined(alloc: Global, rows: &[Vec<i64>]) -> Result<Vec<i64>, NoMemory>
+    ensures { IfOk result (λ v. v.items ≡ flat_map (λ row. row.items) rows.now) }
+{
+    let mut numbers = Vec::new(alloc);
+    for row in rows {
+        numbers.extend_from_slice(row)?;
+    }
+    Ok(numbers)
+}
+
+/// Cursors as places in columns.
+fn places(alloc: Global, cursors: &[u64]) -> Result<Vec<usize>, NoMemory>
+    ensures { IfOk result (λ v. v.items ≡ cursors.now) }
+{
+    let mut places = Vec::with_capacity(alloc, cursors.len())?;
+    for cursor in cursors {
+        places.push(*cursor as usize)?;
+    }
+    Ok(places)
+}
+
+/// The store of what was saved: what outputs hold, and how many values sensors have taken.
+fn saved_store(alloc: Global, frame: &Frame, image: &Image) -> Result<Store, NoMemory>
+    requires { IsShaped frame.now.net (saved_of image.now) }
+    ensures store { IfOk result (λ s. IsStore frame.now s) }
+    ensures held { IfOk result (λ s. (b : ℕ) → IsBlock frame.now.net b → values_at frame.now.net s.values b ≡ numbered [] (rows_of image.entry.now.held.items) b) }
+    ensures cursors { IfOk result (λ s. s.cursors ≡ image.entry.now.cursors.items) }
+    ensures idle { IfOk result (λ s. AreIdle frame.now s) }
+    ensures lines { IfOk result (λ s. s.lines ≡ 0) }
+    ensures sum { IfOk result (λ s. s.sum ≡ 0) }
+{
+    let values = joined(alloc, &image.held)?;
+    let cursors = places(alloc, &image.cursors)?;
+    Store::of(alloc, frame, values, cursors)
+}
+
+/// A wheel with the pending events that were saved at the date `now`, programmed in the order in which they fire. Its dates are less by `now`.
+fn saved_wheel(
+    alloc: Global,
+    net: &Net,
+    pending: &[(u64, u32)],
+    now: u64,
+) -> Result<WheelAgenda, NoMemory>
+    requires { ArePending net.now now pending.now }
+    ensures { IfOk result (λ w. Keeps net.now now now w.meaning w.puts (numbered_anew pending.now)) }
+{
+    let mut wheel = WheelAgenda::new(alloc, net.source_count() - 1)?;
+    for (date, source) in pending {
+        program(&mut wheel, 0, (*date - now) as i64, *source);
+    }
+    Ok(wheel)
+}
+
+impl Ready {
+    ghost use Rattle.sci_sim.specs.Restored.{IsRestored};
+
+    /// The net at the state that was saved, over the schedule of the net and a full library. It resets all banks, adds an instance for each block in its
+    /// saved state, and programs the pending events; it takes all memory of the run. The banks, the observations and the dates of `wheel` are counted
+    /// from there on. Where memory is wanting, the banks may hold any instances.
+    pub fn restore(
+        alloc: Global,
+        n: Net,
+        p: Schedule,
+        lib: &mut Library,
+        image: &Image,
+    ) -> Result<Ready, NoMemory>
+        requires full { IsFull (⟦<Library as Banks>⟧.banks lib.old) }
+        requires in_order { AreInOrder (⟦<Library as Banks>⟧.banks lib.old) }
+        requires plan { IsPlan n (plan_of p) }
+        requires shaped { IsShaped n (saved_of image.now) }
+        ensures restored { IfOk result (λ r. IsRestored n r (⟦<Library as Banks>⟧.banks lib.new) (saved_of image.entry.now)) }
+        ensures full { IsFull (⟦<Library as Banks>⟧.banks lib.new) }
+        ensures in_order { AreInOrder (⟦<Library as Banks>⟧.banks lib.new) }
+    {
+        n.well_formed();
+        let rows = rows(alloc, p)?;
+        let wheel = saved_wheel(alloc, &n, &image.pending, image.now)?;
+        let frame = Frame::in_states(alloc, n, &image.states, lib)?;
+        let store = saved_store(alloc, &frame, image)?;
+        let lines = Lines::new(alloc, store.len())?;
+        Ok(Ready {
+            frame,
+            rows,
+            store,
+            wheel,
+            offset: image.now,
+            now: image.now,
+            fired: image.fired,
+            row: 0,
+            started: true,
+            halted: false,
+            lines,
+        })
+    }
+}

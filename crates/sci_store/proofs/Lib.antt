@@ -1,0 +1,12 @@
+pub mod Evaluating
+pub mod Digits
+pub mod Paging
+pub mod Writing
+pub mod Counting
+pub mod Updating
+pub mod Reacting
+pub mod Delaying
+pub mod Framed
+pub mod Seated
+pub mod Stored
+pub mod Starting

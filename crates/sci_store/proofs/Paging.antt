@@ -1,0 +1,139 @@
+-- Lines that wait before a sink, and the pieces of a line.
+use Rattle.std.proofs.Common.{◌≡◌, ℕ, ◌+◌, ◌≤◌, Bool, false, ◌||◌, ℤ, List, [], ◌∷◌, ◌++◌, take, drop, length, refl, sym, ap, subst, ◌∙◌, append_assoc, arith, Ok, Err, codes}
+use Rattle.std.specs.Prelude.{Result, OnOk, OnErr}
+use Rattle.std.specs.Fmt.{signed_decimal}
+use Rattle.std.proofs.lemmas.List.{append-nil, take-append-drop, take-append-le, length-take-le}
+use Rattle.std.proofs.Math.Seq.{take-append_seam, take-append-add}
+use Rattle.sci_base.specs.declared.observation.Obs.TheVariants.{Val}
+use Rattle.sci_io.specs.Taken.{SinkState, is_some_text, Writes, UnderWay}
+use Rattle.sci_io.proofs.Advance.{begins, next_front, cut_off, finished, stays, due_is, front_is, or-nil, begun-append}
+use Rattle.sci_trace.specs.Lines.{line}
+use Rattle.sci_store.specs.Paged.{Named, start_text, paged}
+
+-- ---- the line of a value
+
+pub line_is : (n : Named) (v : ℤ) → line (Val n.block n.port n.element v) ≡ start_text n ++ (signed_decimal v ++ codes "\n")
+unfolding line
+line_is n v =
+    let tail = signed_decimal v ++ codes "\n" in
+    let third = append_assoc (signed_decimal n.element) (codes " ") tail in
+    let second = append_assoc (signed_decimal n.port) (codes " " ++ (signed_decimal n.element ++ codes " ")) tail
+    ∙ ap (λ (l : List ℕ). signed_decimal n.port ++ (codes " " ++ l)) third in
+    let first = append_assoc (signed_decimal n.block) (codes " " ++ (signed_decimal n.port ++ (codes " " ++ (signed_decimal n.element ++ codes " ")))) tail
+    ∙ ap (λ (l : List ℕ). signed_decimal n.block ++ (codes " " ++ l)) second in
+    sym (ap (λ (l : List ℕ). codes "val" ++ (codes " " ++ l)) first)
+
+-- ---- a piece behind what stands before it
+
+-- from a place on stands this piece, and what is before it is as before
+pub put_behind : (old new piece rest : List ℕ) (at : ℕ) → at ≤ length old → take at new ≡ take at old → drop at new ≡ piece ++ rest
+    → take (at + length piece) new ≡ take at old ++ piece
+put_behind old new piece rest at within before written =
+    let whole : new ≡ take at old ++ (piece ++ rest) =
+    sym (take-append-drop at new) ∙ (ap (λ (l : List ℕ). l ++ drop at new) before ∙ ap (λ (l : List ℕ). take at old ++ l) written) in
+    let long : length (take at old) ≡ at = length-take-le at old within in
+    ap (λ (l : List ℕ). take (at + length piece) l) whole
+    ∙ (ap (λ (k : ℕ). take (k + length piece) (take at old ++ (piece ++ rest))) (sym long)
+    ∙ (take-append-add (take at old) (piece ++ rest) (length piece)
+    ∙ ap (λ (l : List ℕ). take at old ++ l) (take-append_seam piece rest)))
+
+-- the front of a piece that was put there
+pub front_put : (xs ys rest : List ℕ) (at count : ℕ) → at ≤ length xs → count ≤ length ys → take (at + count) (take at xs ++ (ys ++ rest)) ≡ take at xs ++ take count ys
+front_put xs ys rest at count within enough =
+    ap (λ (k : ℕ). take (k + count) (take at xs ++ (ys ++ rest))) (sym (length-take-le at xs within))
+    ∙ (take-append-add (take at xs) (ys ++ rest) count ∙ ap (λ (l : List ℕ). take at xs ++ l) (take-append-le count ys rest enough))
+
+-- ---- a sink before which lines wait
+
+pub none_waits : (s : SinkState) → paged s [] ≡ s
+none_waits s =
+    ap (λ (h : List ℕ). let t : SinkState = record { taken = s.taken; held = h; faults = s.faults; begun = s.begun || false } in t) (append-nil s.held)
+    ∙ ap (λ (b : Bool). let t : SinkState = record { taken = s.taken; held = s.held; faults = s.faults; begun = b } in t) (or-nil s.begun)
+
+-- one more line waits
+pub waits : {T E : Type 0} (s : SinkState) (bytes l : List ℕ) (x : T) → Writes {T = T} {E = E} (paged s bytes) (paged s (bytes ++ l)) l (Ok x)
+waits s bytes l x = record {
+  ok = due_is _ _ (sym (append_assoc s.held bytes l)) (stays s.taken (s.held ++ (bytes ++ l)));
+  quiet = refl;
+  begun = sym (begun-append s.begun bytes l);
+  cut = tt;
+  dropped = tt;
+  cause = tt;
+  later = omega arith;
+}
+
+pub line_waits : {T E : Type 0} (s : SinkState) (bytes new : List ℕ) (n : Named) (v : ℤ) (x : T) → new ≡ bytes ++ (start_text n ++ (signed_decimal v ++ codes "\n"))
+    → Writes {T = T} {E = E} (paged s bytes) (paged s new) (line (Val n.block n.port n.element v)) (Ok x)
+line_waits {T} {E} s bytes new n v x h =
+    let l = line (Val n.block n.port n.element v) in
+    subst (λ (b : List ℕ). Writes {T = T} {E = E} (paged s bytes) (paged s b) l (Ok x)) (sym (h ∙ ap (λ (k : List ℕ). bytes ++ k) (sym (line_is n v)))) (waits s bytes l x)
+
+-- what waits is given on
+pub gives : {T E : Type 0} (s t : SinkState) (bytes : List ℕ) (r : Result T E) → Writes s t bytes r → Writes (paged s bytes) (paged t []) [] r
+gives {T} {E} s t bytes (Ok x) h = subst (λ (u : SinkState). Writes {T = T} {E = E} (paged s bytes) u [] (Ok x)) (sym (none_waits t)) (record {
+  ok = due_is _ _ (sym (append-nil (s.held ++ bytes))) h.ok;
+  quiet = h.quiet;
+  begun = h.begun ∙ sym (or-nil (s.begun || is_some_text bytes));
+  cut = tt;
+  dropped = tt;
+  cause = tt;
+  later = h.later;
+})
+gives {T} {E} s t bytes (Err e) h = subst (λ (u : SinkState). Writes {T = T} {E = E} (paged s bytes) u [] (Err e)) (sym (none_waits t)) (record {
+  ok = tt;
+  quiet = tt;
+  begun = tt;
+  cut = front_is _ _ (sym (append-nil (s.held ++ bytes))) h.cut;
+  dropped = h.dropped;
+  cause = h.cause;
+  later = h.later;
+})
+
+pub gives_nothing : {T E : Type 0} (s : SinkState) (x : T) → Writes {T = T} {E = E} s s [] (Ok x)
+gives_nothing s x = finished x (begins s [])
+
+-- nothing, and then a piece
+pub piece_behind : {T E : Type 0} {old mid new : SinkState} {U F : Type 0} (piece : List ℕ) (r : Result T E) (x : T) (q : Result U F) → r ≡ Ok x → Writes old mid [] r
+    → Writes mid new piece q → Writes old new piece q
+piece_behind {old = old} {mid = mid} piece r x (Ok y) is first second =
+    let begun = next_front [] piece r x is (begins old piece) first in
+    finished y (next_front piece [] (Ok y) y refl (subst (λ (l : List ℕ). UnderWay old mid piece l) (sym (append-nil piece)) begun) second)
+piece_behind {old = old} {mid = mid} piece r x (Err e) is first second =
+    let begun = next_front [] piece r x is (begins old piece) first in
+    cut_off piece [] (Err e) (Err e) e e refl refl (subst (λ (l : List ℕ). UnderWay old mid piece l) (sym (append-nil piece)) begun) second
+
+-- a piece is cut off before it
+pub none_given : {T E U F : Type 0} {old new : SinkState} (piece : List ℕ) (r : Result T E) (q : Result U F) (e : E) (f : F) → r ≡ Err e → q ≡ Err f → Writes old new [] r
+    → Writes old new piece q
+none_given {old = old} piece r q e f is was h = cut_off [] piece r q e f is was (begins old piece) h
+
+-- a text of which all is on the page, which is then given on
+pub last_given : {T E : Type 0} {old mid new : SinkState} {text : List ℕ} (r : Result T E) → UnderWay old mid text [] → Writes mid new [] r → Writes old new text r
+last_given (Ok x) w h = finished x (next_front [] [] (Ok x) x refl w h)
+last_given (Err e) w h = cut_off [] [] (Err e) (Err e) e e refl refl w h
+
+pub on_ok : {T E A : Type 0} (r : Result T E) → A → OnOk r A
+on_ok (Ok x) h = h
+on_ok (Err e) h = tt
+
+empty_behind : (a b : List ℕ) → a ++ b ≡ [] → b ≡ []
+empty_behind [] b h = h
+empty_behind (x ∷ a) b h = absurd (omega (arith, ap (λ (l : List ℕ). length l) h))
+
+none_left : (s : SinkState) (bytes : List ℕ) → bytes ≡ [] → paged s bytes ≡ s
+none_left s bytes h = ap (λ (l : List ℕ). paged s l) h ∙ none_waits s
+
+-- where a call failed no line waits
+pub none_kept : {T E : Type 0} {old : SinkState} (s : SinkState) (bytes text : List ℕ) (r : Result T E) (e : E) → r ≡ Err e → Writes old (paged s bytes) text r
+    → Writes old s text r
+none_kept {old = old} s bytes text r e is h =
+    let held : s.held ++ bytes ≡ [] = subst (λ q. OnErr q (s.held ++ bytes ≡ [])) is h.dropped in
+    subst (λ (u : SinkState). Writes old u text r) (none_left s bytes (empty_behind s.held bytes held)) h
+
+-- from a page without lines to one without lines
+pub as_written : {T E : Type 0} (s t : SinkState) (bytes text : List ℕ) (r : Result T E) → bytes ≡ [] → Writes (paged s []) (paged t bytes) text r → Writes s t text r
+as_written s t bytes text r none h =
+    subst (λ (u : SinkState). Writes u t text r) (none_waits s) (subst (λ (u : SinkState). Writes (paged s []) u text r) (none_left t bytes none) h)
+
+pub from_none : {T E : Type 0} (s t : SinkState) (text : List ℕ) (r : Result T E) → Writes (paged s []) t text r → Writes s t text r
+from_none s t text r h = subst (λ (u : SinkState). Writes u t text r) (none_waits s) h

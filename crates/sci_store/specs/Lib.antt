@@ -1,0 +1,11 @@
+pub mod Marks
+pub mod Tally
+pub mod Blocks
+pub mod Frame
+pub mod Seating
+pub mod Store
+pub mod Entering
+pub mod Passed
+pub mod Written
+pub mod Delays
+pub mod Paged

@@ -1,0 +1,73 @@
+// What one block gives, by its instance in the banks.
+ghost use Rattle.std.specs.Prelude.{◌≡◌, ◌+◌, ◌≤◌, if◌then◌else◌};
+ghost use Rattle.sci_forms.specs.Ports.{Fills};
+ghost use Rattle.sci_forms.specs.Forms.{is_sync};
+ghost use Rattle.sci_kinds.specs.Asks.{IsMask, entering};
+ghost use Rattle.sci_kinds.specs.Table.{out, branch};
+ghost use Rattle.sci_net.specs.Parts.{IsBlock, spec_of};
+ghost use Rattle.sci_net.specs.Net.{all_elements};
+ghost use Rattle.sci_reaction.specs.Equations.{AreInRange};
+ghost use Rattle.sci_places.specs.Flat.{values_at, start_of, IsWhole};
+ghost use Rattle.sci_places.specs.Layout.{block_span};
+ghost use Rattle.sci_store.specs.Frame.{AreSeated};
+ghost use Rattle.sci_store.specs.Store.{state_of};
+ghost use Rattle.sci_store.specs.Passed.{called, IsComputed};
+
+use crate::frame::Frame;
+use sci_bank::Fate;
+use sci_bank::library::{Banks, Library};
+use sci_places::Span;
+
+/// Where the values of a block lie among those of all.
+pub fn place(frame: &Frame, block: u32) -> Span
+    requires { IsBlock frame.now.net block }
+    ensures place { result ≡ block_span frame.now.net block }
+    ensures within { result.start + result.len ≤ all_elements frame.now.net.specs }
+    ensures small { all_elements frame.now.net.specs ≤ 65536 }
+{
+    frame.well_formed();
+    frame.places.outs(block)
+}
+
+/// Computes the values of a block on what goes into it, and writes them at the block's place among those of all.
+pub fn compute(
+    frame: &Frame,
+    lib: &mut Library,
+    block: u32,
+    mask: u64,
+    ins: &[i64],
+    values: &mut [i64],
+) -> Fate
+    requires seated { AreSeated frame.now (⟦<Library as Banks>⟧.banks lib.old) }
+    requires block { IsBlock frame.now.net block }
+    requires mask { IsMask (spec_of frame.now.net block) mask }
+    requires filled { Fills (entering (spec_of frame.now.net block)) ins.now }
+    requires whole { IsWhole frame.now.net values.old }
+    requires values { AreInRange frame.now.net (values_at frame.now.net values.old) }
+    ensures computed { let before = ⟦<Library as Banks>⟧.banks lib.old in IsComputed (out (spec_of frame.now.net block) (state_of frame.now before block) mask ins.now) (start_of frame.now.net block) values.old values.new result }
+    ensures called { ⟦<Library as Banks>⟧.banks lib.new ≡ called frame.now (⟦<Library as Banks>⟧.banks lib.old) block }
+    ensures whole { IsWhole frame.now.net values.new }
+    ensures values { AreInRange frame.now.net (values_at frame.now.net values.new) }
+    ensures seated { AreSeated frame.now (⟦<Library as Banks>⟧.banks lib.new) }
+{
+    let seat = frame.seat(block);
+    let place = place(frame, block);
+    let outs = &mut values[place.start..place.start + place.len];
+    lib.out(seat.kind, seat.slot, mask, ins, outs)
+}
+
+/// The branch that a block takes on what goes into it; 0 for a block that isn't synchronous.
+pub fn take_branch(frame: &Frame, lib: &Library, block: u32, ins: &[i64]) -> u32
+    requires seated { AreSeated frame.now (⟦<Library as Banks>⟧.banks lib.now) }
+    requires block { IsBlock frame.now.net block }
+    requires filled { Fills (entering (spec_of frame.now.net block)) ins.now }
+    ensures { result ≡ (if is_sync (spec_of frame.now.net block).kind then branch (spec_of frame.now.net block) ins.now else 0) }
+{
+    frame.well_formed();
+    let seat = frame.seat(block);
+    if seat.kind.is_sync() {
+        lib.branch(seat.kind, seat.slot, ins)
+    } else {
+        0
+    }
+}

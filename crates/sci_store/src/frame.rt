@@ -1,0 +1,131 @@
+// What stays as it is through a run.
+ghost use Rattle.std.specs.Prelude.{◌≡◌, ℕ, ◌<◌, ◌≤◌, ◌^◌, length, true, IfOk, unsigned_abs};
+ghost use Rattle.sci_forms.specs.Typed.{typed};
+ghost use Rattle.sci_net.specs.Parts.{IsBlock, spec_of, column_of, rows_of};
+ghost use Rattle.sci_net.specs.Sources.{sources_of, source_of};
+ghost use Rattle.sci_bank.specs.Library.{AreInOrder, IsFull};
+ghost use Rattle.sci_run.specs.Activity.{is_halt};
+ghost use Rattle.sci_run.specs.Laws.{AreLoopFree};
+ghost use Rattle.sci_run.specs.Observed.{header};
+ghost use Rattle.sci_store.specs.Seating.{IsSeating, IsSeatingBy, begun};
+
+use crate::seats::{Seat, seat_all, seat_in_states};
+use sci_bank::library::{Banks, Library};
+use sci_base::{NoMemory, Obs};
+use sci_kinds::Kind;
+use sci_net::{Net, Source};
+use sci_places::Places;
+use std::alloc::Global;
+use std::marker::Model;
+
+/// A net none of whose sources has a loop, with the places of its values and the instances of its blocks.
+#[derive(Drop)]
+pub struct Frame {
+    pub net: Net,
+    pub places: Places,
+    /// One for each block.
+    pub seats: Vec<Seat>,
+}
+
+impl Model for Frame {
+    ghost use Rattle.sci_store.specs.Frame.{Fixed, IsFrame};
+
+    ghost Value = { Fixed };
+
+    ghost view = { λ f. record { net = f.net; layout = f.places; seats = f.seats.items } };
+
+    ghost invariant = { λ f. IsFrame (record { net = f.net; layout = f.places; seats = f.seats.items }) };
+}
+
+impl Frame {
+    ghost use Rattle.sci_store.specs.Frame.{IsFrame, seat_of};
+
+    /// A net, none of whose sources has a loop, with an instance of each block in a full library. It resets all banks. Where memory is wanting,
+    /// the banks may hold any instances.
+    pub fn new(alloc: Global, net: Net, lib: &mut Library) -> Result<Frame, NoMemory>
+        requires free { AreLoopFree net }
+        requires full { IsFull (⟦<Library as Banks>⟧.banks lib.old) }
+        requires in_order { AreInOrder (⟦<Library as Banks>⟧.banks lib.old) }
+        ensures net { IfOk result (λ f. f.net ≡ net) }
+        ensures seated { IfOk result (λ f. IsSeating f.net f.seats (⟦<Library as Banks>⟧.banks lib.new)) }
+        ensures full { IsFull (⟦<Library as Banks>⟧.banks lib.new) }
+        ensures in_order { AreInOrder (⟦<Library as Banks>⟧.banks lib.new) }
+    {
+        net.well_formed();
+        let places = Places::new(alloc, &net)?;
+        let seats = seat_all(alloc, &net, lib)?;
+        Ok(Frame { net, places, seats })
+    }
+
+    /// The same, with an instance of each block in its state among these, with which its spec is typed still.
+    pub fn in_states(
+        alloc: Global,
+        net: Net,
+        states: &[Vec<i64>],
+        lib: &mut Library,
+    ) -> Result<Frame, NoMemory>
+        requires free { AreLoopFree net }
+        requires full { IsFull (⟦<Library as Banks>⟧.banks lib.old) }
+        requires in_order { AreInOrder (⟦<Library as Banks>⟧.banks lib.old) }
+        requires one_each { length states.now ≡ length net.specs }
+        requires is_typed { (b : ℕ) → IsBlock net b → typed (begun net (rows_of states.now) b) ≡ true }
+        ensures net { IfOk result (λ f. f.net ≡ net) }
+        ensures seated { IfOk result (λ f. IsSeatingBy f.net (begun f.net (rows_of states.now)) f.seats (⟦<Library as Banks>⟧.banks lib.new)) }
+        ensures full { IsFull (⟦<Library as Banks>⟧.banks lib.new) }
+        ensures in_order { AreInOrder (⟦<Library as Banks>⟧.banks lib.new) }
+    {
+        net.well_formed();
+        let places = Places::new(alloc, &net)?;
+        let seats = seat_in_states(alloc, &net, states, lib)?;
+        Ok(Frame { net, places, seats })
+    }
+
+    /// What holds of every frame.
+    pub fn well_formed(&self)
+        ensures { IsFrame self.now }
+    {
+        let _blocks = self.net.len();
+    }
+
+    /// Where a block's instance is kept.
+    pub fn seat(&self, block: u32) -> Seat
+        requires least { 1 ≤ block }
+        requires most { block ≤ length self.now.net.specs }
+        ensures { result ≡ seat_of self.now block }
+    {
+        self.seats[block as usize - 1]
+    }
+
+    /// The column that a sensor reads, counted from 1.
+    pub fn column(&self, block: u32) -> usize
+        requires least { 1 ≤ block }
+        requires most { block ≤ length self.now.net.specs }
+        ensures { result ≡ column_of (spec_of self.now.net block) }
+    {
+        self.net.spec(block).params.at(0).unsigned_abs() as usize
+    }
+
+    /// Whether the block ends the run.
+    pub fn is_halt(&self, block: u32) -> bool
+        requires least { 1 ≤ block }
+        requires most { block ≤ length self.now.net.specs }
+        ensures { result ≡ is_halt (spec_of self.now.net block).kind }
+    {
+        match self.seats[block as usize - 1].kind {
+            Kind::Halt => true,
+            _ => false,
+        }
+    }
+
+    /// What is observed of a source that fires at a date, in ticks, by the source's place among those of the net.
+    pub fn header(&self, source: u32, date: u64) -> Obs
+        requires source { source < length (sources_of self.now.net) }
+        requires date { date < 2 ^ 63 }
+        ensures { result ≡ header date (source_of self.now.net source) }
+    {
+        match self.net.source(source) {
+            Source::Start => Obs::Start,
+            Source::Port(q) => Obs::Event(date as i64, i64::from(q.block), i64::from(q.port)),
+        }
+    }
+}

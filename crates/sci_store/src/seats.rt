@@ -1,0 +1,111 @@
+// The instances of a net's blocks.
+ghost use Rattle.std.specs.Prelude.{◌≡◌, ℕ, ◌≤◌, ◌+◌, ◌<◌, length, true, IfOk};
+ghost use Rattle.sci_bank.specs.Library.{AreInOrder, IsFull};
+ghost use Rattle.sci_forms.specs.Typed.{typed};
+ghost use Rattle.sci_net.specs.Parts.{IsBlock, spec_of, rows_of};
+ghost use Rattle.sci_net.specs.Sources.{block_sources};
+ghost use Rattle.sci_store.specs.Seating.{AreReset, IsSeating, IsSeatingBy, begun};
+
+use sci_bank::library::{Banks, Library};
+use sci_base::{Ints, NoMemory};
+use sci_kinds::{Kind, Spec};
+use sci_net::Net;
+use std::alloc::Global;
+
+/// Where a block is kept: its kind's bank and its slot there; and the place of its first activation output among the net's sources.
+#[derive(Clone, Copy, Debug, Drop, PartialEq, Eq)]
+pub struct Seat {
+    pub kind: Kind,
+    pub slot: usize,
+    /// Of a block that isn't synchronous: its activation output `p` is source `first_source + p - 1`.
+    pub first_source: u32,
+}
+
+/// Drops all instances of all kinds.
+fn reset_all(lib: &mut Library)
+    requires full { IsFull (⟦<Library as Banks>⟧.banks lib.old) }
+    requires in_order { AreInOrder (⟦<Library as Banks>⟧.banks lib.old) }
+    ensures { AreReset (⟦<Library as Banks>⟧.banks lib.new) }
+{
+    for number in 1..35u8 {
+        if let Some(kind) = Kind::at(number) {
+            lib.reset(kind);
+        }
+    }
+}
+
+/// How many sources a block is.
+fn source_count(net: &Net, block: u32) -> u32
+    requires least { 1 ≤ block }
+    requires most { block ≤ length net.now.specs }
+    ensures { result ≡ length (block_sources block (spec_of net.now block)) }
+{
+    let spec = net.spec(block);
+    if spec.kind.is_sync() { 0 } else { spec.evtout }
+}
+
+/// Resets all banks, and adds an instance for each block of a net, in its first state.
+pub fn seat_all(alloc: Global, net: &Net, lib: &mut Library) -> Result<Vec<Seat>, NoMemory>
+    requires full { IsFull (⟦<Library as Banks>⟧.banks lib.old) }
+    requires in_order { AreInOrder (⟦<Library as Banks>⟧.banks lib.old) }
+    ensures seated { IfOk result (λ v. IsSeating net.now v.items (⟦<Library as Banks>⟧.banks lib.new)) }
+    ensures full { IsFull (⟦<Library as Banks>⟧.banks lib.new) }
+    ensures in_order { AreInOrder (⟦<Library as Banks>⟧.banks lib.new) }
+{
+    net.well_formed();
+    reset_all(lib);
+    let mut seats = Vec::with_capacity(alloc, net.len() as usize)?;
+    let mut first_source = 1;
+    for block in 0..net.len() {
+        let spec = net.spec(block + 1);
+        let slot = lib.add(spec.kind, spec)?;
+        seats.push(Seat {
+            kind: spec.kind,
+            slot,
+            first_source,
+        })?;
+        first_source += source_count(net, block + 1);
+    }
+    Ok(seats)
+}
+
+/// A spec with these values in place of the state that it begins with.
+fn with_state(alloc: Global, spec: &Spec, state: &[i64]) -> Result<Spec, NoMemory>
+    ensures { IfOk result (λ s. s ≡ record spec.now { state = state.now }) }
+{
+    let mut begun = spec.copy(alloc)?;
+    begun.state = Ints::of(state.to_vec(alloc)?);
+    Ok(begun)
+}
+
+/// Resets all banks, and adds an instance for each block of a net, in its state among these.
+pub fn seat_in_states(
+    alloc: Global,
+    net: &Net,
+    states: &[Vec<i64>],
+    lib: &mut Library,
+) -> Result<Vec<Seat>, NoMemory>
+    requires full { IsFull (⟦<Library as Banks>⟧.banks lib.old) }
+    requires in_order { AreInOrder (⟦<Library as Banks>⟧.banks lib.old) }
+    requires one_each { length states.now ≡ length net.now.specs }
+    requires is_typed { (b : ℕ) → IsBlock net.now b → typed (begun net.now (rows_of states.now) b) ≡ true }
+    ensures seated { IfOk result (λ v. IsSeatingBy net.now (begun net.now (rows_of states.now)) v.items (⟦<Library as Banks>⟧.banks lib.new)) }
+    ensures full { IsFull (⟦<Library as Banks>⟧.banks lib.new) }
+    ensures in_order { AreInOrder (⟦<Library as Banks>⟧.banks lib.new) }
+{
+    net.well_formed();
+    reset_all(lib);
+    let mut seats = Vec::with_capacity(alloc, net.len() as usize)?;
+    let mut first_source = 1;
+    for block in 0..net.len() {
+        let spec = with_state(alloc, net.spec(block + 1), &states[block as usize])?;
+        let slot = lib.add(spec.kind, &spec)?;
+        seats.push(Seat {
+            kind: spec.kind,
+            slot,
+            first_source,
+        })?;
+        first_source += source_count(net, block + 1);
+    }
+    Ok(seats)
+}

@@ -1,0 +1,508 @@
+// What changes from one reaction to the next.
+ghost use Rattle.std.specs.Prelude.{◌≡◌, ℕ, ◌+◌, ◌-◌, ◌<◌, ◌≤◌, ◌^◌, ◌++◌, ◌∷◌, [], ◌<ℤ◌, pos, slice_set, take, drop, length, Contains, true, IfOk, IsSome, OnOk, OnErr};
+ghost use Rattle.sci_base.specs.Lists.{at, listed};
+ghost use Rattle.sci_io.specs.Taken.{Writes};
+ghost use Rattle.sci_trace.specs.Lines.{line, text};
+ghost use Rattle.sci_forms.specs.Ports.{total, elements, port_at};
+ghost use Rattle.sci_forms.specs.Forms.{has_delay};
+ghost use Rattle.sci_kinds.specs.Asks.{IsMask, IsState};
+ghost use Rattle.sci_kinds.specs.Table.{held_of};
+ghost use Rattle.sci_net.specs.declared.Source.{Source};
+ghost use Rattle.sci_net.specs.Parts.{IsBlock, spec_of, is_sensor};
+ghost use Rattle.sci_reaction.specs.Memory.{Memory, IsMemory, AreColumns, next_value, first_memory};
+ghost use Rattle.sci_reaction.specs.Equations.{Signals, AreInRange, input_in, all_inputs};
+ghost use Rattle.sci_run.specs.Activity.{Activity, IsActivity, halts};
+ghost use Rattle.sci_run.specs.Observed.{elements_seen, outputs_seen, blocks_seen};
+ghost use Rattle.sci_places.specs.Flat.{values_at, IsWhole};
+
+use crate::block::{compute, place, take_branch};
+use crate::frame::Frame;
+use crate::lines::Lines;
+use crate::marks::{IDLE, Mark, clear};
+use crate::tally::Tally;
+use sci_bank::Fate;
+use sci_bank::library::{Banks, Library};
+use sci_base::{NoMemory, Obs, StopWord};
+use sci_io::{Failed, Sink};
+use sci_kinds::{Kind, Ports, Spec};
+use sci_trace::inputs::Inputs;
+use sci_trace::write_obs;
+use std::alloc::Global;
+use std::marker::Model;
+
+/// The values of a net's outputs, the cursors of its sensors, and what the last reaction activated.
+#[derive(Drop)]
+pub struct Store {
+    /// By block, port and element.
+    values: Vec<i64>,
+    /// By block; 0 for a block that is no sensor.
+    cursors: Vec<usize>,
+    /// By block.
+    marks: Vec<Mark>,
+    // room for what goes into one block
+    ins: Vec<i64>,
+    tally: Tally,
+}
+
+impl Model for Store {
+    ghost use Rattle.sci_store.specs.Store.{Standing};
+
+    ghost Value = { Standing };
+
+    ghost view = { λ s. record { values = s.values.items; cursors = s.cursors.items; marks = s.marks.items; room = s.ins.items; lines = s.tally.lines; sum = s.tally.sum } };
+}
+
+/// Element `at` of the outputs before the block's first activation.
+fn first_held(spec: &Spec, at: usize) -> i64
+    ensures { result ≡ held_of spec.now.kind spec.now at }
+{
+    match spec.kind {
+        Kind::Dollar => if spec.state.len() == 1 {
+            spec.state.at(0)
+        } else {
+            spec.state.at(at)
+        },
+        Kind::Register | Kind::ModuloCount => spec.state.at(0),
+        _ => 0,
+    }
+}
+
+/// Adds the values that a block holds before its first activation.
+fn push_held(values: &mut Vec<i64>, spec: &Spec, count: usize) -> Result<(), NoMemory>
+    ensures { OnOk result (values.new.items ≡ values.old.items ++ listed (held_of spec.now.kind spec.now) count) }
+{
+    for at in 0..count {
+        values.push(first_held(spec, at))?;
+    }
+    Ok(())
+}
+
+/// The values that all blocks hold before the run.
+fn all_held(alloc: Global, frame: &Frame) -> Result<Vec<i64>, NoMemory>
+    ensures whole { IfOk result (λ v. IsWhole frame.now.net v.items) }
+    ensures held { IfOk result (λ v. (b : ℕ) → IsBlock frame.now.net b → values_at frame.now.net v.items b ≡ (first_memory frame.now.net).held b) }
+{
+    let mut values = Vec::new(alloc);
+    for block in 0..frame.net.len() {
+        let count = frame.places.outs(block + 1).len;
+        push_held(&mut values, frame.net.spec(block + 1), count)?;
+    }
+    Ok(values)
+}
+
+/// How many elements an output has, of a block whose outputs have `all`. Most blocks have one output, whose sizes need not be multiplied.
+fn output_elements(outs: &Ports, port: usize, all: usize) -> usize
+    requires port { port < length outs.now }
+    requires all { all ≡ total outs.now }
+    ensures { result ≡ elements (port_at outs.now port) }
+{
+    if outs.len() == 1 {
+        return all;
+    }
+    outs.get(port).elements() as usize
+}
+
+impl Store {
+    ghost use Rattle.sci_store.specs.Marks.{idle, mark_at};
+    ghost use Rattle.sci_store.specs.Blocks.{AreBlocksByNumber};
+    ghost use Rattle.sci_store.specs.Frame.{AreSeated};
+    ghost use Rattle.sci_store.specs.Store.{Standing, IsStore, AreIdle, cursor_at, state_of, ShowsValues};
+    ghost use Rattle.sci_store.specs.Passed.{given, IsEvaluated, IsStepped, IsStateStepped, IsBlockStepped, ShowsBefore, AreAlikeCounts, KeepsValues};
+    ghost use Rattle.sci_store.specs.Written.{AreAmong, IsPlain, tallied};
+    ghost use Rattle.sci_store.specs.Delays.{delays_in};
+    ghost use Rattle.sci_store.specs.Paged.{paged};
+    ghost use Rattle.sci_store.specs.Entering.{IsEntered};
+
+    /// The store before a run.
+    pub fn new(alloc: Global, frame: &Frame) -> Result<Store, NoMemory>
+        ensures store { IfOk result (λ s. IsStore frame.now s) }
+        ensures held { IfOk result (λ s. (b : ℕ) → IsBlock frame.now.net b → values_at frame.now.net s.values b ≡ (first_memory frame.now.net).held b) }
+        ensures cursors { IfOk result (λ s. (b : ℕ) → IsBlock frame.now.net b → cursor_at s b ≡ 0) }
+        ensures idle { IfOk result (λ s. AreIdle frame.now s) }
+        ensures lines { IfOk result (λ s. s.lines ≡ 0) }
+        ensures sum { IfOk result (λ s. s.sum ≡ 0) }
+    {
+        let values = all_held(alloc, frame)?;
+        let cursors = vec![in alloc; 0; frame.net.len() as usize]?;
+        Store::of(alloc, frame, values, cursors)
+    }
+
+    /// The store of these values, by block, port and element, and these cursors, by block; nothing is marked or counted.
+    pub fn of(
+        alloc: Global,
+        frame: &Frame,
+        values: Vec<i64>,
+        cursors: Vec<usize>,
+    ) -> Result<Store, NoMemory>
+        requires values { IsWhole frame.now.net values.items }
+        requires cursors { length cursors.items ≡ length frame.now.net.specs }
+        ensures store { IfOk result (λ s. IsStore frame.now s) }
+        ensures values { IfOk result (λ s. s.values ≡ values.items) }
+        ensures cursors { IfOk result (λ s. s.cursors ≡ cursors.items) }
+        ensures idle { IfOk result (λ s. AreIdle frame.now s) }
+        ensures lines { IfOk result (λ s. s.lines ≡ 0) }
+        ensures sum { IfOk result (λ s. s.sum ≡ 0) }
+    {
+        let marks = vec![in alloc; IDLE; frame.net.len() as usize]?;
+        let ins = vec![in alloc; 0; frame.places.longest()]?;
+        Ok(Store {
+            values,
+            cursors,
+            marks,
+            ins,
+            tally: Tally::new(),
+        })
+    }
+
+    /// How many values there are.
+    pub fn len(&self) -> usize
+        ensures { result ≡ length self.now.values }
+    {
+        self.values.len()
+    }
+
+    /// The values that a block's outputs hold, by port and element.
+    pub fn held(&self, frame: &Frame, block: u32) -> &[i64]
+        requires store { IsStore frame.now self.now }
+        requires block { IsBlock frame.now.net block }
+        ensures { result.now ≡ values_at frame.now.net self.now.values block }
+    {
+        let place = place(frame, block);
+        &self.values[place.start..place.start + place.len]
+    }
+
+    /// How many values of its column each sensor has taken, by block; 0 for a block that is no sensor.
+    pub fn cursors(&self) -> &[usize]
+        ensures { result.now ≡ self.now.cursors }
+    {
+        &self.cursors
+    }
+
+    /// What was counted of the run.
+    pub fn tally(&self) -> Tally
+        ensures lines { result.lines ≡ self.now.lines }
+        ensures sum { result.sum ≡ self.now.sum }
+    {
+        self.tally
+    }
+
+    /// Writes an observation without a value.
+    pub fn observe<S: Sink>(&mut self, o: &Obs, out: &mut S) -> Result<(), Failed>
+        requires { IsPlain o.now }
+        ensures written { Writes (S.state out.old) (S.state out.new) (line o.now) result }
+        ensures counted { OnOk result (self.new ≡ tallied self.old (o.now ∷ [])) }
+        ensures kept { OnErr result (self.new ≡ self.old) }
+    {
+        write_obs(o, out)?;
+        self.tally.count();
+        Ok(())
+    }
+
+    /// A value of a block's outputs, the elements of all of them counted from 1.
+    pub fn value(&self, frame: &Frame, block: u32, element: u32) -> i64
+        requires store { IsStore frame.now self.now }
+        requires block { IsBlock frame.now.net block }
+        requires least { 1 ≤ element }
+        requires most { element ≤ total (spec_of frame.now.net block).outs }
+        ensures { result ≡ at (values_at frame.now.net self.now.values block) (element - 1) }
+    {
+        self.values[frame.places.outs(block).start + element as usize - 1]
+    }
+
+    /// Whether the last reaction activated the block.
+    pub fn is_active(&self, block: u32) -> bool
+        requires least { 1 ≤ block }
+        requires most { block ≤ length self.now.marks }
+        ensures { result ≡ (mark_at self.now.marks block).active }
+    {
+        self.marks[block as usize - 1].active
+    }
+
+    /// What is known of each block in the last reaction, by number.
+    pub fn marks(&self) -> &[Mark]
+        ensures { result.now ≡ self.now.marks }
+    {
+        self.marks.as_slice()
+    }
+
+    /// Takes back what a reaction activated among these blocks.
+    pub fn clear(&mut self, frame: &Frame, blocks: &[u32])
+        requires store { IsStore frame.now self.old }
+        requires blocks { AreBlocksByNumber frame.now.net blocks.now }
+        ensures cleared { (b : ℕ) → Contains blocks.now b → mark_at self.new.marks b ≡ idle }
+        ensures others { (b : ℕ) → mark_at self.old.marks b ≡ idle → mark_at self.new.marks b ≡ idle }
+        ensures rest { self.new ≡ record self.old { marks = self.new.marks } }
+        ensures store { IsStore frame.now self.new }
+    {
+        clear(&mut self.marks, blocks);
+    }
+
+    // The next value of a sensor's column, where it has one.
+    fn sense(&self, frame: &Frame, inputs: &Inputs, block: u32) -> Option<i64>
+        requires store { IsStore frame.now self.now }
+        requires block { IsBlock frame.now.net block }
+        ensures value { result ≡ next_value inputs.now (spec_of frame.now.net block) (cursor_at self.now block) }
+        ensures small { IsSome result → cursor_at self.now block < 2 ^ 63 }
+    {
+        let at = frame.column(block).checked_sub(1)?;
+        let column = inputs.columns().get(at)?;
+        let value = column.get(self.cursors[block as usize - 1])?;
+        Some(*value)
+    }
+
+    // What goes into a block: the next value of a sensor's column, or the values on all inputs. None at the end of the column.
+    fn enter(&mut self, frame: &Frame, inputs: &Inputs, block: u32) -> Option<usize>
+        requires store { IsStore frame.now self.old }
+        requires block { IsBlock frame.now.net block }
+        ensures entered { IsEntered frame.now inputs.now self.old block self.new.room result }
+        ensures same { self.new ≡ record self.old { room = self.new.room } }
+        ensures room { length self.new.room ≡ length self.old.room }
+    {
+        frame.well_formed();
+        match frame.seat(block).kind {
+            Kind::Sensor => {
+                self.ins[0] = self.sense(frame, inputs, block)?;
+                Some(1)
+            }
+            _ => Some(self.gather(frame, block)),
+        }
+    }
+
+    // The values on all inputs of a block.
+    fn gather(&mut self, frame: &Frame, block: u32) -> usize
+        requires store { IsStore frame.now self.old }
+        requires block { IsBlock frame.now.net block }
+        ensures within { result ≤ length self.new.room }
+        ensures gathered { take result self.new.room ≡ all_inputs (spec_of frame.now.net block) (input_in frame.now.net (values_at frame.now.net self.old.values) block) }
+        ensures same { self.new ≡ record self.old { room = self.new.room } }
+        ensures room { length self.new.room ≡ length self.old.room }
+    {
+        frame.well_formed();
+        frame.places.gather(block, &self.values, &mut self.ins)
+    }
+
+    /// Gives an active block its values; or the word that says why it has none.
+    pub fn evaluate(
+        &mut self,
+        frame: &Frame,
+        lib: &mut Library,
+        inputs: &Inputs,
+        block: u32,
+        mask: u64,
+    ) -> Option<StopWord>
+        requires store { IsStore frame.now self.old }
+        requires seated { AreSeated frame.now (⟦<Library as Banks>⟧.banks lib.old) }
+        requires block { IsBlock frame.now.net block }
+        requires mask { IsMask (spec_of frame.now.net block) mask }
+        requires values { AreInRange frame.now.net (values_at frame.now.net self.old.values) }
+        requires columns { AreColumns frame.now.net inputs.now }
+        ensures answer { let before = ⟦<Library as Banks>⟧.banks lib.old in IsEvaluated frame.now before (⟦<Library as Banks>⟧.banks lib.new) self.old self.new block mask (given frame.now inputs.now before self.old block mask) result }
+        ensures store { IsStore frame.now self.new }
+        ensures seated { AreSeated frame.now (⟦<Library as Banks>⟧.banks lib.new) }
+        ensures values { AreInRange frame.now.net (values_at frame.now.net self.new.values) }
+    {
+        frame.well_formed();
+        let Some(count) = self.enter(frame, inputs, block) else {
+            return Some(StopWord::Input);
+        };
+        let ins = &self.ins[..count];
+        match compute(frame, lib, block, mask, ins, &mut self.values) {
+            Fate::Overflow => return Some(StopWord::Overflow),
+            Fate::Zero => return Some(StopWord::Zero),
+            Fate::Done => {}
+        }
+        let branch = take_branch(frame, lib, block, ins);
+        self.marks[block as usize - 1] = Mark {
+            active: true,
+            branch,
+            mask,
+        };
+        None
+    }
+
+    // Writes the lines of the values of an output.
+    fn write_port<S: Sink>(
+        &mut self,
+        block: u32,
+        port: usize,
+        start: usize,
+        count: usize,
+        lines: &mut Lines,
+        out: &mut S,
+    ) -> Result<(), Failed>
+        requires within { start + count ≤ length self.old.values }
+        requires port { port < 2 ^ 63 }
+        ensures written { Writes (paged (S.state out.old) lines.old) (paged (S.state out.new) lines.new) (text (elements_seen block port 1 (take count (drop start self.old.values)))) result }
+        ensures counted { OnOk result (self.new ≡ tallied self.old (elements_seen block port 1 (take count (drop start self.old.values)))) }
+        ensures same { self.new ≡ record self.old { lines = self.new.lines; sum = self.new.sum } }
+    {
+        for at in 0..count {
+            let value = self.values[start + at];
+            lines.put(
+                start + at,
+                i64::from(block),
+                port as i64,
+                at as i64 + 1,
+                value,
+                out,
+            )?;
+            self.tally.count_value(value);
+        }
+        Ok(())
+    }
+
+    // Writes the lines of the values of a block.
+    fn write_block<S: Sink>(
+        &mut self,
+        frame: &Frame,
+        block: u32,
+        lines: &mut Lines,
+        out: &mut S,
+    ) -> Result<(), Failed>
+        requires store { IsStore frame.now self.old }
+        requires block { IsBlock frame.now.net block }
+        ensures written { Writes (paged (S.state out.old) lines.old) (paged (S.state out.new) lines.new) (text (outputs_seen block 1 (spec_of frame.now.net block).outs (values_at frame.now.net self.old.values block))) result }
+        ensures counted { OnOk result (self.new ≡ tallied self.old (outputs_seen block 1 (spec_of frame.now.net block).outs (values_at frame.now.net self.old.values block))) }
+        ensures same { self.new ≡ record self.old { lines = self.new.lines; sum = self.new.sum } }
+    {
+        let outs = &frame.net.spec(block).outs;
+        let place = frame.places.outs(block);
+        let mut start = place.start;
+        for port in 0..outs.len() {
+            let count = output_elements(outs, port, place.len);
+            self.write_port(block, port + 1, start, count, lines, out)?;
+            start += count;
+        }
+        Ok(())
+    }
+
+    /// Writes the values of the active ones of these blocks, by block, port and element. What waited among the lines before is forgotten.
+    pub fn write_values<S: Sink>(
+        &mut self,
+        frame: &Frame,
+        blocks: &[u32],
+        lines: &mut Lines,
+        out: &mut S,
+    ) -> Result<(), Failed>
+        requires store { IsStore frame.now self.old }
+        requires blocks { AreBlocksByNumber frame.now.net blocks.now }
+        ensures written { (s : Source) (y : Signals) (active : Activity) → ShowsValues frame.now s self.old y active → AreAmong frame.now.net active blocks.now → Writes (S.state out.old) (S.state out.new) (text (blocks_seen 1 frame.now.net.specs y active)) result }
+        ensures counted { OnOk result ((s : Source) (y : Signals) (active : Activity) → ShowsValues frame.now s self.old y active → AreAmong frame.now.net active blocks.now → self.new ≡ tallied self.old (blocks_seen 1 frame.now.net.specs y active)) }
+        ensures same { self.new ≡ record self.old { lines = self.new.lines; sum = self.new.sum } }
+    {
+        lines.clear();
+        for block in blocks {
+            if self.is_active(*block) {
+                self.write_block(frame, *block, lines, out)?;
+            }
+        }
+        lines.give(out)
+    }
+
+    /// After how many ticks an activation output of an active block fires next, on the values that go in; -1 where nothing is programmed.
+    pub fn delay(&mut self, frame: &Frame, lib: &Library, block: u32, port: u32) -> i64
+        requires store { IsStore frame.now self.old }
+        requires seated { AreSeated frame.now (⟦<Library as Banks>⟧.banks lib.now) }
+        requires block { IsBlock frame.now.net block }
+        requires delayed { has_delay (spec_of frame.now.net block).kind ≡ true }
+        requires active { (mark_at self.old.marks block).active ≡ true }
+        requires values { AreInRange frame.now.net (values_at frame.now.net self.old.values) }
+        ensures value { result ≡ delays_in frame.now self.old (record { block = block; port = port }) }
+        ensures small { result <ℤ pos (2 ^ 31) }
+        ensures same { self.new ≡ record self.old { room = self.new.room } }
+        ensures room { length self.new.room ≡ length self.old.room }
+    {
+        frame.well_formed();
+        let seat = frame.seat(block);
+        let count = self.gather(frame, block);
+        lib.delay(seat.kind, seat.slot, port, &self.ins[..count])
+    }
+
+    // An active block steps its state, where its kind has one.
+    fn update_state(&mut self, frame: &Frame, lib: &mut Library, block: u32)
+        requires store { IsStore frame.now self.old }
+        requires seated { AreSeated frame.now (⟦<Library as Banks>⟧.banks lib.old) }
+        requires block { IsBlock frame.now.net block }
+        requires values { AreInRange frame.now.net (values_at frame.now.net self.old.values) }
+        requires mask { IsMask (spec_of frame.now.net block) (mark_at self.old.marks block).mask }
+        requires state { IsState (spec_of frame.now.net block) (state_of frame.now (⟦<Library as Banks>⟧.banks lib.old) block) }
+        ensures { IsStateStepped frame.now block self.old self.new (⟦<Library as Banks>⟧.banks lib.old) (⟦<Library as Banks>⟧.banks lib.new) }
+    {
+        frame.well_formed();
+        let seat = frame.seat(block);
+        if !seat.kind.has_state() {
+            return;
+        }
+        let count = self.gather(frame, block);
+        let mask = self.marks[block as usize - 1].mask;
+        lib.update(seat.kind, seat.slot, mask, &self.ins[..count]);
+    }
+
+    // A sensor whose column has a value goes on to the next.
+    fn go_on(&mut self, frame: &Frame, inputs: &Inputs, block: u32)
+        requires store { IsStore frame.now self.old }
+        requires block { IsBlock frame.now.net block }
+        requires sensed { IsSome (next_value inputs.now (spec_of frame.now.net block) (cursor_at self.old block)) }
+        ensures { self.new ≡ record self.old { cursors = slice_set self.old.cursors (block - 1) (cursor_at self.old block + 1) } }
+    {
+        if self.sense(frame, inputs, block).is_some() {
+            self.cursors[block as usize - 1] += 1;
+        }
+    }
+
+    // An active block steps its state; a sensor goes on in its column.
+    fn update(&mut self, frame: &Frame, lib: &mut Library, inputs: &Inputs, block: u32)
+        requires store { IsStore frame.now self.old }
+        requires seated { AreSeated frame.now (⟦<Library as Banks>⟧.banks lib.old) }
+        requires block { IsBlock frame.now.net block }
+        requires values { AreInRange frame.now.net (values_at frame.now.net self.old.values) }
+        requires mask { IsMask (spec_of frame.now.net block) (mark_at self.old.marks block).mask }
+        requires sensed { is_sensor (spec_of frame.now.net block).kind ≡ true → IsSome (next_value inputs.now (spec_of frame.now.net block) (cursor_at self.old block)) }
+        requires state { IsState (spec_of frame.now.net block) (state_of frame.now (⟦<Library as Banks>⟧.banks lib.old) block) }
+        ensures { IsBlockStepped frame.now block self.old self.new (⟦<Library as Banks>⟧.banks lib.old) (⟦<Library as Banks>⟧.banks lib.new) }
+    {
+        frame.well_formed();
+        self.update_state(frame, lib, block);
+        let seat = frame.seat(block);
+        if let Kind::Sensor = seat.kind {
+            self.go_on(frame, inputs, block);
+        }
+    }
+
+    /// The active ones of these blocks step their states, and sensors go on in their columns.
+    pub fn update_all(&mut self, frame: &Frame, blocks: &[u32], lib: &mut Library, inputs: &Inputs)
+        requires store { IsStore frame.now self.old }
+        requires seated { AreSeated frame.now (⟦<Library as Banks>⟧.banks lib.old) }
+        requires blocks { AreBlocksByNumber frame.now.net blocks.now }
+        requires values { AreInRange frame.now.net (values_at frame.now.net self.old.values) }
+        requires masks { (b : ℕ) → IsBlock frame.now.net b → (mark_at self.old.marks b).active ≡ true → IsMask (spec_of frame.now.net b) (mark_at self.old.marks b).mask }
+        requires sensed { (b : ℕ) → IsBlock frame.now.net b → (mark_at self.old.marks b).active ≡ true → is_sensor (spec_of frame.now.net b).kind ≡ true → IsSome (next_value inputs.now (spec_of frame.now.net b) (cursor_at self.old b)) }
+        requires states { (b : ℕ) → IsBlock frame.now.net b → IsState (spec_of frame.now.net b) (state_of frame.now (⟦<Library as Banks>⟧.banks lib.old) b) }
+        ensures stepped { (s : Source) (m : Memory) (y : Signals) (active : Activity) → IsActivity frame.now.net s y active → ShowsValues frame.now s self.old y active → AreAmong frame.now.net active blocks.now → ShowsBefore frame.now self.old (⟦<Library as Banks>⟧.banks lib.old) m → IsMemory frame.now.net m → IsStepped frame.now s m y self.new (⟦<Library as Banks>⟧.banks lib.new) }
+        ensures values { KeepsValues self.old self.new }
+        ensures store { IsStore frame.now self.new }
+        ensures seated { AreSeated frame.now (⟦<Library as Banks>⟧.banks lib.new) }
+        ensures counts { AreAlikeCounts (⟦<Library as Banks>⟧.banks lib.old) (⟦<Library as Banks>⟧.banks lib.new) }
+    {
+        frame.well_formed();
+        for block in blocks {
+            if self.is_active(*block) {
+                self.update(frame, lib, inputs, *block);
+            }
+        }
+    }
+
+    /// Whether one of these blocks ends the run and is active.
+    pub fn halts(&self, frame: &Frame, blocks: &[u32]) -> bool
+        requires store { IsStore frame.now self.now }
+        requires blocks { AreBlocksByNumber frame.now.net blocks.now }
+        ensures { (s : Source) (y : Signals) (active : Activity) → ShowsValues frame.now s self.now y active → AreAmong frame.now.net active blocks.now → result ≡ halts frame.now.net active }
+    {
+        for block in blocks {
+            if frame.is_halt(*block) && self.is_active(*block) {
+                return true;
+            }
+        }
+        false
+    }
+}
