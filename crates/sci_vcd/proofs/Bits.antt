@@ -16,8 +16,9 @@ use Rattle.sci_base.specs.Fit.{width, low, high, span, in_range}
 use Rattle.sci_base.specs.Bits.{pattern}
 use Rattle.sci_base.proofs.FitLemmas.{low+span, span_pos, span-pow, in_range_yes, rem_bounds}
 use Rattle.sci_vcd.specs.Spelling.{binary, bits}
-use Rattle.sci_vcd.specs.Reading.{◌>>=◌, is_bit, bits_of, number_of, decoded}
-use Rattle.sci_vcd.proofs.Parts.{bind_some, guarded, some_is}
+use Rattle.sci_text.specs.Reading.{◌>>=◌}
+use Rattle.sci_text.proofs.Parts.{bind_some, guarded, some_is}
+use Rattle.sci_vcd.specs.Reading.{is_bit, bits_of, number_of, decoded}
 
 -- ---- digits
 

@@ -1,20 +1,21 @@
 -- Texts that were read line by line, and the line that is blamed.
-use Rattle.std.proofs.Common.{◌≡◌, ℕ, ◌+◌, ◌<◌, ◌≤◌, List, [], ◌∷◌, ◌++◌, length, Option, Some, None, false, ⊎_elim, refl, sym, ap, ◌∙◌, subst, arith, append_assoc, append-nil, length-append}
+use Rattle.std.proofs.Common.{◌≡◌, ℕ, ◌+◌, List, [], ◌∷◌, ◌++◌, Option, Some, None, false, refl, sym, ap, ◌∙◌, append_assoc, append-nil}
 use Rattle.std.specs.Prelude.{Result, Ok, Err}
-use Rattle.std.proofs.lemmas.Bool.{cases_order}
 use Rattle.sci_vcd.specs.declared.machine.Stage.TheVariants.{Ticks}
 use Rattle.sci_vcd.specs.declared.read.VcdStop.{VcdStop}
 use Rattle.sci_vcd.specs.declared.read.VcdStop.TheVariants.{NotVcd, Memory}
 use Rattle.sci_vcd.specs.Waveforms.{Waveforms, IsDump}
-use Rattle.sci_vcd.specs.Spelling.{with_lf, joined, lines_of, spelling}
-use Rattle.sci_vcd.specs.Reading.{◌>>=◌}
+use Rattle.sci_text.specs.Reading.{◌>>=◌}
+use Rattle.sci_text.specs.Lines.{with_lf, joined, has_lf, AllClear}
+use Rattle.sci_text.proofs.Parts.{bind_some, some_is}
+use Rattle.sci_text.proofs.Splits.{through-append, through_front, joined_push, clear_append, split_lines, no_line}
+use Rattle.sci_vcd.specs.Spelling.{lines_of, spelling}
 use Rattle.sci_vcd.specs.Machine.{State, at_stage, outset, pass, passes}
-use Rattle.sci_vcd.specs.Blame.{Spells, BeginsSpelling, has_lf, AllClear, IsFirstWrong, Answers, Accepts, Blames}
-use Rattle.sci_vcd.proofs.Parts.{bind_some, some_is}
-use Rattle.sci_vcd.proofs.Splits.{joined-append, joined_push, clear_append, split_lines, first_line, no_line}
+use Rattle.sci_vcd.specs.Blame.{Spells, BeginsSpelling, IsFirstWrong, Answers, Accepts, Blames}
+use Rattle.sci_text.proofs.FirstWrong as wrong
 use Rattle.sci_vcd.proofs.Clear.{lines_clear}
 use Rattle.sci_vcd.proofs.Leading.{Led, led_more}
-use Rattle.sci_vcd.proofs.Passing.{passes-append, passes_front, dump_passes}
+use Rattle.sci_vcd.proofs.Passing.{dump_passes}
 
 -- Lines that were read.
 pub record Reached (lines : List (List ℕ)) (s : State) : Type 0 where
@@ -28,7 +29,7 @@ reached_none = record { clear = tt; ran = refl; led = record { are = refl; stand
 pub reached_more : (lines : List (List ℕ)) (line : List ℕ) (s u : State) → Reached lines s → has_lf line ≡ false → pass line s ≡ Some u → Reached (lines ++ line ∷ []) u
 reached_more lines line s u r c e = record {
   clear = clear_append lines (line ∷ []) r.clear (c, tt);
-  ran = passes-append lines (line ∷ []) outset s r.ran ∙ ap (λ (q : Option State). q >>= passes []) e;
+  ran = through-append pass lines (line ∷ []) outset s r.ran ∙ ap (λ (q : Option State). q >>= passes []) e;
   led = led_more lines line s u r.led e;
 }
 
@@ -43,8 +44,8 @@ stops_there lines line s r c e f =
     let whole : joined (lines_of w) ≡ joined all ++ f.1 = f.3 ∙ ap (λ (t : List ℕ). t ++ f.1) (sym (joined_push lines line)) in
     let k = split_lines all (lines_of w) f.1 (clear_append lines (line ∷ []) r.clear (c, tt)) (lines_clear w f.2) whole in
     let ran : passes (all ++ k.0) outset ≡ Some (at_stage Ticks w) = ap (λ (ls : List (List ℕ)). passes ls outset) (sym k.1) ∙ dump_passes w f.2 in
-    let front = passes_front all k.0 outset (at_stage Ticks w) ran in
-    let here : passes (line ∷ []) s ≡ Some front.0 = sym (passes-append lines (line ∷ []) outset s r.ran) ∙ front.1 in
+    let front = through_front pass all k.0 outset (at_stage Ticks w) ran in
+    let here : passes (line ∷ []) s ≡ Some front.0 = sym (through-append pass lines (line ∷ []) outset s r.ran) ∙ front.1 in
     let one = bind_some (pass line s) (passes []) front.0 here in
     no_some one.0 (sym e ∙ one.1)
 
@@ -77,41 +78,12 @@ one_dump v w d e same = one_spelled (spelling v) v w (d, refl) (e, same)
 pub not_both : (bytes : List ℕ) (w : Waveforms) (k : ℕ) → Spells bytes w → IsFirstWrong bytes k → ⊥
 not_both bytes w k s f = f.none w s
 
--- a text's lines up to a wrong one, and the same text's lines up to a later one
-clear_parts : (a b : List (List ℕ)) → AllClear (a ++ b) → AllClear a × AllClear b
-clear_parts [] b f = (tt, f)
-clear_parts (l ∷ a) b f = let i = clear_parts a b f.1 in ((f.0, i.0), i.1)
-
--- lines that are split from the same text are the beginning of one another
-prefix : (a b : List (List ℕ)) (x y : List ℕ) → AllClear a → AllClear b → length a ≤ length b → joined a ++ x ≡ joined b ++ y → (ks : List (List ℕ)) × (b ≡ a ++ ks) × (x ≡ joined ks ++ y)
-prefix [] b x y f g h e = (b, refl, e)
-prefix (l ∷ a) [] x y f g h e = absurd (omega (arith, h))
-prefix (l ∷ a) (m ∷ b) x y f g h e =
-    let s = first_line l m (joined a ++ x) (joined b ++ y) f.0 g.0 (sym (append_assoc (with_lf l) (joined a) x) ∙ e ∙ append_assoc (with_lf m) (joined b) y) in
-    let i = prefix a b x y f.1 g.1 (omega (arith, h)) s.1 in
-    (i.0, ap (λ (q : List ℕ). q ∷ b) (sym s.0) ∙ ap (λ (t : List (List ℕ)). l ∷ t) i.1, i.2)
-
 front_begins : (a b : List ℕ) → BeginsSpelling (a ++ b) → BeginsSpelling a
 front_begins a b f = (f.0, b ++ f.1, f.2, f.3 ∙ append_assoc a b f.1)
 
--- the next line of a text can't be wrong where more lines begin a dump
-no_next : (a ks : List (List ℕ)) (x y : List ℕ) → AllClear ks → 0 < length ks → x ≡ joined ks ++ y → BeginsSpelling (joined (a ++ ks))
-    → ((line more : List ℕ) → has_lf line ≡ false → x ≡ with_lf line ++ more → BeginsSpelling (joined a ++ with_lf line) → ⊥) → ⊥
-no_next a [] x y c h e f wrong = absurd (omega (arith, h))
-no_next a (l ∷ ks) x y c h e f wrong =
-    let parts : joined (a ++ (l ∷ ks)) ≡ (joined a ++ with_lf l) ++ joined ks = joined-append a (l ∷ ks) ∙ sym (append_assoc (joined a) (with_lf l) (joined ks)) in
-    wrong l (joined ks ++ y) c.0 (e ∙ append_assoc (with_lf l) (joined ks) y) (front_begins (joined a ++ with_lf l) (joined ks) (subst BeginsSpelling parts f))
-
-not_earlier : (bytes : List ℕ) (j k : ℕ) → IsFirstWrong bytes j → IsFirstWrong bytes k → j < k → ⊥
-not_earlier bytes j k u v less =
-    let m = u.number in
-    let n = v.number in
-    let p = prefix u.before v.before u.rest v.rest u.clear v.clear (omega arith) (sym u.split ∙ v.split) in
-    let size : length v.before ≡ length u.before + length p.0 = ap (λ (ls : List (List ℕ)). length ls) p.1 ∙ length-append u.before p.0 in
-    no_next u.before p.0 u.rest v.rest (clear_parts u.before p.0 (subst AllClear p.1 v.clear)).1 (omega arith) p.2 (subst (λ (ls : List (List ℕ)). BeginsSpelling (joined ls)) p.1 v.begins) u.wrong
-
 pub one_first_wrong : (bytes : List ℕ) (j k : ℕ) → IsFirstWrong bytes j → IsFirstWrong bytes k → j ≡ k
-one_first_wrong bytes j k u v = ⊎_elim (λ e. e) (λ o. ⊎_elim (λ h. absurd (not_earlier bytes j k u v h)) (λ h. absurd (not_earlier bytes k j v u h)) o) (cases_order j k)
+one_first_wrong bytes j k u v =
+    u.number ∙ ap (λ (n : ℕ). n + 1) (wrong.one_first_wrong BeginsSpelling front_begins u.before v.before u.rest v.rest u.clear v.clear (sym u.split ∙ v.split) u.begins v.begins u.wrong v.wrong) ∙ sym v.number
 
 pub accepts : (bytes : List ℕ) (r : Result Waveforms VcdStop) → Answers bytes r → (w : Waveforms) → Spells bytes w → Accepts r w
 accepts bytes (Ok d) a w s = one_spelled bytes d w a s

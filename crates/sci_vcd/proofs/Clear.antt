@@ -1,12 +1,8 @@
 -- No line of a dump has a LF in it.
 use Rattle.std.proofs.Common.{◌≡◌, ℕ, ◌+◌, ◌^◌, ◌<◌, ◌≤◌, ℤ, List, [], ◌∷◌, ◌++◌, length, Bool, true, false, refl, ap, ◌∙◌, arith}
-use Rattle.std.specs.Prelude.{nat_eq, nat_le, ◌||◌, codes, decimal, if◌then◌else◌}
-use Rattle.std.specs.Char.{is_ascii_digit}
-use Rattle.std.specs.Str.{all_ascii_digits}
-use Rattle.std.proofs.lemmas.Bool.{and_parts, ne_eqb, leb-true}
+use Rattle.std.specs.Prelude.{nat_eq, nat_le, codes, decimal, if◌then◌else◌}
+use Rattle.std.proofs.lemmas.Bool.{and_parts, leb-true}
 use Rattle.std.proofs.lemmas.List.{length_push}
-use Rattle.std.proofs.lemmas.List.Folds.{list_any-append}
-use Rattle.std.proofs.lemmas.Fmt.{digits_decimal}
 use Rattle.sci_base.specs.declared.Ty.{Ty}
 use Rattle.sci_base.specs.declared.Ty.TheVariants.{I32, I16, I8, U32, U16, U8}
 use Rattle.sci_base.specs.Fit.{width}
@@ -15,34 +11,12 @@ use Rattle.sci_vcd.specs.declared.signal.Signal.{Signal}
 use Rattle.sci_vcd.specs.declared.signal.Change.{Change}
 use Rattle.sci_vcd.specs.Waveforms.{Waveforms, Each, type_of, is_within, Joins, Follows, IsDump}
 use Rattle.sci_vcd.specs.Spelling.{bits, type_text, signal_line, value_line, tick_line, signal_lines, value_lines, next_tick, change_lines, opening, signals_part, values_part, head_part, lines_of}
-use Rattle.sci_vcd.specs.Blame.{has_lf, AllClear}
-use Rattle.sci_vcd.proofs.Numbers.{own}
+use Rattle.sci_text.specs.Lines.{has_lf, AllClear}
+use Rattle.sci_text.proofs.Splits.{clear_append}
+use Rattle.sci_text.proofs.Clear.{both_clear, around, digits_clear, decimal_clear}
 use Rattle.sci_vcd.proofs.Bits.{digits_binary}
 use Rattle.sci_vcd.proofs.Lines.{name_tail, row_is, within_small}
 use Rattle.sci_vcd.proofs.Eachs.{signals_few}
-use Rattle.sci_vcd.proofs.Splits.{clear_append}
-
-both_clear : (a b : List ℕ) → has_lf a ≡ false → has_lf b ≡ false → has_lf (a ++ b) ≡ false
-both_clear a b e f = list_any-append (nat_eq 10) a b ∙ ap (λ (x : Bool). x || has_lf b) e ∙ f
-
-digit_clear : (c : ℕ) → is_ascii_digit c ≡ true → nat_eq 10 c ≡ false
-digit_clear c e = ne_eqb 10 c (λ h. let k : is_ascii_digit 10 ≡ true = ap is_ascii_digit h ∙ e in absurd (wrong k))
-  where
-    wrong : is_ascii_digit 10 ≡ true → ⊥
-    wrong k = cc
-
-digits_clear : (ds : List ℕ) → all_ascii_digits ds ≡ true → has_lf ds ≡ false
-digits_clear [] e = refl
-digits_clear (c ∷ ds) e =
-    let p = and_parts (is_ascii_digit c) (all_ascii_digits ds) e in
-    ap (λ (x : Bool). x || has_lf ds) (digit_clear c p.0) ∙ digits_clear ds p.1
-
-decimal_clear : (n : ℕ) → n < 2 ^ 64 → has_lf (decimal n) ≡ false
-decimal_clear n h = digits_clear (decimal n) (digits_decimal own n h)
-
--- between two texts without a LF
-around : (a t b : List ℕ) → has_lf a ≡ false → has_lf t ≡ false → has_lf b ≡ false → has_lf (a ++ (t ++ b)) ≡ false
-around a t b e f g = both_clear a (t ++ b) e (both_clear t b f g)
 
 type_clear : (t : Ty) → has_lf (type_text t) ≡ false
 type_clear I32 = refl

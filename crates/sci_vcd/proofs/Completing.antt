@@ -9,10 +9,11 @@ use Rattle.sci_base.specs.Fit.{in_range, int_eq}
 use Rattle.sci_vcd.specs.declared.machine.Stage.{Stage}
 use Rattle.sci_vcd.specs.declared.machine.Stage.TheVariants.{Timescale, Scope, Signals, Definitions, Origin, Dumpvars, First, Ticks, Tick}
 use Rattle.sci_vcd.specs.Waveforms.{Waveforms, type_of, Begins, Follows, IsDump}
-use Rattle.sci_vcd.specs.Spelling.{joined, value_line, tick_line, value_lines, opening, signals_part, values_part, lines_of}
+use Rattle.sci_text.specs.Lines.{joined}
+use Rattle.sci_text.proofs.Splits.{joined-append}
+use Rattle.sci_vcd.specs.Spelling.{value_line, tick_line, value_lines, opening, signals_part, values_part, lines_of}
 use Rattle.sci_vcd.specs.Blame.{BeginsSpelling}
 use Rattle.sci_vcd.specs.Machine.{State, nothing, with_first, with_change, value_now, last_change, change_by, HasSignals, HasValues, HasTick, Stands}
-use Rattle.sci_vcd.proofs.Splits.{joined-append}
 use Rattle.sci_vcd.proofs.Eachs.{each_push, value_lines-push}
 use Rattle.sci_vcd.proofs.Leading.{lines_at, unchanged_lines, values_dump, changed_dump, changed_lines, new_tick, Led}
 

@@ -9,14 +9,14 @@ use Rattle.sci_base.proofs.FitLemmas.{int_le_yes}
 int_le_true : (a b : ℤ) → int_le a b ≡ true → a ≤ℤ b
 int_le_true a b e = grind (arith, ints)
 
-same_by : (a b : ℤ) → int_eq a b ≡ true → a ≡ b
+pub same_by : (a b : ℤ) → int_eq a b ≡ true → a ≡ b
 same_by a b e =
     let p = and_parts (int_le a b) (int_le b a) e in
     let below : a ≤ℤ b = int_le_true a b p.0 in
     let above : b ≤ℤ a = int_le_true b a p.1 in
     omega (arith, ints)
 
-same_self : (a : ℤ) → int_eq a a ≡ true
+pub same_self : (a : ℤ) → int_eq a a ≡ true
 same_self a = and_from (int_le a a) (int_le a a) (int_le_yes a a (omega (arith, ints))) (int_le_yes a a (omega (arith, ints)))
 
 pub differ_from : (a b : ℤ) → (a ≡ b → ⊥) → not (int_eq a b) ≡ true

@@ -12,6 +12,11 @@ pub each_push : {A : Type 0} (P : List A → A → Type 0) (before xs : List A) 
 each_push {A} P before [] x e p = (subst (λ (l : List A). P l x) (append-nil before) p, tt)
 each_push {A} P before (y ∷ xs) x e p = (e.0, each_push P (before ++ y ∷ []) xs x e.1 (subst (λ (l : List A). P l x) (sym (append_assoc before (y ∷ []) xs)) p))
 
+-- and some items more
+pub each-append : {A : Type 0} (P : List A → A → Type 0) (before xs ys : List A) → Each P before xs → Each P (before ++ xs) ys → Each P before (xs ++ ys)
+each-append {A} P before [] ys e f = subst (λ (l : List A). Each P l ys) (append-nil before) f
+each-append {A} P before (x ∷ xs) ys e f = (e.0, each-append P (before ++ x ∷ []) xs ys e.1 (subst (λ (l : List A). Each P l ys) (sym (append_assoc before (x ∷ []) xs)) f))
+
 -- ---- how many signals there are
 
 signals_most : (before gs : List Signal) → Each Joins before gs → length before ≤ 65536 → length before + length gs ≤ 65536

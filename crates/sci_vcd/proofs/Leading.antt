@@ -10,9 +10,10 @@ use Rattle.sci_vcd.specs.declared.machine.Stage.{Stage}
 use Rattle.sci_vcd.specs.declared.machine.Stage.TheVariants.{Timescale, Scope, Signals, Definitions, Origin, Dumpvars, First, Ticks, Tick}
 use Rattle.sci_vcd.specs.Waveforms.{Waveforms, type_of, counts, is_within, rises, Joins, Begins, AreValues, Follows, AreChanges, IsDump, is_later, outset_of}
 use Rattle.sci_vcd.specs.Spelling.{signal_line, value_line, tick_line, signal_lines, value_lines, next_tick, change_lines, opening, signals_part, values_part, head_part, lines_of}
-use Rattle.sci_vcd.specs.Reading.{◌>>=◌, after, ended, decoded, signal_at, change_at, tick_at}
+use Rattle.sci_text.specs.Reading.{◌>>=◌, after, ended}
+use Rattle.sci_text.proofs.Parts.{bind_some, else_cases, chosen, guarded, some_is, after_takes, ended_takes}
+use Rattle.sci_vcd.specs.Reading.{decoded, signal_at, change_at, tick_at}
 use Rattle.sci_vcd.specs.Machine.{State, at_stage, nothing, with_signal, with_first, with_change, fixed, may_join, joining, beginning, value_now, last_change, may_change, changing, change_by, turning, may_tick, ticking, pass_at, pass, HasSignals, HasValues, HasTick, Stands}
-use Rattle.sci_vcd.proofs.Parts.{bind_some, else_cases, chosen, guarded, some_is, after_takes, ended_takes}
 use Rattle.sci_vcd.proofs.Bits.{decoded_takes}
 use Rattle.sci_vcd.proofs.Lines.{digits_line, signal_takes, change_takes, tick_takes}
 use Rattle.sci_vcd.proofs.Differing.{differ_by}

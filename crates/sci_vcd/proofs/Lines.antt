@@ -9,9 +9,11 @@ use Rattle.sci_base.specs.Bits.{pattern}
 use Rattle.sci_vcd.specs.declared.signal.Signal.{Signal}
 use Rattle.sci_vcd.specs.Waveforms.{counts, is_within}
 use Rattle.sci_vcd.specs.Spelling.{bits, type_text, name_text, signal_line, value_line}
-use Rattle.sci_vcd.specs.Reading.{after, digits_front, digits_rest, number_at, all_types, type_among, type_at, signal_by, name_at, signal_at, change_at, tick_at}
-use Rattle.sci_vcd.proofs.Parts.{bind_some, else_cases, some_is, after_takes, ended_takes}
-use Rattle.sci_vcd.proofs.Numbers.{front_again, front_splits, number_again, number_takes}
+use Rattle.sci_text.specs.Reading.{after}
+use Rattle.sci_text.specs.Numbers.{digits_front, digits_rest, number_at}
+use Rattle.sci_text.proofs.Parts.{bind_some, else_cases, some_is, after_takes, ended_takes}
+use Rattle.sci_text.proofs.Numbers.{front_again, front_splits, number_again, number_takes}
+use Rattle.sci_vcd.specs.Reading.{all_types, type_among, type_at, signal_by, name_at, signal_at, change_at, tick_at}
 use Rattle.sci_vcd.proofs.Bits.{digits_binary}
 
 -- ---- types

@@ -9,28 +9,16 @@ use Rattle.sci_vcd.specs.declared.signal.Change.{Change}
 use Rattle.sci_vcd.specs.declared.machine.Stage.TheVariants.{Signals, First, Ticks, Tick}
 use Rattle.sci_vcd.specs.Waveforms.{Waveforms, Each, type_of, counts, is_within, rises, Joins, Begins, Follows, IsDump, is_later, outset_of}
 use Rattle.sci_vcd.specs.Spelling.{bits, signal_line, value_line, tick_line, signal_lines, value_lines, next_tick, change_lines, opening, signals_part, values_part, head_part, lines_of}
-use Rattle.sci_vcd.specs.Reading.{◌>>=◌, decoded, change_at}
+use Rattle.sci_text.specs.Reading.{◌>>=◌}
+use Rattle.sci_text.proofs.Splits.{through-append}
+use Rattle.sci_vcd.specs.Reading.{decoded, change_at}
 use Rattle.sci_vcd.specs.Machine.{State, at_stage, nothing, outset, with_signal, with_first, with_change, fixed, may_join, joining, beginning, value_now, last_change, may_change, changing, change_by, turning, may_tick, ticking, pass, passes}
-use Rattle.sci_vcd.proofs.Parts.{bind_some}
 use Rattle.sci_vcd.proofs.Bits.{decoded_again}
 use Rattle.sci_vcd.proofs.Lines.{signal_again, change_again, tick_again}
 use Rattle.sci_vcd.proofs.Differing.{differ_from}
 use Rattle.sci_vcd.proofs.Eachs.{signals_few, last_push}
 use Rattle.sci_vcd.proofs.Clear.{signal_most}
 use Rattle.sci_vcd.proofs.Leading.{told_tick, new_tick}
-
-pub passes-append : (a b : List (List ℕ)) (s t : State) → passes a s ≡ Some t → passes (a ++ b) s ≡ passes b t
-passes-append [] b s t e = ap (λ (q : Option State). q >>= passes b) e
-passes-append (l ∷ a) b s t e =
-    let m = bind_some (pass l s) (passes a) t e in
-    ap (λ (q : Option State). q >>= passes (a ++ b)) m.1 ∙ passes-append a b m.0 t m.2
-
-pub passes_front : (a b : List (List ℕ)) (s t : State) → passes (a ++ b) s ≡ Some t → (u : State) × (passes a s ≡ Some u)
-passes_front [] b s t e = (s, refl)
-passes_front (l ∷ a) b s t e =
-    let m = bind_some (pass l s) (passes (a ++ b)) t e in
-    let i = passes_front a b m.0 t m.2 in
-    (i.0, ap (λ (q : Option State). q >>= passes a) m.1 ∙ i.1)
 
 -- ---- signals
 
@@ -132,7 +120,7 @@ changes_pass (c ∷ cs) w few e =
     let line = value_line (type_of w.signals c.signal) c.signal c.value in
     let last : (last_change v).tick ≡ c.tick = ap (λ (d : Change). d.tick) (last_push (outset_of (length w.signals)) w.changes c) in
     ap (λ (l : List (List ℕ)). passes l (at_stage Ticks w)) (sym (append_assoc (next_tick told c.tick) (line ∷ []) (change_lines w.signals c.tick cs)))
-    ∙ passes-append (next_tick told c.tick ++ (line ∷ [])) (change_lines w.signals c.tick cs) (at_stage Ticks w) (at_stage Ticks v) (change_passes w c few e.0)
+    ∙ through-append pass (next_tick told c.tick ++ (line ∷ [])) (change_lines w.signals c.tick cs) (at_stage Ticks w) (at_stage Ticks v) (change_passes w c few e.0)
     ∙ ap (λ (t : ℕ). passes (change_lines w.signals t cs) (at_stage Ticks v)) (sym last)
     ∙ changes_pass cs v few e.1
     ∙ ap (λ (l : List Change). Some (at_stage Ticks (record w { changes = l }))) (append_assoc w.changes (c ∷ []) cs)
@@ -153,15 +141,15 @@ head_passes w d =
     let few = signals_few gs d.signals in
     let each = d.one_each in
     let first : passes (signals_part gs) outset ≡ Some (at_stage Signals a) =
-    passes-append (codes "$timescale 1 ns $end" ∷ codes "$scope module scicos $end" ∷ []) (signal_lines 1 gs) outset (at_stage Signals nothing) first_lines_pass ∙ signals_pass gs nothing 1 refl d.signals in
+    through-append pass (codes "$timescale 1 ns $end" ∷ codes "$scope module scicos $end" ∷ []) (signal_lines 1 gs) outset (at_stage Signals nothing) first_lines_pass ∙ signals_pass gs nothing 1 refl d.signals in
     let second : passes (values_part gs w.first) outset ≡ Some (at_stage First b) =
-    passes-append (signals_part gs) (opening ++ value_lines gs 1 w.first) outset (at_stage Signals a) first
-    ∙ passes-append opening (value_lines gs 1 w.first) (at_stage Signals a) (at_stage First a) (opening_passes a)
+    through-append pass (signals_part gs) (opening ++ value_lines gs 1 w.first) outset (at_stage Signals a) first
+    ∙ through-append pass opening (value_lines gs 1 w.first) (at_stage Signals a) (at_stage First a) (opening_passes a)
     ∙ values_pass w.first a 1 refl (omega arith) few d.first in
-    passes-append (values_part gs w.first) (codes "$end" ∷ []) outset (at_stage First b) second ∙ ap (λ (q : Option State). q >>= passes []) (end_passes b d.one_each)
+    through-append pass (values_part gs w.first) (codes "$end" ∷ []) outset (at_stage First b) second ∙ ap (λ (q : Option State). q >>= passes []) (end_passes b d.one_each)
 
 pub dump_passes : (w : Waveforms) → IsDump w → passes (lines_of w) outset ≡ Some (at_stage Ticks w)
 dump_passes w d =
     let a : Waveforms = record w { changes = [] } in
-    passes-append (head_part w.signals w.first) (change_lines w.signals 0 w.changes) outset (at_stage Ticks a) (head_passes w d)
+    through-append pass (head_part w.signals w.first) (change_lines w.signals 0 w.changes) outset (at_stage Ticks a) (head_passes w d)
     ∙ changes_pass w.changes a (signals_few w.signals d.signals) d.changes

@@ -4,17 +4,17 @@ use Rattle.std.specs.Prelude.{Result, Ok, Err, IfOk, IfErr}
 use Rattle.std.proofs.lemmas.List.{length_push}
 use Rattle.sci_vcd.specs.declared.machine.Stage.TheVariants.{Ticks}
 use Rattle.sci_vcd.specs.declared.machine.Reader.{Reader}
-use Rattle.sci_vcd.specs.declared.stop.Stop.{Stop}
-use Rattle.sci_vcd.specs.declared.stop.Stop.TheVariants as stops
+use Rattle.sci_text.specs.declared.stop.Stop.{Stop}
+use Rattle.sci_text.specs.declared.stop.Stop.TheVariants as stops
 use Rattle.sci_vcd.specs.declared.read.VcdStop.{VcdStop}
 use Rattle.sci_vcd.specs.declared.read.VcdStop.TheVariants.{NotVcd}
 use Rattle.sci_vcd.specs.Waveforms.{Waveforms}
-use Rattle.sci_vcd.specs.Spelling.{with_lf, joined}
+use Rattle.sci_text.specs.Lines.{with_lf, joined, has_lf}
+use Rattle.sci_text.specs.Stops.{Fails}
+use Rattle.sci_text.proofs.Splits.{joined_push, first_line, line_has_lf}
 use Rattle.sci_vcd.specs.Draft.{IsLinked}
-use Rattle.sci_vcd.specs.Reading.{Fails}
 use Rattle.sci_vcd.specs.Machine.{at_stage, state_of, outset, pass}
-use Rattle.sci_vcd.specs.Blame.{Spells, BeginsSpelling, has_lf, IsFirstWrong, Answers, blame_of}
-use Rattle.sci_vcd.proofs.Splits.{joined_push, first_line, line_has_lf}
+use Rattle.sci_vcd.specs.Blame.{Spells, BeginsSpelling, IsFirstWrong, Answers, blame_of}
 use Rattle.sci_vcd.proofs.Completing.{led_begins}
 use Rattle.sci_vcd.proofs.Blaming.{Reached, reached_none, reached_more, stops_there, spelled_ends, reached_spells}
 

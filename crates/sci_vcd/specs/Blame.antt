@@ -1,12 +1,12 @@
 -- Which texts spell a dump, and which line of another text is the first wrong one.
-use Rattle.std.specs.Prelude.{◌≡◌, ℕ, ◌+◌, List, [], ◌∷◌, ◌++◌, length, Bool, false, nat_eq, Result, Ok, Err}
-use Rattle.std.specs.List.{list_any}
-use Rattle.sci_vcd.specs.declared.stop.Stop.{Stop}
-use Rattle.sci_vcd.specs.declared.stop.Stop.TheVariants as stops
+use Rattle.std.specs.Prelude.{◌≡◌, ℕ, ◌+◌, List, ◌++◌, length, false, Result, Ok, Err}
+use Rattle.sci_text.specs.Lines.{has_lf, with_lf, joined, AllClear}
+use Rattle.sci_text.specs.declared.stop.Stop.{Stop}
+use Rattle.sci_text.specs.declared.stop.Stop.TheVariants as stops
 use Rattle.sci_vcd.specs.declared.read.VcdStop.{VcdStop}
 use Rattle.sci_vcd.specs.declared.read.VcdStop.TheVariants.{NotVcd, Memory}
 use Rattle.sci_vcd.specs.Waveforms.{Waveforms, IsDump}
-use Rattle.sci_vcd.specs.Spelling.{with_lf, joined, spelling}
+use Rattle.sci_vcd.specs.Spelling.{spelling}
 
 -- the text is this dump's
 abbrev pub Spells : List ℕ → Waveforms → Type 0
@@ -15,17 +15,6 @@ Spells bytes w = IsDump w × (bytes ≡ spelling w)
 -- the text is the beginning of some dump's
 abbrev pub BeginsSpelling : List ℕ → Type 0
 BeginsSpelling text = (w : Waveforms) × (more : List ℕ) × IsDump w × (spelling w ≡ text ++ more)
-
-abbrev pub is_lf : ℕ → Bool
-is_lf c = nat_eq c 10
-
-abbrev pub has_lf : List ℕ → Bool
-has_lf bytes = list_any (nat_eq 10) bytes
-
--- lines without a LF in them
-abbrev pub AllClear : List (List ℕ) → Type 0
-AllClear [] = Unit {0}
-AllClear (l ∷ ls) = (has_lf l ≡ false) × AllClear ls
 
 -- Line k, counted from 1, is the first wrong one: the lines before it, each with its LF, are the beginning of some dump's text, and with it they
 -- are not; or it has no LF, or is missing, and the text is no dump's.

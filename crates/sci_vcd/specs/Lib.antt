@@ -4,4 +4,6 @@ pub mod Reading
 pub mod Draft
 pub mod Machine
 pub mod Blame
+pub mod Signals
+pub mod Writing
 pub mod Laws

@@ -8,7 +8,9 @@ use Rattle.sci_vcd.specs.declared.machine.Stage.TheVariants.{Timescale, Scope, S
 use Rattle.sci_vcd.specs.declared.machine.Reader.{Reader}
 use Rattle.sci_vcd.specs.Waveforms.{Waveforms, type_of, counts, is_within, rises, first_of, is_later, last_of, value_behind, AreSignals, AreValues, IsDump}
 use Rattle.sci_vcd.specs.Draft.{waveforms_of}
-use Rattle.sci_vcd.specs.Reading.{◌>>=◌, or_else, after, ended, decoded, signal_at, change_at, tick_at}
+use Rattle.sci_text.specs.Reading.{◌>>=◌, or_else, after, ended}
+use Rattle.sci_text.specs.Lines.{through}
+use Rattle.sci_vcd.specs.Reading.{decoded, signal_at, change_at, tick_at}
 
 -- Which line comes next, and what those before it say.
 pub record State : Type 0 where
@@ -101,8 +103,7 @@ abbrev pub pass : List ℕ → State → Option State
 pass line s = pass_at s.stage s.so_far line
 
 abbrev pub passes : List (List ℕ) → State → Option State
-passes [] s = Some s
-passes (l ∷ ls) s = pass l s >>= passes ls
+passes = through pass
 
 -- ---- what holds at each stage
 

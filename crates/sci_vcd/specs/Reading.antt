@@ -1,68 +1,12 @@
 -- Reading a line from left to right: a value and the bytes after it, or none.
-use Rattle.std.specs.Prelude.{◌≡◌, ℕ, ◌+◌, ◌*◌, ◌-◌, ◌^◌, ℤ, pos, ◌-ℤ◌, List, [], ◌∷◌, length, Option, Some, None, Bool, true, false, ◌&&◌, nat_eq, nat_lt, nat_le, if◌then◌else◌, codes, Result, Ok, Err, unsigned_abs}
-use Rattle.std.specs.Char.{is_ascii_digit}
+use Rattle.std.specs.Prelude.{ℕ, ◌+◌, ◌*◌, ◌-◌, ◌^◌, ℤ, pos, ◌-ℤ◌, List, [], ◌∷◌, length, Option, Some, None, Bool, ◌&&◌, nat_eq, nat_le, if◌then◌else◌, codes, unsigned_abs}
+use Rattle.sci_text.specs.Reading.{◌>>=◌, or_else, after, ended}
+use Rattle.sci_text.specs.Numbers.{digits_front, digits_rest, number_at}
 use Rattle.sci_base.specs.declared.Ty.{Ty}
 use Rattle.sci_base.specs.declared.Ty.TheVariants.{I32, I16, I8, U32, U16, U8}
 use Rattle.sci_base.specs.Fit.{width, high}
 use Rattle.sci_vcd.specs.declared.signal.Signal.{Signal}
 use Rattle.sci_vcd.specs.Spelling.{type_text}
-use Rattle.sci_vcd.specs.declared.stop.Stop.{Stop}
-use Rattle.sci_vcd.specs.declared.stop.Stop.TheVariants as stops
-
-infixl 10 ◌>>=◌
-abbrev pub ◌>>=◌ : {A B : Type 0} → Option A → (A → Option B) → Option B
-(Some x) >>= f = f x
-None >>= f = None
-
--- What a function returned, seen by view, is what reading gives, unless memory ran out.
-abbrev pub Fails : {Y : Type 0} → Stop → Option Y → Type 0
-Fails stops.Memory read = Unit {0}
-Fails stops.Other read = read ≡ None
-
-abbrev pub Gives : {X Y : Type 0} → (X → Y) → Result X Stop → Option Y → Type 0
-Gives view (Ok x) read = read ≡ Some (view x)
-Gives view (Err e) read = Fails e read
-
--- goes on with what was found, or tries something else
-abbrev pub or_else : {A B : Type 0} → Option A → (A → B) → B → B
-or_else (Some x) f z = f x
-or_else None f z = z
-
--- what stands after the text
-abbrev pub after : List ℕ → List ℕ → Option (List ℕ)
-after [] bytes = Some bytes
-after (c ∷ cs) [] = None
-after (c ∷ cs) (b ∷ bs) = if nat_eq b c then after cs bs else None
-
--- the value, where nothing is left
-abbrev pub ended : {A : Type 0} → A → List ℕ → Option A
-ended x rest = if nat_eq (length rest) 0 then Some x else None
-
--- ---- numbers
-
-abbrev pub digits_front : List ℕ → List ℕ
-digits_front [] = []
-digits_front (c ∷ cs) = if is_ascii_digit c then c ∷ digits_front cs else []
-
-abbrev pub digits_rest : List ℕ → List ℕ
-digits_rest [] = []
-digits_rest (c ∷ cs) = if is_ascii_digit c then digits_rest cs else c ∷ cs
-
-abbrev pub read_on : ℕ → List ℕ → ℕ
-read_on n [] = n
-read_on n (c ∷ cs) = read_on (10 * n + (c - 48)) cs
-
--- digits, with no zero in front of another
-abbrev pub is_numeral : List ℕ → Bool
-is_numeral [] = false
-is_numeral (c ∷ []) = true
-is_numeral (c ∷ d ∷ ds) = if nat_eq c 48 then false else true
-
-unfoldable pub number_at : ℕ → List ℕ → Option (ℕ × List ℕ)
-number_at limit bytes =
-    if is_numeral (digits_front bytes)
-    then (if nat_lt (read_on 0 (digits_front bytes)) limit then Some (read_on 0 (digits_front bytes), digits_rest bytes) else None)
-    else None
 
 -- ---- binary digits
 

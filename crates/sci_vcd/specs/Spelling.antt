@@ -1,6 +1,6 @@
 -- The one text of a dump: a profile of the value change dumps of IEEE 1364, line by line.
 use Rattle.std.specs.Prelude.{ℕ, zero, suc, ◌+◌, ◌/◌, ◌%◌, ℤ, List, [], ◌∷◌, ◌++◌, codes, decimal, nat_eq, if◌then◌else◌}
-use Rattle.std.specs.List.{flat_map}
+pub use Rattle.sci_text.specs.Lines.{with_lf, joined}
 use Rattle.sci_base.specs.declared.Ty.{Ty}
 use Rattle.sci_base.specs.declared.Ty.TheVariants.{I32, I16, I8, U32, U16, U8}
 use Rattle.sci_base.specs.Fit.{width}
@@ -8,14 +8,6 @@ use Rattle.sci_base.specs.Bits.{pattern}
 use Rattle.sci_vcd.specs.declared.signal.Signal.{Signal}
 use Rattle.sci_vcd.specs.declared.signal.Change.{Change}
 use Rattle.sci_vcd.specs.Waveforms.{Waveforms, type_of}
-
--- a line, with its LF
-abbrev pub with_lf : List ℕ → List ℕ
-with_lf line = line ++ codes "\n"
-
--- lines with their LFs
-abbrev pub joined : List (List ℕ) → List ℕ
-joined lines = flat_map with_lf lines
 
 -- p in so many binary digits, the greatest first
 unfoldable pub binary : ℕ → ℕ → List ℕ

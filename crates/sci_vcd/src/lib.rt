@@ -6,15 +6,18 @@ mod dump;
 mod laws;
 mod line;
 mod machine;
+mod net_signals;
+mod pages;
+mod put;
 mod read;
 mod signal;
 mod spell;
-mod stop;
 #[cfg(test)]
 mod tests;
-mod text;
+mod writer;
 
 pub use dump::Dump;
-pub use laws::{not_both, one_dump, one_first_wrong};
+pub use laws::{net_has_signals, not_both, one_dump, one_first_wrong, written_is_dump};
 pub use read::{VcdStop, read_vcd};
 pub use signal::{Change, Signal};
+pub use writer::VcdOut;

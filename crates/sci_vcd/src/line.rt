@@ -3,12 +3,13 @@
 ghost use Rattle.std.specs.Prelude.{◌≡◌, ◌<◌, ◌≤◌, ◌^◌, length, IfSome};
 ghost use Rattle.std.specs.Option.{option_map};
 ghost use Rattle.sci_base.specs.Fit.{width};
-ghost use Rattle.sci_vcd.specs.Reading.{ended, bits_of, number_of, decoded, type_at, name_at, signal_at, change_at, tick_at};
+ghost use Rattle.sci_text.specs.Reading.{ended};
+ghost use Rattle.sci_vcd.specs.Reading.{bits_of, number_of, decoded, type_at, name_at, signal_at, change_at, tick_at};
 
 use crate::Signal;
-use crate::text::{after_text, digits_len, number};
 use sci_base::Ty;
 use sci_base::bits::two_to;
+use sci_text::{after_text, digits_len, number};
 
 /// A variable's kind and width, and what stands behind them.
 #[tactic(auto, unfolding(crate::specs::Reading::type_at))]

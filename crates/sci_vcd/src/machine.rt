@@ -4,16 +4,16 @@ ghost use Rattle.std.specs.Prelude.{◌≡◌, ◌≤◌, ◌<◌, [], length, I
 ghost use Rattle.sci_base.specs.Fit.{int_eq};
 ghost use Rattle.sci_vcd.specs.Waveforms.{rises};
 ghost use Rattle.sci_vcd.specs.Draft.{waveforms_of, IsLinked};
-ghost use Rattle.sci_vcd.specs.Reading.{Gives, ended};
+ghost use Rattle.sci_text.specs.Reading.{ended};
+ghost use Rattle.sci_text.specs.Stops.{Gives};
 ghost use Rattle.sci_vcd.specs.Machine as machine;
 ghost use Rattle.sci_vcd.specs.Machine.{state_of, at_stage};
 
 use crate::draft::Draft;
 use crate::line::{decoded, read_change, read_signal, read_tick};
 use crate::signal::counts;
-use crate::stop::Stop;
-use crate::text::after_text;
 use crate::{Change, Signal};
+use sci_text::{Stop, after_text};
 
 /// Which line comes next.
 #[derive(Clone, Copy, Debug, Drop)]
@@ -119,7 +119,7 @@ fn beginning(draft: Draft, digits: &[u8], number: u32) -> Result<Reader, Stop>
     })
 }
 
-fn is_equal(v: i64, w: i64) -> bool
+pub fn is_equal(v: i64, w: i64) -> bool
     ensures { result ≡ int_eq v w }
 {
     v <= w && w <= v

@@ -1,18 +1,16 @@
 // A whole text, line by line.
 
-ghost use Rattle.std.specs.Prelude.{◌≡◌, ◌++◌, [], ℕ, false, IfSome, IfNone, IfOk, IfErr};
-ghost use Rattle.std.specs.List.{position};
+ghost use Rattle.std.specs.Prelude.{◌≡◌, [], ℕ, IfOk, IfErr};
 ghost use Rattle.sci_vcd.specs.Waveforms.{Waveforms};
-ghost use Rattle.sci_vcd.specs.Spelling.{with_lf};
 ghost use Rattle.sci_vcd.specs.Draft.{waveforms_of, IsLinked};
 ghost use Rattle.sci_vcd.specs.Machine as machine;
 ghost use Rattle.sci_vcd.specs.Machine.{state_of, at_stage};
-ghost use Rattle.sci_vcd.specs.Blame.{has_lf, is_lf, Spells, IsFirstWrong, Answers, Accepts, Blames, blame_of};
+ghost use Rattle.sci_vcd.specs.Blame.{Spells, IsFirstWrong, Answers, Accepts, Blames, blame_of};
 
 use crate::Dump;
 use crate::draft::Draft;
 use crate::machine::{Reader, Stage, pass};
-use crate::stop::Stop;
+use sci_text::{Stop, split_line};
 use std::alloc::Global;
 
 /// Why bytes are no dump.
@@ -22,23 +20,6 @@ pub enum VcdStop {
     /// or is missing.
     NotVcd(usize),
     Memory,
-}
-
-fn line_end(bytes: &[u8]) -> Option<usize>
-    ensures { result ≡ position is_lf bytes.now }
-{
-    bytes.iter().position(|byte| *byte == b'\n')
-}
-
-/// The first line, without its LF, and what stands behind it.
-#[tactic(auto, using(crate::proofs::Ends::line_within, crate::proofs::Ends::line_clear, crate::proofs::Ends::line_split, crate::proofs::Ends::no_line))]
-fn split_line(bytes: &[u8]) -> Option<(&[u8], &[u8])>
-    ensures clear { IfSome result (λ x. has_lf x.0.now ≡ false) }
-    ensures split { IfSome result (λ x. bytes.now ≡ with_lf x.0.now ++ x.1.now) }
-    ensures none { IfNone result (has_lf bytes.now ≡ false) }
-{
-    let end = line_end(bytes)?;
-    Some((&bytes[..end], &bytes[end + 1..]))
 }
 
 fn blame(stop: Stop, line: usize) -> VcdStop

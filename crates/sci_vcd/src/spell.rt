@@ -3,10 +3,13 @@
 ghost use Rattle.std.specs.Prelude.{◌≡◌, ◌≤◌, ◌<◌, ◌^◌, ◌+◌, ◌++◌, ◌∷◌, codes, drop, length};
 ghost use Rattle.std.specs.Fmt.{decimal};
 ghost use Rattle.sci_io.specs.Taken.{Writes};
-ghost use Rattle.sci_vcd.specs.Spelling.{binary, name_text};
+ghost use Rattle.sci_vcd.specs.Spelling.{binary, type_text, name_text, signal_line, value_line, tick_line};
+ghost use Rattle.sci_text.specs.Lines.{with_lf};
 
 use crate::Signal;
 use itoa::write_digits;
+use sci_base::Ty;
+use sci_base::bits::pattern;
 use sci_io::{Failed, Sink};
 
 /// The room for a line. The longest has three words and four numbers of 20 characters.
@@ -91,6 +94,60 @@ pub fn name_before(line: &mut [u8; ROOM], end: usize, signal: &Signal) -> usize
     let at = byte_before(line, at, b'_');
     let at = digits_before(line, at, u64::from(signal.block));
     byte_before(line, at, b'b')
+}
+
+/// A variable's kind, and its width in bits.
+pub fn type_word(ty: Ty) -> &'static str
+    ensures text { result.now ≡ type_text ty }
+    ensures short { length result.now ≤ 10 }
+{
+    match ty {
+        Ty::I32 => "integer 32",
+        Ty::I16 => "integer 16",
+        Ty::I8 => "integer 8",
+        Ty::U32 => "wire 32",
+        Ty::U16 => "wire 16",
+        Ty::U8 => "wire 8",
+    }
+}
+
+// Each of these makes a whole line, and tells where it begins.
+
+/// The line of a signal, by its number.
+pub fn signal_line(line: &mut [u8; ROOM], number: u32, signal: &Signal) -> usize
+    ensures text { drop result line.new ≡ with_lf (signal_line number signal.now) }
+    ensures within { result < 128 }
+{
+    let at = end_line(line);
+    let at = word_before(line, at, " $end");
+    let at = name_before(line, at, signal);
+    let at = byte_before(line, at, b' ');
+    let at = digits_before(line, at, u64::from(number));
+    let at = word_before(line, at, " v");
+    let at = word_before(line, at, type_word(signal.ty));
+    word_before(line, at, "$var ")
+}
+
+/// The line of a signal's value, by its type and number.
+pub fn value_line(line: &mut [u8; ROOM], ty: Ty, number: u32, value: i64) -> usize
+    ensures text { drop result line.new ≡ with_lf (value_line ty number value) }
+    ensures within { result < 128 }
+{
+    let at = end_line(line);
+    let at = digits_before(line, at, u64::from(number));
+    let at = word_before(line, at, " v");
+    let at = bits_before(line, at, ty.width(), pattern(ty, value));
+    byte_before(line, at, b'b')
+}
+
+/// The line of a tick.
+pub fn tick_line(line: &mut [u8; ROOM], tick: u64) -> usize
+    ensures text { drop result line.new ≡ with_lf (tick_line tick) }
+    ensures within { result < 128 }
+{
+    let at = end_line(line);
+    let at = digits_before(line, at, tick);
+    byte_before(line, at, b'#')
 }
 
 /// What stands from a place on.

@@ -1,5 +1,5 @@
 use Rattle.std.proofs.Common.{◌≡◌, false, rules}
-use Rattle.sci_vcd.specs.Blame.{has_lf}
+use Rattle.sci_text.specs.Lines.{has_lf}
 use Rattle.sci_vcd.proofs.Reading.{at_next, blamed_line, finished}
 use Rattle.sci_vcd.proofs.read.read.Goals as goal
 

@@ -1,0 +1,8 @@
+use Rattle.std.proofs.Common.{◌+◌, drop}
+use Rattle.sci_io.specs.Taken.{UnderWay}
+use Rattle.sci_text.specs.Lines.{joined}
+use Rattle.sci_vcd.specs.Spelling.{signal_lines}
+use Rattle.sci_vcd.proofs.put.put_signals.Given as goal
+
+abbrev pub invariant-loop-at : goal.invariant-loop-at
+invariant-loop-at g l = UnderWay (g.S.Sink.state l.fn.out) (g.S.Sink.state l.out) (joined (signal_lines 1 l.signals)) (joined (signal_lines (l.at + 1) (drop l.at l.signals)))

@@ -1,0 +1,125 @@
+// Writing a dump as a net runs.
+
+ghost use Rattle.std.specs.Prelude.{◌≡◌, ◌≤◌, ◌+◌, ◌-◌, ◌^◌, true, length, slice_index_or, IfOk, OnOk};
+ghost use Rattle.sci_base.specs.Fit.{in_range};
+ghost use Rattle.sci_io.specs.Taken.{Writes};
+ghost use Rattle.sci_vcd.specs.Waveforms.{type_of};
+ghost use Rattle.sci_vcd.specs.Writing.{IsWriting, IsOutset, MayClose, with_note, closed_at, tick_text};
+
+use crate::Signal;
+use crate::net_signals::net_signals;
+use crate::pages::{PAGE, put_changes, settle};
+use crate::put::put_head;
+use sci_base::NoMemory;
+use sci_io::{Failed, Sink};
+use sci_net::Net;
+use std::alloc::Global;
+use std::marker::Model;
+
+/// Writes a dump tick by tick, from the values that are noted. Signals are numbered from 1 on, and have the value 0 until another is noted.
+#[derive(Drop)]
+pub struct VcdOut {
+    signals: Vec<Signal>,
+    starts: Vec<u32>,
+    written: Vec<i64>,
+    noted: Vec<i64>,
+    // by page, whether one of its values may have been noted since the last tick was closed
+    marked: Vec<bool>,
+    closed: Option<u64>,
+}
+
+impl Model for VcdOut {
+    ghost use Rattle.sci_vcd.specs.Writing.{Writing, IsKept};
+
+    ghost Value = { Writing };
+
+    ghost view = { λ o. record { signals = o.signals.items; starts = o.starts.items; written = o.written.items; noted = o.noted.items; closed = o.closed } };
+
+    ghost invariant = { λ o. IsKept (record { signals = o.signals.items; starts = o.starts.items; written = o.written.items; noted = o.noted.items; closed = o.closed }) o.marked.items };
+}
+
+impl VcdOut {
+    /// Of the signals of a net, before the first tick. It takes all memory.
+    pub fn new(alloc: Global, net: &Net) -> Result<VcdOut, NoMemory>
+        ensures { IfOk result (λ o. IsOutset net.now o) }
+    {
+        net.well_formed();
+        let found = net_signals(alloc, net)?;
+        let count = found.signals.len();
+        Ok(VcdOut {
+            signals: found.signals,
+            starts: found.starts,
+            written: vec![in alloc; 0; count]?,
+            noted: vec![in alloc; 0; count]?,
+            marked: vec![in alloc; false; count / PAGE + 1]?,
+            closed: None,
+        })
+    }
+
+    /// What holds of each.
+    pub fn well_formed(&self)
+        ensures { IsWriting self.now }
+    {
+        let _signals = self.signals.len();
+    }
+
+    /// How many blocks the net has, at most 2,048.
+    pub fn blocks(&self) -> u32
+        ensures { result + 1 ≡ length self.now.starts }
+    {
+        self.starts.len() as u32 - 1
+    }
+
+    /// How many signals stand before those of a block; for the number behind the last block, how many there are.
+    pub fn before(&self, block: u32) -> u32
+        requires least { 1 ≤ block }
+        requires most { block ≤ length self.now.starts }
+        ensures { result ≡ slice_index_or self.now.starts (block - 1) 0 }
+    {
+        self.starts[block as usize - 1]
+    }
+
+    /// Notes that a signal has this value, which is one of its type, from the tick on that is closed next.
+    pub fn note(&mut self, signal: u32, value: i64)
+        requires least { 1 ≤ signal }
+        requires most { signal ≤ length self.old.signals }
+        requires fits { in_range (type_of self.old.signals signal) value ≡ true }
+        ensures { self.new ≡ with_note self.old signal value }
+    {
+        let at = signal as usize - 1;
+        self.noted[at] = value;
+        self.marked[at / PAGE] = true;
+    }
+
+    // Writes what is due for a tick.
+    fn put_due<S: Sink>(&self, date: u64, out: &mut S) -> Result<(), Failed>
+        ensures { Writes (S.state out.old) (S.state out.new) (tick_text self.now date) result }
+    {
+        match self.closed {
+            None => put_head(&self.signals, &self.noted, out),
+            Some(told) => put_changes(
+                &self.signals,
+                &self.written,
+                &self.noted,
+                &self.marked,
+                told,
+                date,
+                out,
+            ),
+        }
+    }
+
+    /// Writes what is due for a tick. The first is 0: all that stands before the changes, and the first values. A later one has the signals whose
+    /// noted value isn't the one that was written last. Ticks rise, up to 2^62. After a failure of the sink it is of no more use.
+    pub fn close_tick<S: Sink>(&mut self, date: u64, out: &mut S) -> Result<(), Failed>
+        requires rises { MayClose self.old.closed date }
+        requires early { date ≤ 2 ^ 62 }
+        ensures written { Writes (S.state out.old) (S.state out.new) (tick_text self.old date) result }
+        ensures closed { OnOk result (self.new ≡ closed_at self.old date) }
+    {
+        self.put_due(date, out)?;
+        settle(&mut self.written, &self.noted, &mut self.marked);
+        self.closed = Some(date);
+        Ok(())
+    }
+}

@@ -1,0 +1,6 @@
+pub mod Blockwise
+pub mod Followed
+pub mod Completed
+pub mod Driven
+mod OneWaveform
+pub mod OneDump

@@ -1,0 +1,5 @@
+pub mod History
+pub mod RunDump
+pub mod Noted
+pub mod Following
+pub mod Laws
