@@ -1,0 +1,81 @@
+//! A judge of traces: whether a text is the trace of a net's run, or the first line that isn't. The run is done without the static schedules
+//! and without an agenda: the blocks of a source are put in order by rounds, each of which has those all of whose dependencies are done, and
+//! the next event is looked for among all that are pending.
+#![tactic(auto)]
+
+ghost use Rattle.std.specs.Prelude.{◌≤◌, ◌^◌, ℕ, List, IfOk};
+ghost use Rattle.sci_base.specs.declared.observation.Obs.{Obs};
+ghost use Rattle.sci_trace.specs.Lines.{text};
+ghost use Rattle.sci_agree.specs.Verdict.{IsVerdict};
+ghost use Rattle.sci_reaction.specs.Memory.{AreColumns};
+ghost use Rattle.sci_run.specs.Laws.{AreLoopFree};
+ghost use Rattle.sci_run.specs.Run.{IsRun};
+ghost use Rattle.sci_bank.specs.Library.{AreInOrder, IsFull};
+
+mod against;
+mod entries;
+mod pass;
+mod programming;
+mod reaction;
+mod rounds;
+mod rows;
+mod run;
+
+use against::Against;
+use programming::program_first;
+use rows::rows;
+use run::run;
+use sci_agree::Verdict;
+use sci_bank::library::{Banks, Library};
+use sci_base::NoMemory;
+use sci_events::Events;
+use sci_net::Net;
+use sci_store::{Frame, Lines, Store};
+use sci_trace::inputs::Inputs;
+use std::alloc::Global;
+
+/// The verdict on a text, where the trace of the net's run is due, past no date over `until`, in ticks of at most 2^62, and for at most
+/// `limit` events, at most 1,000,000. No source of the net has a loop, and each sensor's column is in range. All banks of the library
+/// are reset, and an instance of each block is added; all memory is taken before the run, which ends at the first byte that differs. Want
+/// of memory is the only error; the banks may hold any instances then.
+pub fn judge_trace(
+    alloc: Global,
+    n: Net,
+    lib: &mut Library,
+    inputs: &Inputs,
+    until: u64,
+    limit: u64,
+    trace: &[u8],
+) -> Result<Verdict, NoMemory>
+    requires until { until ≤ 2 ^ 62 }
+    requires limit { limit ≤ 1000000 }
+    requires free { AreLoopFree n }
+    requires columns { AreColumns n inputs.now }
+    requires full { IsFull (⟦<Library as Banks>⟧.banks lib.old) }
+    requires in_order { AreInOrder (⟦<Library as Banks>⟧.banks lib.old) }
+    ensures verdict { IfOk result (λ v. (os : List Obs) → IsRun n inputs.now until limit os → IsVerdict (text os) trace.now v) }
+    ensures full { IsFull (⟦<Library as Banks>⟧.banks lib.new) }
+    ensures in_order { AreInOrder (⟦<Library as Banks>⟧.banks lib.new) }
+{
+    let rows = rows(alloc, &n)?;
+    let frame = Frame::new(alloc, n, lib)?;
+    frame.well_formed();
+    let mut store = Store::new(alloc, &frame)?;
+    let mut events = Events::new(alloc, frame.net.source_count())?;
+    program_first(&frame.net, &mut events);
+    let mut lines = Lines::new(alloc, store.len())?;
+    let mut out = Against::new(trace);
+    let _whole = run(
+        &frame,
+        &rows,
+        &mut store,
+        &mut events,
+        lib,
+        inputs,
+        until,
+        limit,
+        &mut lines,
+        &mut out,
+    );
+    Ok(out.verdict())
+}
