@@ -202,13 +202,14 @@ def wrong_runs(program, name, bounds):
 
 
 def wrong_design(program, name):
-    """The page's commands are the run that is looked at and the same with the C; its table is the program's map."""
+    """The page's commands are the run that is looked at, the same with the C, and its waveforms; its table is the program's map."""
     page, folder = text(name, 'README.md'), 'examples/' + name
     commands = [line.split() for line in re.findall(r'^    (\S.*)$', page, re.M)]
     bounds = commands[0][-2:] if commands else []
     due = ['./scicos simulate %s/diagram.json %s/inputs.json' % (folder, folder), './scicos host > host.c',
-           'gcc -std=c99 -O2 -o %s %s/program.c host.c && ./%s %s/inputs.json' % (name, folder, name, folder)]
-    if commands != [due[0].split() + bounds, due[1].split(), due[2].split() + bounds]:
+           'gcc -std=c99 -O2 -o %s %s/program.c host.c && ./%s %s/inputs.json' % (name, folder, name, folder),
+           './scicos vcd %s/diagram.json %s/inputs.json' % (folder, folder), 'tools/waves --diagram %s/diagram.json %s.vcd > %s.svg' % (folder, name, name)]
+    if commands != [due[0].split() + bounds, due[1].split(), due[2].split() + bounds, due[3].split() + bounds + ['>', name + '.vcd'], due[4].split()]:
         return ['the commands of the page are %r' % commands]
     blocks = [' '.join(line.split()[:3]) for line in answer(program, 'map', folder + '/diagram.json')[0].splitlines()]
     rows = [' '.join(row) for row in re.findall(r'^\| (\d+) \| (\S+) \| (\w+) \|', page, re.M)]

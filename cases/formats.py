@@ -6,7 +6,8 @@ import subprocess
 import tempfile
 
 HERE = os.path.dirname(os.path.abspath(__file__))
-UNGIVEN = {30, 35, 36, 37}  # the rules that no command gives
+UNGIVEN = {30}  # the rules that no command gives
+PERIOD = 100   # of the clock that activates a block which is shown
 
 
 def answer(program, words, diagram, inputs='[]'):
@@ -52,18 +53,38 @@ def wrong_traces(program, page):
 
 
 def wrong_printed(program, page):
-    """What a command prints of an example is what stands under its words."""
-    wrong = []
+    """What a command prints of an example is what stands under its words; what was saved or dumped is what the next command reads."""
+    wrong, kept = [], ''
     for words, body in parts(page):
-        if words[0] in ('map', 'schedule', 'check'):
-            run = subprocess.run([program] + words, cwd=os.path.join(HERE, '..'), capture_output=True, timeout=120)
+        if words[0] in ('map', 'schedule', 'check', 'save', 'resume', 'vcd', 'vcdat'):
+            with tempfile.NamedTemporaryFile('w') as file:
+                file.write(kept)
+                file.flush()
+                line = {'resume': words[:3] + [file.name] + words[3:], 'vcdat': words[:1] + [file.name] + words[1:]}.get(words[0], words)
+                run = subprocess.run([program] + line, cwd=os.path.join(HERE, '..'), capture_output=True, timeout=120)
+            kept = body if words[0] in ('save', 'vcd') else kept
             wrong += [] if (run.stdout.decode(), run.returncode) == (body, 0) else ['%r in place of %r' % (run, body)]
     return wrong
 
 
+def wrong_told(program, page):
+    """What a command tells of a text is the last line under its words; the text is what stands before it."""
+    wrong = []
+    for words, body in parts(page):
+        if words[0] == 'judge':
+            *lines, due = body.splitlines(True)
+            with tempfile.TemporaryDirectory() as work:
+                with open(os.path.join(work, 'v'), 'w') as file:
+                    file.write(''.join(lines))
+                run = subprocess.run([program] + words[:3] + [os.path.join(work, 'v')] + words[3:], cwd=os.path.join(HERE, '..'), capture_output=True, timeout=120)
+            if (run.stdout.decode(), run.stderr, run.returncode) != (due, b'', 0 if due.startswith('yes') else 8):
+                wrong.append('%r in place of %r' % (run, due))
+    return wrong
+
+
 def around(model, count):
-    """A diagram in which sensors feed the block's inputs, and one clock activates all."""
-    clock = {'obj': 'Block', 'gui': 'EVTDLY_c', 'model': {'evtin': [1], 'evtout': [1], 'ipar': [1], 'firing': [0]}}
+    """A diagram in which sensors feed the block's inputs, one clock activates all, and each activation output a counter of its own."""
+    clock = {'obj': 'Block', 'gui': 'EVTDLY_c', 'model': {'evtin': [1], 'evtout': [1], 'ipar': [PERIOD], 'firing': [0]}}
     objs, links, column = [clock, None], [([1, 1], [1, 1], -1)], 0
     for port, (rows, kind) in enumerate(zip(model.get('in', []), model.get('intyp', []))):
         sensors = []
@@ -77,19 +98,28 @@ def around(model, count):
             links += [([sensor, 1], [len(objs), at + 1], 1) for at, sensor in enumerate(sensors)]
             sensors = [len(objs)]
         links.append(([sensors[0], 1], [2, port + 1], 1))
+    for port in range(len(model.get('evtout', []))):
+        objs.append({'obj': 'Block', 'gui': 'Modulo_Count', 'model': {'evtin': [1], 'ipar': [2], 'dstate': [0], 'out': [1], 'outtyp': [3]}})
+        links.append(([2, port + 1], [len(objs), 1], -1))
     links += [([1, 1], [2, port + 1], -1) for port in range(len(model.get('evtin', [])))]
     return objs, [{'obj': 'Link', 'from': start, 'to': end, 'ct': [1, kind]} for start, end, kind in links]
 
 
-def active_values(out):
-    """The values of block 2 in each reaction in which it is active."""
-    given = []
+def seen(gui, out, counters):
+    """What is seen of block 2 at each activation by the clock: the values of its outputs, or by its kind the ticks to its event, the activation output
+    that it takes, or how the run ends. `counters` are the numbers of the counters behind its activation outputs."""
+    given, begun = [[]], 0     # at start, and then at each event of the clock, whose last date is kept
     for line in out.splitlines():
-        if line == 'start' or line.startswith('event'):
-            given.append([])
-        elif line.startswith('val 2 '):
-            given[-1].append(line.split()[4])
-    return [values for values in given if values]
+        words = line.split()
+        if words[0] == 'event' and words[2] == '1':
+            given, begun = given + [[]], int(words[1])
+        elif words[0] == 'event' and words[2] == '2':
+            given[-1].append(str(int(words[1]) - begun))
+        elif words[0] == 'val' and (words[1] == '2' or gui in ('IFTHEL_f', 'ESELECT_f') and int(words[1]) in counters):
+            given[-1].append(words[4] if words[1] == '2' else str(1 + counters.index(int(words[1]))))
+        elif line == 'end halt':
+            given[-1].append('halt')
+    return [shown or ['none'] for k, shown in enumerate(given) if shown or k and gui == 'EVTVARDLY']
 
 
 def wrong_block(program, block, steps):
@@ -98,9 +128,10 @@ def wrong_block(program, block, steps):
     objs, links = around(model, len(asked))
     objs[1] = dict(block, obj='Block')
     columns = [[int(step[0][k]) for step in asked] for k in range(len(asked[0][0]))]
+    counters = [k for k, item in enumerate(objs, 1) if k > 2 and item['gui'] == 'Modulo_Count']
     due = [step[1] for step in asked]
-    runs = both_answers(program, json.dumps({'objs': objs + links}), json.dumps(columns), [str(len(asked) - 1), '100'])
-    wrong = [(active_values(out), err, status) for out, err, status in runs if (active_values(out), status) != (due, 0)]
+    runs = both_answers(program, json.dumps({'objs': objs + links}), json.dumps(columns), [str(PERIOD * len(asked) - 1), '100'])
+    wrong = [(seen(block['gui'], out, counters), err, status) for out, err, status in runs if (seen(block['gui'], out, counters), status) != (due, 0)]
     return '%r: %r in place of %r' % (block['gui'], wrong, due) if wrong else ''
 
 
@@ -155,11 +186,11 @@ def wrong_mistakes(program, page):
 
 
 def kinds_shown(page):
-    """Each kind has a row and stands in an example."""
+    """Each kind has a row, and an example of its own."""
     rows = set(re.findall(r'`(\w+)`', ' '.join(line.split('|')[1] for line in page.splitlines() if line.startswith('| `'))))
     with open(os.path.join(HERE, '..', 'crates', 'sci_forms', 'specs', 'Names.antt')) as file:
         names = set(re.findall(r'codes "(\w+)"', file.read()))
-    examples = set(re.findall(r'"gui": "(\w+)"', ' '.join(body for _, body in parts(page))))
+    examples = set(re.findall(r'"gui": "(\w+)"', ' '.join(body for words, body in parts(page) if words[0] == 'block')))
     return ['no row of %s' % name for name in sorted(names - rows)] + ['no example of %s' % name for name in sorted(names - examples)]
 
 
@@ -177,5 +208,5 @@ def formats(program):
     with open(os.path.join(HERE, '..', 'docs', 'FORMAT.md')) as file:
         page = file.read()
     unread = [] if 2 * len(parts(page)) == len(re.findall(r'^```', page, re.M)) else ['parts of the page are not read']
-    wrong = wrong_traces(program, page) + wrong_blocks(program, page) + wrong_refusals(program, page) + wrong_mistakes(program, page)
+    wrong = wrong_traces(program, page) + wrong_blocks(program, page) + wrong_refusals(program, page) + wrong_mistakes(program, page) + wrong_told(program, page)
     return '; '.join(unread + wrong + wrong_printed(program, page) + kinds_shown(page) + rules_shown(page))

@@ -12,7 +12,7 @@ TOP = os.path.join(os.path.dirname(os.path.abspath(__file__)), '..')
 EXAMPLES = os.path.join(TOP, 'examples')
 PAGES = ['README.md', 'docs/SHIPPING.md', 'examples/README.md']
 OTHERS = [os.path.join('docs', name) for name in sorted(os.listdir(os.path.join(TOP, 'docs'))) if name.endswith('.md')]  # these may be without any
-STARTS = re.compile(r'\./scicos |gcc |tools/\w+ |\w+=')
+STARTS = re.compile(r'\./scicos |gcc |(?:tools|bench)/\w+ |\w+=')
 WANTED = {'gcc', 'clang', 'arm-none-eabi-gcc', 'xargs', 'parallel'}
 
 
@@ -32,6 +32,7 @@ def due(line):
 def can_run(line):
     """Whether what a line calls is installed here."""
     called = WANTED & set(re.findall(r'[\w.+-]+', line)) | ({'gcc', 'size'} if line.startswith('tools/sizes') else set())
+    called |= {'gcc'} if line.startswith(('bench/generated', 'bench/c ', 'tools/refuse_memory')) else set()
     return all(map(shutil.which, called))
 
 
@@ -50,7 +51,7 @@ def furnish(program, work):
     os.mkdir(os.path.join(work, 'inputs'))
     for place in ('scicos', os.path.join('crates', 'scicos', 'out', 'scicos')):
         os.symlink(program, os.path.join(work, place))
-    for folder in ('examples', 'tools'):
+    for folder in ('examples', 'tools', 'bench', 'cases', 'docs'):
         shutil.copytree(os.path.join(TOP, folder), os.path.join(work, folder))
     shutil.copy(os.path.join(EXAMPLES, 'first.json'), os.path.join(work, 'my-diagram.json'))
     shutil.copy(os.path.join(EXAMPLES, 'watchdog', 'diagram.json'), os.path.join(work, 'd.json'))
@@ -87,6 +88,18 @@ def wrong_bulk(program, work):
     return wrong
 
 
+def wrong_remade(work):
+    """What is wrong with what was made anew of the examples: where Graphviz isn't installed nothing may be another, and else but its pictures."""
+    wrong = []
+    for folder, _, names in os.walk(EXAMPLES):
+        for name in names:
+            place = os.path.relpath(os.path.join(folder, name), EXAMPLES)
+            drawn = shutil.which('dot') and (name == 'picture.svg' or place.startswith('pictures'))
+            with open(os.path.join(folder, name), 'rb') as ours, open(os.path.join(work, 'examples', place), 'rb') as made:
+                wrong += [] if drawn or ours.read() == made.read() else ['%s is made otherwise' % place]
+    return wrong
+
+
 def command_lines(program):
     """Each command line on the pages gives its status, and those of a design print its trace."""
     designs = [os.path.relpath(path, TOP) for path in sorted(glob.glob(os.path.join(EXAMPLES, '*', 'README.md')))]
@@ -96,6 +109,7 @@ def command_lines(program):
             furnish(program, work)
             wrong += wrong_lines(program, name, work)
             wrong += wrong_bulk(program, work) if name == 'docs/SHIPPING.md' and shutil.which('xargs') else []
+            wrong += wrong_remade(work) if name == 'examples/README.md' else []
     return '; '.join(wrong)
 
 

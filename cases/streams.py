@@ -45,13 +45,14 @@ def without(given, *cases):
 
 
 def meter(program, work):
-    """The meter, its readings and its C in a folder; each command on them, with what it prints."""
+    """The meter, its readings, its C, its trace, an image and a dump of it in a folder; each command on them, with what it prints."""
     for name in ('d', 'i'):
         shutil.copy(os.path.join(HERE, 'simulate-meter', name), work)
     code, _, status = run(program, ['ccode', 'd'], cwd=work)
-    with open(os.path.join(work, 'c'), 'wb') as file:
-        file.write(code)
     trace = text(HERE, 'simulate-meter', 'out')
+    for name, content in (('c', code), ('t', trace), ('s', text(HERE, 'resume-meter', 's')), ('w', text(HERE, 'vcd-meter', 'out'))):
+        with open(os.path.join(work, name), 'wb') as file:
+            file.write(content)
     return [(['check', 'd'], text(HERE, 'check-meter', 'out')),
             (['map', 'd'], text(HERE, 'map-meter', 'out')),
             (['schedule', 'd'], text(HERE, 'schedule-meter', 'out')),
@@ -59,7 +60,12 @@ def meter(program, work):
             (['ccode', 'd'], code if status == 0 else b'no code'),
             (['crun', 'c', 'i', '30', '100'], trace),
             (['host'], run(program, ['host'])[0]),
-            (['bulk', '5', '2'], b'bulk 10 9 10 0 1126 123\n')]
+            (['bulk', '5', '2'], b'bulk 10 9 10 0 1126 123\n'),
+            (['judge', 'd', 'i', 't', '30', '100'], b'yes %d\n' % trace.count(b'\n')),
+            (['save', 'd', 'i', '30', '100', '3'], text(HERE, 'save-meter', 'out')),
+            (['resume', 'd', 'i', 's', '30', '100'], text(HERE, 'resume-meter', 'out')),
+            (['vcd', 'd', 'i', '30', '100'], text(HERE, 'vcd-meter', 'out')),
+            (['vcdat', 'w', '14'], text(HERE, 'vcdat-meter', 'out'))]
 
 
 def full_disk(program):
@@ -211,8 +217,11 @@ def no_files(program):
         os.symlink('nowhere', os.path.join(work, 'l'))
         os.symlink('m', os.path.join(work, 'm'))
         lines = ['%s %s' % (word, name) for word in ('check', 'map', 'schedule', 'ccode') for name in ('f', 'l', 'm', 'n', 'd/d', 'f/n')]
-        lines += ['%s %s 30 100' % (word, names) for word, good in (('simulate', 'd'), ('crun', 'c')) for bad in 'flmn'
+        lines += ['%s %s 30 100' % (word, names) for word, good in (('simulate', 'd'), ('crun', 'c'), ('vcd', 'd')) for bad in 'flmn'
                   for names in (bad + ' i', good + ' ' + bad)]
+        lines += ['vcdat %s 14' % bad for bad in ('f', 'l', 'm', 'n', 'w/w')]
+        lines += ['%s %s %s30 100' % (word, names, '' if word != 'save' else '1 ') for word, third in (('judge', ' t'), ('resume', ' s'), ('save', '')) for bad in 'flmn'
+                  for names in (bad + ' i' + third, 'd ' + bad + third) + (('d i ' + bad,) if third else ())]
         return without(READ_FAULT, *((line, run(program, line.split(), cwd=work)) for line in lines))
 
 
@@ -241,12 +250,24 @@ def begun_through_fifo(program, words, work, name, pieces):
     return out, err, begun.returncode
 
 
+# a file that is no diagram, input file or C: its name, the command that reads it, and what is due of a front of it
+OTHER_FILES = [('t', ['judge', 'd', 'i', 't', '30', '100'], lambda front: (b'no %d\n' % (front.count(b'\n') + 1), b'', 8)),
+               ('s', ['resume', 'd', 'i', 's', '30', '100'], lambda front: (b'', b'refused 36 NotSave at - %d\n' % (front.count(b'\n') + 1), 1)),
+               ('w', ['vcdat', 'w', '14'], lambda front: (b'', b'refused 37 NotVcd at - %d\n' % (front.count(b'\n') + 1), 1))]
+
+
 def fifo(program):
     """A FIFO in the place of each file gives what comes through it, whole or cut off."""
     wrong = []
     with tempfile.TemporaryDirectory() as work:
         due = {words[0]: out for words, out in meter(program, work)}
         given = {name: text(work, name) for name in 'dic'}
+        for name, whole, answer in OTHER_FILES:
+            content = text(work, name)
+            middle = len(content) // 2
+            os.remove(os.path.join(work, name))
+            wrong += [] if begun_through_fifo(program, whole, work, name, [content[:middle], content[middle:]]) == (due[whole[0]], b'', 0) else [' '.join(whole)]
+            wrong += [] if begun_through_fifo(program, whole, work, name, [content[:middle]]) == answer(content[:middle]) else [' '.join(whole) + ' cut']
         for name in 'dic':
             os.remove(os.path.join(work, name))
         for word, name, other in (('simulate', 'd', 'i'), ('simulate', 'i', 'd'), ('crun', 'c', 'i'), ('crun', 'i', 'c')):
@@ -275,15 +296,17 @@ def unreadable(program):
         os.chmod(copy, 0o755)
         os.chmod(work, 0o755)
         given = meter(program, work)
-        for name in 'dic':
+        for name in 'dictsw':
             os.chmod(os.path.join(work, name), 0o644)
         wrong = ['%s: %r' % (words[0], answer) for words, due in given for answer in [run(copy, words, cwd=work, **as_nobody)] if answer != (due, b'', 0)]
         os.mkdir(os.path.join(work, 'f'))
         shutil.copy(os.path.join(work, 'd'), os.path.join(work, 'f', 'd'))
-        for name in ('d', 'i', 'c', 'f'):
+        for name in ('d', 'i', 'c', 't', 's', 'w', 'f'):
             shutil.copy(os.path.join(work, name), os.path.join(work, 'open-' + name)) if name != 'f' else None
             os.chmod(os.path.join(work, name), 0)
-        lines = ('check d', 'check f/d', 'simulate d i 30 100', 'simulate open-d i 30 100', 'crun c i 30 100', 'crun open-c i 30 100', 'ccode d')
+        lines = ('check d', 'check f/d', 'simulate d i 30 100', 'simulate open-d i 30 100', 'crun c i 30 100', 'crun open-c i 30 100', 'ccode d', 'judge d i t 30 100',
+                 'judge open-d i t 30 100', 'judge open-d open-i t 30 100', 'save d i 30 100 1', 'save open-d i 30 100 1', 'resume open-d i s 30 100',
+                 'resume open-d open-i s 30 100', 'vcd d i 30 100', 'vcd open-d i 30 100', 'vcdat w 14')
         wrong.append(without(READ_FAULT, *((line, run(copy, line.split(), cwd=work, **as_nobody)) for line in lines)))
         os.chmod(os.path.join(work, 'f'), 0o755)
     return '; '.join(filter(None, wrong))
@@ -316,9 +339,19 @@ def endless_files(program):
                                    ('simulate d /dev/zero 30 100', '29 FileTooLong at - 2 16777216'),
                                    ('crun /dev/zero i 30 100', '29 FileTooLong at - 1 67108864'),
                                    ('crun c /dev/zero 30 100', '29 FileTooLong at - 2 16777216'),
+                                   ('judge /dev/zero i t 30 100', '29 FileTooLong at - 1 16777216'),
+                                   ('judge d /dev/zero t 30 100', '29 FileTooLong at - 2 16777216'),
+                                   ('judge d i /dev/zero 30 100', '29 FileTooLong at - 3 67108864'),
+                                   ('save /dev/zero i 30 100 1', '29 FileTooLong at - 1 16777216'),
+                                   ('save d /dev/zero 30 100 1', '29 FileTooLong at - 2 16777216'),
+                                   ('resume d /dev/zero s 30 100', '29 FileTooLong at - 2 16777216'),
+                                   ('resume d i /dev/zero 30 100', '29 FileTooLong at - 3 67108864'),
+                                   ('vcd d /dev/zero 30 100', '29 FileTooLong at - 2 16777216'),
+                                   ('vcdat /dev/zero 1', '29 FileTooLong at - 1 67108864'),
                                    ('check /dev/null', '1 NotJson at -'),
                                    ('simulate d /dev/null 30 100', '27 InputShape at -'),
-                                   ('crun /dev/null i 30 100', '26 NotC at - 0'))]
+                                   ('crun /dev/null i 30 100', '26 NotC at - 0'), ('resume d i /dev/null 30 100', '36 NotSave at - 1'),
+                                   ('vcdat /dev/null 1', '37 NotVcd at - 1'))]
     return '; '.join(filter(None, wrong))
 
 
@@ -364,6 +397,10 @@ def words(program):
         return wrong or without((due['host'][1], b'', 0), ('host', run(program, ['host'], cwd=work)))
 
 
+LEVELS_DUMP = ('$timescale 1 ns $end\n$scope module scicos $end\n$var integer 32 v1 b1_1_1 $end\n$upscope $end\n$enddefinitions $end\n#0\n$dumpvars\n'
+               'b00000000000000000000000000000111 v1\n$end\n')
+
+
 def deepest():
     """Files as deep as the rules allow: superblocks in 16 levels, a text of 127 levels, and C where calls are 64 deep, each below 16 statements, with an
     expression that is 64 deep in the deepest. Beside them a long list of objects, which takes memory by its length."""
@@ -381,7 +418,8 @@ def deepest():
         lines += ['static void f%d(void) {' % k] + begin + ['  ' * 16 + inside] + end + ['}']
     lines += ['void sci_main(void) {'] + begin + ['  ' * 16 + 'f64();'] + end
     lines += ['  sci_val(INT64_C(1), INT64_C(1), INT64_C(1), v1);', '  v1 = %s;' % right, '  sci_val(INT64_C(1), INT64_C(1), INT64_C(2), v1);', '}']
-    return {'levels': json.dumps({'objs': objs}), 'brackets': '{"unread":%s%s,"objs":[]}' % ('[' * 126, ']' * 126),
+    levels = {'t': 'start\nval 1 1 1 7\nend empty\n', 's': 'save 1\nat 0 0\nheld 1 7\ndone\n', 'w': LEVELS_DUMP}
+    return {**levels, 'levels': json.dumps({'objs': objs}), 'brackets': '{"unread":%s%s,"objs":[]}' % ('[' * 126, ']' * 126),
             'texts': json.dumps({'objs': [{'obj': 'Text'}] * 10000}), 'calls': head + '\n'.join(lines) + '\n', 'i': '[]'}
 
 
@@ -389,7 +427,11 @@ DEEPEST = [(['check', 'levels'], b'ok 1 1 1 0\n'),
            (['simulate', 'levels', 'i', '1', '1'], b'start\nval 1 1 1 7\nend empty\n'),
            (['check', 'brackets'], b'ok 0 1 0 0\n'),
            (['check', 'texts'], b'ok 0 1 0 0\n'),
-           (['crun', 'calls', 'i', '1', '1'], b'val 1 1 1 63\nval 1 1 2 63\n')]
+           (['crun', 'calls', 'i', '1', '1'], b'val 1 1 1 63\nval 1 1 2 63\n'),
+           (['judge', 'levels', 'i', 't', '1', '1'], b'yes 3\n'),
+           (['resume', 'levels', 'i', 's', '1', '1'], b'end empty\n'),
+           (['vcd', 'levels', 'i', '1', '1'], LEVELS_DUMP.encode()),
+           (['vcdat', 'w', '1'], b'b1_1_1 7\n')]
 
 
 def limited(program, limits, due_at_last):

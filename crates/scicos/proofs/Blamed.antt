@@ -1,6 +1,12 @@
 -- A blamed byte is one of the text, or stands behind its end.
 use Rattle.std.proofs.Common.{◌≡◌, ◌≤◌, ◌+◌, ℕ, zero, suc, List, [], ◌∷◌, length, get_or, inl, inr, ap, arith, Some, None}
+use Rattle.std.proofs.lemmas.List.{length-append}
 use Rattle.std.specs.Prelude.{Option}
+use Rattle.sci_net.specs.Parts.{Parts}
+use Rattle.sci_reaction.specs.Memory.{Columns}
+use Rattle.sci_text.specs.Lines.{joined}
+use Rattle.sci_save.specs.Blame.{IsBlamed}
+use Rattle.scicos.proofs.Dumped.{joined_long}
 use Rattle.c_ast.specs.Syntax.{Whole}
 use Rattle.c_ast.specs.Spelling.{spelling}
 use Rattle.c_ast.specs.Events.{program_events}
@@ -31,3 +37,11 @@ blamed_within bytes n (inr u) =
     let r = place_within u.program (blamed_event (program_events u.program)) n u.blamed in
     let e = ap length u.spells.1 in
     omega (arith, r, e)
+
+-- a blamed line of what was saved is one of the text, or stands behind its end
+pub line_within : (n : Parts) (i : Columns) (bytes : List ℕ) (k : ℕ) → IsBlamed n i bytes k → k ≤ length bytes + 1
+line_within n i bytes k h =
+    let all = ap length h.split in
+    let both = length-append (joined h.before) h.rest in
+    let lines = joined_long h.before in
+    omega (arith, h.number, all, both, lines)

@@ -66,14 +66,15 @@ same_faults old new t (inr h) = h.1.2
 abbrev pub IsOther : ℕ → Type 0
 IsOther s = (IsDone s → ⊥) × (s ≡ 1 → ⊥)
 
-not_done : (s : ℕ) → (s ≡ 0 → ⊥) → (s ≡ 6 → ⊥) → (s ≡ 7 → ⊥) → IsDone s → ⊥
-not_done s not0 not6 not7 (inl h) = not0 h
-not_done s not0 not6 not7 (inr (inl h)) = not6 h
-not_done s not0 not6 not7 (inr (inr h)) = not7 h
+not_done : (s : ℕ) → (s ≡ 0 → ⊥) → (s ≡ 6 → ⊥) → (s ≡ 7 → ⊥) → (s ≡ 8 → ⊥) → IsDone s → ⊥
+not_done s not0 not6 not7 not8 (inl h) = not0 h
+not_done s not0 not6 not7 not8 (inr (inl h)) = not6 h
+not_done s not0 not6 not7 not8 (inr (inr (inl h))) = not7 h
+not_done s not0 not6 not7 not8 (inr (inr (inr h))) = not8 h
 
 -- 2, 3, 4 and 5
 is_other : (s : ℕ) → 2 ≤ s → s ≤ 5 → IsOther s
-is_other s least most = (not_done s (λ e. omega (arith, e, least)) (λ e. omega (arith, e, most)) (λ e. omega (arith, e, most)), λ e. omega (arith, e, least))
+is_other s least most = (not_done s (λ e. omega (arith, e, least)) (λ e. omega (arith, e, most)) (λ e. omega (arith, e, most)) (λ e. omega (arith, e, most)), λ e. omega (arith, e, least))
 
 pub no_kind : (files names : List (List ℕ)) (a : Answer) → Kind files names a → IsOther a.status → ⊥
 no_kind files names a (printed h all) other = other.0 h
@@ -114,7 +115,8 @@ gives_refusal words bytes old new a out out' err err' s cm (inr w) is = absurd (
 done_not_one : (s : ℕ) → IsDone s → s ≡ 1 → ⊥
 done_not_one s (inl h) e = omega (arith, h, e)
 done_not_one s (inr (inl h)) e = omega (arith, h, e)
-done_not_one s (inr (inr h)) e = omega (arith, h, e)
+done_not_one s (inr (inr (inl h))) e = omega (arith, h, e)
+done_not_one s (inr (inr (inr h))) e = omega (arith, h, e)
 
 pub all_of : (words : List (List ℕ)) (old new : FolderState) (a : Answer) (c : Request) (names : List (List ℕ)) → Spells words c → new.asked ≡ old.asked ++ names → Kind (files_of c) names a → (a.status ≡ 1 → ⊥) → AsksAll words old new
 all_of words old new a c names spells is (printed h all) not1 = (c, spells, is ∙ ap (λ (l : List (List ℕ)). old.asked ++ l) all)
@@ -157,10 +159,10 @@ abbrev pub Silent : ℕ → Type 0
 Silent s = ((s ≡ 1) ⊎ (s ≡ 2)) ⊎ ((s ≡ 3) ⊎ (s ≡ 5))
 
 silent : (s : ℕ) → Silent s → (IsDone s → ⊥) × (s ≡ 4 → ⊥)
-silent s (inl (inl h)) = (not_done s (λ e. omega (arith, e, h)) (λ e. omega (arith, e, h)) (λ e. omega (arith, e, h)), λ e. omega (arith, e, h))
-silent s (inl (inr h)) = (not_done s (λ e. omega (arith, e, h)) (λ e. omega (arith, e, h)) (λ e. omega (arith, e, h)), λ e. omega (arith, e, h))
-silent s (inr (inl h)) = (not_done s (λ e. omega (arith, e, h)) (λ e. omega (arith, e, h)) (λ e. omega (arith, e, h)), λ e. omega (arith, e, h))
-silent s (inr (inr h)) = (not_done s (λ e. omega (arith, e, h)) (λ e. omega (arith, e, h)) (λ e. omega (arith, e, h)), λ e. omega (arith, e, h))
+silent s (inl (inl h)) = (not_done s (λ e. omega (arith, e, h)) (λ e. omega (arith, e, h)) (λ e. omega (arith, e, h)) (λ e. omega (arith, e, h)), λ e. omega (arith, e, h))
+silent s (inl (inr h)) = (not_done s (λ e. omega (arith, e, h)) (λ e. omega (arith, e, h)) (λ e. omega (arith, e, h)) (λ e. omega (arith, e, h)), λ e. omega (arith, e, h))
+silent s (inr (inl h)) = (not_done s (λ e. omega (arith, e, h)) (λ e. omega (arith, e, h)) (λ e. omega (arith, e, h)) (λ e. omega (arith, e, h)), λ e. omega (arith, e, h))
+silent s (inr (inr h)) = (not_done s (λ e. omega (arith, e, h)) (λ e. omega (arith, e, h)) (λ e. omega (arith, e, h)) (λ e. omega (arith, e, h)), λ e. omega (arith, e, h))
 
 quiet_out : (words bytes : List (List ℕ)) (old new : FolderState) (a : Answer) → Came words bytes old new a → (IsDone a.status → ⊥) → a.out ≡ []
 quiet_out words bytes old new a (used n d k s o) not = o

@@ -3,7 +3,6 @@ use Rattle.std.proofs.Common.{◌≡◌, ◌≢◌, ◌≤◌, ◌<◌, ℕ, Lis
 use Rattle.std.proofs.lemmas.List.{append-nil}
 use Rattle.std.specs.Prelude.{Result, Ok, Err, OnOk, OnErr}
 use Rattle.sci_base.specs.Plain.{Violation}
-use Rattle.sci_base.specs.declared.observation.Obs.{Obs}
 use Rattle.sci_io.specs.Causes.{Rose}
 use Rattle.sci_io.specs.declared.sink.Failed.{Failed}
 use Rattle.sci_io.specs.Taken.{SinkState, Advances, TakesFront, Writes}
@@ -21,7 +20,10 @@ use Rattle.scicos.specs.Answer.{Answer, says, prints, ran, IsTraceOf, run_status
 use Rattle.scicos.specs.Written.{Took, Cut, Given, CutShort, Written}
 use Rattle.scicos.specs.declared.prepare.Simulation.{Simulation}
 use Rattle.scicos.proofs.Traced.{trace_some}
-use Rattle.scicos.specs.Deliver.{Gives, Said, is_stopped, Ran, PrintsTrace, Finished, RunsOut, RanC, FinishedC}
+use Rattle.scicos.specs.Deliver.{Gives, Said, is_stopped, RanAs, PrintsTrace, PrintsDump, Finished, RunsOut, RanC, FinishedC}
+use Rattle.scicos.specs.Dump.{dumped, IsDumpAnswer}
+use Rattle.sci_vcd.specs.Waveforms.{Waveforms}
+use Rattle.sci_vcd.specs.Spelling.{spelling}
 
 pub some_text : (t : List ℕ) → 0 < length t → t ≢ []
 some_text t h = λ e. omega (arith, h, ap length e)
@@ -79,10 +81,11 @@ cut_written t out out' err err' answer some h said =
     let told = fault_told err err' answer said in
     inr (inl (told.0, (some_text t some, h), told.1))
 
-ran_written : (os : List Obs) (out out' err err' : SinkState) (answer : ℕ) (r : Result RunEnd Failed) → text os ≢ [] → Ran os out out' r → Finished r err err' answer → Written (ran os) out out' err err' answer
-ran_written os out out' err err' answer (Ok e) some p h =
+pub ran_written : (t : List ℕ) (stopped : Bool) (out out' err err' : SinkState) (answer : ℕ) (r : Result RunEnd Failed) → t ≢ [] → RanAs t stopped out out' r → Finished r err err' answer
+    → Written (record { out = t; err = []; status = run_status stopped }) out out' err err' answer
+ran_written t stopped out out' err err' answer (Ok e) some p h =
     inl (h.0 ∙ ap run_status p.0, inr (some, p.1), inl (refl, h.1))
-ran_written os out out' err err' answer (Err e) some p h =
+ran_written t stopped out out' err err' answer (Err e) some p h =
     let told = fault_told err err' answer h in
     inr (inl (told.0, (some, p), told.1))
 
@@ -90,27 +93,36 @@ pub trace_written : (s : Simulation) (out out' err err' : SinkState) (answer : �
     → (a : Answer) × IsTraceOf s.ready.fixed.net s.inputs s.until s.limit a × Written a out out' err err' answer
 trace_written s out out' err err' answer r p h =
     let some = trace_some s.ready.fixed.net s.inputs s.until s.limit p.0 p.1 in
-    (ran p.0, (p.0, p.1, refl), ran_written p.0 out out' err err' answer r some p.2 h)
+    (ran p.0, (p.0, p.1, refl), ran_written (text p.0) (stops p.0) out out' err err' answer r some p.2 h)
+
+-- each dump has a head
+dump_some : (w : Waveforms) → spelling w ≢ []
+dump_some w = λ e. absurd (cc e)
+
+pub dump_written : (s : Simulation) (out out' err err' : SinkState) (answer : ℕ) (r : Result RunEnd Failed) → PrintsDump s out out' r → Finished r err err' answer
+    → (a : Answer) × IsDumpAnswer s.ready.fixed.net s.inputs s.until s.limit a × Written a out out' err err' answer
+dump_written s out out' err err' answer r p h =
+    (dumped p.0 p.2, (p.0, p.1, p.2, p.3, refl), ran_written (spelling p.0) (stops p.2) out out' err err' answer r (dump_some p.0) p.4 h)
 
 -- a run failed to be written
-pub ran_cut : {T E : Type 0} (old new : SinkState) (os : List Obs) (r : Result T E) (s : Result RunEnd Failed) (e : E) (f : Failed) → r ≡ Err e → s ≡ Err f → Gives old new (text os) r → Ran os old new s
-ran_cut old new os r s e f is was h = subst (λ q. Ran os old new q) (sym was) (subst (λ q. Gives old new (text os) q) is h)
+pub ran_cut : {T E : Type 0} (old new : SinkState) (t : List ℕ) (stopped : Bool) (r : Result T E) (s : Result RunEnd Failed) (e : E) (f : Failed) → r ≡ Err e → s ≡ Err f → Gives old new t r → RanAs t stopped old new s
+ran_cut old new t stopped r s e f is was h = subst (λ q. RanAs t stopped old new q) (sym was) (subst (λ q. Gives old new t q) is h)
 
 -- a run was written and flushed
-pub ran_whole : {T E : Type 0} (old new : SinkState) (os : List Obs) (end : RunEnd) (s : Result T E) (x : T) → s ≡ Ok x → Gives old new (text os) s → stops os ≡ is_stopped end → Ran os old new (Ok end)
-ran_whole old new os end s x is h stopped = (sym stopped, subst (λ q. Gives old new (text os) q) is h)
+pub ran_whole : {T E : Type 0} (old new : SinkState) (t : List ℕ) (stopped : Bool) (end : RunEnd) (s : Result T E) (x : T) → s ≡ Ok x → Gives old new t s → stopped ≡ is_stopped end → RanAs t stopped old new (Ok end)
+ran_whole old new t stopped end s x is h ends = (sym ends, subst (λ q. Gives old new t q) is h)
 
 -- a run failed as it wrote
-pub ran_failed : {T E : Type 0} {old new : SinkState} (os : List Obs) (r : Result T E) (s : Result RunEnd Failed) (e : E) (f : Failed) → r ≡ Err e → s ≡ Err f → Writes old new (text os) r → Ran os old new s
-ran_failed {old = old} {new = new} os r s e f is was w = ran_cut old new os r s e f is was (not_flushed (text os) r r e e is is w)
+pub ran_failed : {T E : Type 0} {old new : SinkState} (t : List ℕ) (stopped : Bool) (r : Result T E) (s : Result RunEnd Failed) (e : E) (f : Failed) → r ≡ Err e → s ≡ Err f → Writes old new t r → RanAs t stopped old new s
+ran_failed {old = old} {new = new} t stopped r s e f is was w = ran_cut old new t stopped r s e f is was (not_flushed t r r e e is is w)
 
 -- a run was written and not flushed
-pub ran_unflushed : {T E U F : Type 0} {old mid new : SinkState} (os : List Obs) (r : Result T E) (s : Result U F) (q : Result RunEnd Failed) (x : T) (e : F) (f : Failed) → r ≡ Ok x → s ≡ Err e → q ≡ Err f → Writes old mid (text os) r → Writes mid new [] s → OnOk s (new.held ≡ []) → Ran os old new q
-ran_unflushed {old = old} {new = new} os r s q x e f ok is was first second empty = ran_cut old new os s q e f is was (flushed (text os) r s x ok first second empty)
+pub ran_unflushed : {T E U F : Type 0} {old mid new : SinkState} (t : List ℕ) (stopped : Bool) (r : Result T E) (s : Result U F) (q : Result RunEnd Failed) (x : T) (e : F) (f : Failed) → r ≡ Ok x → s ≡ Err e → q ≡ Err f → Writes old mid t r → Writes mid new [] s → OnOk s (new.held ≡ []) → RanAs t stopped old new q
+ran_unflushed {old = old} {new = new} t stopped r s q x e f ok is was first second empty = ran_cut old new t stopped s q e f is was (flushed t r s x ok first second empty)
 
 -- and flushed
-pub ran_flushed : {T E U F : Type 0} {old mid new : SinkState} (os : List Obs) (end : RunEnd) (r : Result T E) (s : Result U F) (x : T) (y : U) → r ≡ Ok x → s ≡ Ok y → Writes old mid (text os) r → Writes mid new [] s → OnOk s (new.held ≡ []) → stops os ≡ is_stopped end → Ran os old new (Ok end)
-ran_flushed {old = old} {new = new} os end r s x y ok is first second empty stopped = ran_whole old new os end s y is (flushed (text os) r s x ok first second empty) stopped
+pub ran_flushed : {T E U F : Type 0} {old mid new : SinkState} (t : List ℕ) (stopped : Bool) (end : RunEnd) (r : Result T E) (s : Result U F) (x : T) (y : U) → r ≡ Ok x → s ≡ Ok y → Writes old mid t r → Writes mid new [] s → OnOk s (new.held ≡ []) → stopped ≡ is_stopped end → RanAs t stopped old new (Ok end)
+ran_flushed {old = old} {new = new} t stopped end r s x y ok is first second empty ends = ran_whole old new t stopped end s y is (flushed t r s x ok first second empty) ends
 
 -- ---- of a C program
 

@@ -4,13 +4,17 @@ mod Traced
 mod Giving
 mod Ends
 mod Causes
+mod ShortColumns
 mod OneAnswer
 mod Delivered
 mod Silent
+mod Judging
+mod Saving
 mod Blamed
 mod Probing
 mod Courses
 mod Looking
+mod RunFiles
 mod Simulated
 mod Counting
 mod Steps
@@ -19,4 +23,7 @@ mod Lengths
 mod Bulked
 mod Coded
 mod RunsAlike
+mod Resumed
 mod BulkRuns
+mod Dumped
+mod DumpRuns

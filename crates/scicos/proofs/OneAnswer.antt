@@ -8,7 +8,7 @@ use Rattle.sci_verdict.proofs.Verdicts.{one_verdict, one_tree_verdict, given_is_
 use Rattle.sci_verdict.specs.Verdict.{Plan, Accepts}
 use Rattle.sci_reaction.specs.Memory.{Columns}
 use Rattle.sci_run.specs.Run.{IsRun}
-use Rattle.sci_run.proofs.Unique.{one_trace}
+use Rattle.sci_run.proofs.Unique.{one_trace, one_rest}
 use Rattle.sci_trace.specs.Columns.{Needed}
 use Rattle.sci_needs.specs.Needs.{needs_of}
 use Rattle.scicos.specs.Inputs.{AcceptsColumns, BreaksColumns}
@@ -21,7 +21,24 @@ use Rattle.c_ast.specs.Spelling.{spelling}
 use Rattle.sci_bulk.specs.Bulk.{bulk as bulk_tree}
 use Rattle.scicos.specs.Bulk.{run_line, IsBulkLine, IsBulkAnswer}
 use Rattle.scicos.specs.Code.{IsCodeOf}
-use Rattle.scicos.specs.Words.{Request, report, simulate, code, run_c, host, bulk, report_word, spelled, InBounds, Spells, NoCommand}
+use Rattle.scicos.specs.Dump.{dumped, IsDumpAnswer, AcceptsDump, BreaksDump, not_vcd}
+use Rattle.sci_vcd.specs.Waveforms.{Waveforms}
+use Rattle.sci_wave.proofs.OneDump.{one_run_dump}
+use Rattle.sci_vcd.proofs.Blaming as dumps
+use Rattle.scicos.specs.Words.{Request, report, simulate, judge, save, resume, code, run_c, host, bulk, dump, dump_at, report_word, spelled, InBounds, Spells, NoCommand}
+use Rattle.sci_base.specs.declared.observation.Obs.{Obs}
+use Rattle.sci_trace.specs.Lines.{text}
+use Rattle.sci_agree.specs.Verdict.{IsVerdict}
+use Rattle.sci_agree.proofs.Verdicts.{one_verdict as one_text_verdict}
+use Rattle.sci_save.specs.Bounds.{AreShort}
+use Rattle.sci_save.specs.Saved.{Saved}
+use Rattle.sci_save.specs.Text.{saved_text}
+use Rattle.sci_save.specs.Resumed.{state_of}
+use Rattle.sci_save.proofs.Blaming.{one_spelled as one_saved_of_text, one_blamed as one_blamed_line}
+use Rattle.sci_resume.proofs.Behind.{one_saved, one_end, not_both as saved_or_ended}
+use Rattle.scicos.specs.Judge.{IsText, BreaksNothing, judged, IsJudgementOf}
+use Rattle.scicos.specs.Save.{IsSaveOf, saves, ended, run_ended, not_save, AcceptsSaved, BreaksSaved, IsRestOf}
+use Rattle.scicos.proofs.ShortColumns.{columns_short}
 use Rattle.scicos.specs.Answer.{Answer, prints, refused, ran, IsTraceOf}
 use Rattle.scicos.specs.Course.{Holds, Slot, Passes, Fails, Course, gives, makes, reads, DueOn}
 use Rattle.scicos.specs.Due.{Due, course_of}
@@ -56,6 +73,16 @@ same_command (report r d) (report q e) p o h =
 same_command (simulate d i t n) (simulate d' i' t' n') p q h =
     let numbers = same_numbers t t' n n' (omega (arith, p.0)) (omega (arith, q.0)) (omega (arith, p.1)) (omega (arith, q.1)) (cc h) (cc h) in
     cc (h, numbers.0, numbers.1)
+same_command (judge d i v t n) (judge d' i' v' t' n') p q h =
+    let numbers = same_numbers t t' n n' (omega (arith, p.0)) (omega (arith, q.0)) (omega (arith, p.1)) (omega (arith, q.1)) (cc h) (cc h) in
+    cc (h, numbers.0, numbers.1)
+same_command (save d i t n k) (save d' i' t' n' k') p q h =
+    let numbers = same_numbers t t' n n' (omega (arith, p.0)) (omega (arith, q.0)) (omega (arith, p.1)) (omega (arith, q.1)) (cc h) (cc h) in
+    let reaction = decimal_injective k k' (omega (arith, p.3)) (omega (arith, q.3)) (cc h) in
+    cc (h, numbers.0, numbers.1, reaction)
+same_command (resume d i s t n) (resume d' i' s' t' n') p q h =
+    let numbers = same_numbers t t' n n' (omega (arith, p.0)) (omega (arith, q.0)) (omega (arith, p.1)) (omega (arith, q.1)) (cc h) (cc h) in
+    cc (h, numbers.0, numbers.1)
 same_command (run_c d i t n) (run_c d' i' t' n') p q h =
     let numbers = same_numbers t t' n n' (omega (arith, p.0)) (omega (arith, q.0)) (omega (arith, p.1)) (omega (arith, q.1)) (cc h) (cc h) in
     cc (h, numbers.0, numbers.1)
@@ -70,13 +97,35 @@ same_command host host p q h = refl
 same_command (bulk x n) (bulk y m) p q h =
     let numbers = same_numbers x y n m (omega (arith, p.0)) (omega (arith, q.0)) (omega (arith, p.2)) (omega (arith, q.2)) (cc h) (cc h) in
     cc (numbers.0, numbers.1)
+same_command (dump d i t n) (dump d' i' t' n') p q h =
+    let numbers = same_numbers t t' n n' (omega (arith, p.0)) (omega (arith, q.0)) (omega (arith, p.1)) (omega (arith, q.1)) (cc h) (cc h) in
+    cc (h, numbers.0, numbers.1)
+same_command (dump_at v t) (dump_at w u) p q h =
+    let tick = decimal_injective t u (omega (arith, p)) (omega (arith, q)) (cc h) in
+    cc (h, tick)
 same_command c d p q h = absurd (cc h)
 
-one_columns : (needs : List Needed) → IsOneVerdict (AcceptsColumns needs) (BreaksColumns needs)
+pub one_columns : (needs : List Needed) → IsOneVerdict (AcceptsColumns needs) (BreaksColumns needs)
 one_columns needs = record {
   one_made = λ bytes m n h k. cc (h, k);
   one_break = λ bytes v w h k. inl (cc (h, k));
   not_both = λ bytes m v h k. absurd (cc (h, k));
+}
+
+-- any text passes
+one_text : IsOneVerdict IsText BreaksNothing
+one_text = record {
+  one_made = λ bytes m n h k. h ∙ sym k;
+  one_break = λ bytes v w h k. absurd h;
+  not_both = λ bytes m v h k. k;
+}
+
+-- a text saves one thing, or one line of it is blamed
+one_saved_file : (bytes : List ℕ) (p : Plan) (i : Columns) → Accepts bytes p → AreShort i → IsOneVerdict (AcceptsSaved p.net i) (BreaksSaved p.net i)
+one_saved_file bytes p i accepted short = record {
+  one_made = λ file m o h k. one_saved_of_text p.net i (given_is_net bytes p.net accepted.given) short file m o h k;
+  one_break = λ file v w h k. inl (h.told ∙ (ap not_save (one_blamed_line p.net i file h.line k.line h.blamed k.blamed) ∙ sym k.told));
+  not_both = λ file m v h k. k.blamed.none m h;
 }
 
 one_program : IsOneVerdict AcceptsC BreaksC
@@ -84,6 +133,13 @@ one_program = record {
   one_made = λ bytes p q a b. one_spelled bytes p q a.0 b.0;
   one_break = λ bytes v w h k. inl (h.told ∙ (ap not_c (one_blamed bytes h.byte k.byte h.blamed k.blamed) ∙ sym k.told));
   not_both = λ bytes p v h k. not_both bytes p k.byte h k.blamed;
+}
+
+one_dump : IsOneVerdict AcceptsDump BreaksDump
+one_dump = record {
+  one_made = λ bytes v w a b. dumps.one_dump v w a.0 b.0 (sym a.1 ∙ b.1);
+  one_break = λ bytes v w h k. inl (h.told ∙ (ap not_vcd (dumps.one_first_wrong bytes h.line k.line h.blamed k.blamed) ∙ sym k.told));
+  not_both = λ bytes w v h k. dumps.not_both bytes w k.line h k.blamed;
 }
 
 pub one_fail : {A : Type 0} (breaks : List ℕ → Violation → Type 0) (accepts : List ℕ → A → Type 0) (slot : Slot) → IsOneVerdict accepts breaks → (x y : List ℕ) (v w : Violation) → x ≡ y → Fails breaks slot x v → Fails breaks slot y w → AreAlike v w
@@ -109,6 +165,38 @@ one_trace_answer : (bytes : List ℕ) (p : Plan) (i : Columns) (until limit : �
 one_trace_answer bytes p i until limit a b accepted h k =
     let same : h.0 ≡ k.0 = one_trace p.net i (given_is_net bytes p.net accepted.given) accepted.planned.free until limit h.0 k.0 h.1 k.1 in
     h.2 ∙ (ap ran same ∙ sym k.2)
+
+-- one verdict on a file
+one_judgement : (bytes : List ℕ) (p : Plan) (i : Columns) (until limit : ℕ) (file : List ℕ) (a b : Answer) → Accepts bytes p → IsJudgementOf p.net i until limit file a → IsJudgementOf p.net i until limit file b → a ≡ b
+one_judgement bytes p i until limit file a b accepted h k =
+    let same : h.0 ≡ k.0 = one_trace p.net i (given_is_net bytes p.net accepted.given) accepted.planned.free until limit h.0 k.0 h.1 k.1 in
+    let verdict : h.2 ≡ k.2 = one_text_verdict (text k.0) file h.2 k.2 (subst (λ (os : List Obs). IsVerdict (text os) file h.2) same h.3) k.3 in
+    h.4 ∙ (ap judged verdict ∙ sym k.4)
+
+-- one thing is saved behind a reaction, or the run is over
+one_save : (bytes : List ℕ) (p : Plan) (i : Columns) (until limit k : ℕ) (a b : Answer) → Accepts bytes p → IsSaveOf p.net i until limit k a → IsSaveOf p.net i until limit k b → a ≡ b
+one_save bytes p i until limit k a b accepted (saves m h told) (saves o g tells) =
+    told ∙ (ap (λ (x : Saved). prints (saved_text p.net x)) (one_saved p.net i until limit k m o (given_is_net bytes p.net accepted.given) accepted.planned.free h g) ∙ sym tells)
+one_save bytes p i until limit k a b accepted (ended j h told) (ended l g tells) =
+    told ∙ (ap (λ (x : ℕ). refused (run_ended k x)) (one_end p.net i until limit k j l (given_is_net bytes p.net accepted.given) accepted.planned.free h g) ∙ sym tells)
+one_save bytes p i until limit k a b accepted (saves m h told) (ended l g tells) =
+    absurd (saved_or_ended p.net i until limit k l m (given_is_net bytes p.net accepted.given) accepted.planned.free h g)
+one_save bytes p i until limit k a b accepted (ended j h told) (saves o g tells) =
+    absurd (saved_or_ended p.net i until limit k j o (given_is_net bytes p.net accepted.given) accepted.planned.free g h)
+
+-- and one rest of a run from there
+one_rest_answer : (bytes : List ℕ) (p : Plan) (i : Columns) (until limit : ℕ) (m : Saved) (a b : Answer) → Accepts bytes p → IsRestOf p.net i until limit m a → IsRestOf p.net i until limit m b → a ≡ b
+one_rest_answer bytes p i until limit m a b accepted h k =
+    let same : h.0 ≡ k.0 = one_rest p.net i (given_is_net bytes p.net accepted.given) accepted.planned.free until limit (state_of m) h.0 k.0 h.1 k.1 in
+    h.2 ∙ (ap ran same ∙ sym k.2)
+
+-- and one dump
+one_dump_answer : (bytes : List ℕ) (p : Plan) (i : Columns) (until limit : ℕ) (a b : Answer) → Accepts bytes p → IsDumpAnswer p.net i until limit a → IsDumpAnswer p.net i until limit b → a ≡ b
+one_dump_answer bytes p i until limit a b accepted h k =
+    let net = given_is_net bytes p.net accepted.given in
+    let dump : h.0 ≡ k.0 = one_run_dump p.net i until limit h.0 k.0 net accepted.planned.free h.1 k.1 in
+    let trace : h.2 ≡ k.2 = one_trace p.net i net accepted.planned.free until limit h.2 k.2 h.3 k.3 in
+    h.4 ∙ (ap (λ (w : Waveforms). dumped w h.2) dump ∙ (ap (dumped k.0) trace ∙ sym k.4))
 
 -- a plan has one program, whose text is due
 one_code : (p : Plan) (a b : Answer) → IsCodeOf p a → IsCodeOf p b → a ≡ b
@@ -149,16 +237,31 @@ same_are_one files (x ∷ xs) = ((λ d h k. refl), same_are_one files xs)
 abbrev IsOneCourse : Course → Type 0
 IsOneCourse (gives due) = (a b : Answer) → due a → due b → a ≡ b
 IsOneCourse (makes due) = (a b : Answer) → due a → due b → a ≡ b
-IsOneCourse (reads A slot d accepts breaks next) = IsOneVerdict accepts breaks × ((bytes : List ℕ) (made : A) → accepts bytes made → IsOneCourse (next made))
+IsOneCourse (reads A slot d accepts breaks next) = IsOneVerdict accepts breaks × ((bytes : List ℕ) (made : A) → Passes accepts slot bytes made → IsOneCourse (next made))
 
 one_course_of : (c : Request) → IsOneCourse (course_of c)
 one_course_of (report r d) = (one_verdict, λ bytes p accepted a b h k. h ∙ sym k)
 one_course_of (simulate d i t n) =
-    (one_verdict, λ bytes p accepted. (one_columns (needs_of p.net), λ file columns read a b h k. one_trace_answer bytes p columns t n a b accepted h k))
+    (one_verdict, λ bytes p accepted. (one_columns (needs_of p.net), λ file columns read a b h k. one_trace_answer bytes p columns t n a b accepted.1 h k))
+one_course_of (judge d i v t n) =
+    (one_verdict, λ bytes p accepted. (one_columns (needs_of p.net), λ file columns read. (one_text, λ judged_file text is a b h k. one_judgement bytes p columns t n text a b accepted.1 h k)))
+one_course_of (save d i t n k) =
+    (one_verdict, λ bytes p accepted. (one_columns (needs_of p.net), λ file columns read a b h g. one_save bytes p columns t n k a b accepted.1 h g))
+one_course_of (resume d i s t n) = (
+  one_verdict,
+  λ bytes p accepted. (
+    one_columns (needs_of p.net),
+    λ file columns read.
+        (one_saved_file bytes p columns accepted.1 (columns_short (needs_of p.net) file columns read.0 read.1), λ saved_file m is a b h k. one_rest_answer bytes p columns t n m a b accepted.1 h k),
+  ),
+)
 one_course_of (code d) = (one_verdict, λ bytes p accepted a b h k. one_code p a b h k)
 one_course_of (run_c c i t n) = (one_program, λ bytes program accepted. (one_columns [], λ file columns read a b h k. h ∙ sym k))
 one_course_of host = λ a b h k. h ∙ sym k
 one_course_of (bulk seed size) = one_bulk seed size
+one_course_of (dump d i t n) =
+    (one_verdict, λ bytes p accepted. (one_columns (needs_of p.net), λ file columns read a b h k. one_dump_answer bytes p columns t n a b accepted.1 h k))
+one_course_of (dump_at v tick) = (one_dump, λ bytes w accepted a b h k. h ∙ sym k)
 
 one_due_on : (files : Files) (course : Course) (xs ys names others : List (List ℕ)) (a b : Answer) → IsOneCourse course → AreOne files xs ys → DueOn files course xs names a → DueOn files course ys others b → Same a b names others
 one_due_on files (gives due) xs ys names others a b one same h k = (inl (one a b h.0 k.0), h.1 ∙ sym k.1)
@@ -175,7 +278,7 @@ one_due_on files (reads A slot d accepts breaks next) (x ∷ xs) (y ∷ ys) name
     let bytes : x ≡ y = same.0 d p q in
     let made : h.0 ≡ k.0 = one.0.one_made y h.0 k.0 (subst (λ (l : List ℕ). accepts l h.0) bytes h.1.1) k.1.1 in
     let due = subst (λ (m : A). DueOn files (next m) xs h.2 a) made h.4 in
-    let rest = one_due_on files (next k.0) xs ys h.2 k.2 a b (one.1 y k.0 k.1.1) same.1 due k.4 in
+    let rest = one_due_on files (next k.0) xs ys h.2 k.2 a b (one.1 y k.0 k.1) same.1 due k.4 in
     (rest.0, h.3 ∙ (ap (λ (l : List (List ℕ)). d ∷ l) rest.1 ∙ sym k.3))
 
 one_due : (files : Files) (words xs ys names others : List (List ℕ)) (a b : Answer) → AreOne files xs ys → Due files words xs names a → Due files words ys others b → Same a b names others

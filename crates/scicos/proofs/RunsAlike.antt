@@ -23,34 +23,28 @@ use Rattle.scicos.specs.Answer.{Answer, IsDone, refused, ran, run_status, c_ran,
 use Rattle.scicos.specs.Code.{IsCodeOf}
 use Rattle.scicos.specs.Course.{Holds, c_slot, inputs_slot, Fails, DueOn}
 use Rattle.scicos.specs.Words.{Request, simulate, code, run_c, spelled, InBounds}
-use Rattle.scicos.specs.Due.{behind_diagram, behind_program, course_of, Due}
+use Rattle.scicos.specs.Due.{behind_inputs, gives_trace, behind_program, course_of, Due}
 use Rattle.scicos.specs.Ran.{AreAnswers, CodeRunsAlike, CodeRunsOnlySo, IsGenerated, CodeIsDefined}
 use Rattle.scicos.proofs.Ends.{status-is}
 use Rattle.scicos.proofs.OneAnswer.{same_command}
+use Rattle.scicos.proofs.ShortColumns.{enough}
 use Rattle.scicos.proofs.Traced.{ran_alike}
 
 -- ---- words and refusals
 
-due_course : (files : Files) (c : Request) (bytes names : List (List ℕ)) (a : Answer) → InBounds c → Due files (spelled c) bytes names a → DueOn files (course_of c) bytes names a
+pub due_course : (files : Files) (c : Request) (bytes names : List (List ℕ)) (a : Answer) → InBounds c → Due files (spelled c) bytes names a → DueOn files (course_of c) bytes names a
 due_course files c bytes names a bounds (inl h) = absurd (h.0 c (refl, bounds))
 due_course files c bytes names a bounds (inr h) =
     let same : h.0 ≡ c = same_command h.0 c h.1.1 bounds (sym h.1.0) in
     subst (λ (q : Request). DueOn files (course_of q) bytes names a) same h.2
 
-no_refusal : (a : Answer) (v : Violation) → IsDone a.status → a ≡ refused v → ⊥
+pub no_refusal : (a : Answer) (v : Violation) → IsDone a.status → a ≡ refused v → ⊥
 no_refusal a v (inl h) e = omega (arith, h, status-is e)
 no_refusal a v (inr (inl h)) e = omega (arith, h, status-is e)
-no_refusal a v (inr (inr h)) e = omega (arith, h, status-is e)
+no_refusal a v (inr (inr (inl h))) e = omega (arith, h, status-is e)
+no_refusal a v (inr (inr (inr h))) e = omega (arith, h, status-is e)
 
 -- ---- an input file has the same columns, whatever is needed of it
-
-none_outside : (o : Option Violation) (cs columns : List (List ℤ)) → unless o cs ≡ Ok columns → cs ≡ columns
-none_outside None cs columns h = cc h
-none_outside (Some v) cs columns h = absurd (cc h)
-
-enough : (short : Bool) (v : Violation) (o : Option Violation) (cs columns : List (List ℤ)) → (if short then Err v else unless o cs) ≡ Ok columns → cs ≡ columns
-enough true v o cs columns h = absurd (cc h)
-enough false v o cs columns h = none_outside o cs columns h
 
 nothing_less : (n : ℕ) → nat_lt n 0 ≡ false
 nothing_less n = search rules
@@ -70,21 +64,21 @@ read_free needs bytes columns h = free_of needs (columns_in bytes) columns h
 
 -- ---- what a simulation and its C are due
 
-record IsSimulated (until limit : ℕ) (diagram inputs : List ℕ) (a : Answer) : Type 0 where
-  plan : Plan
-  accepted : Accepts diagram plan
-  columns : List (List ℤ)
-  short : length inputs ≤ 16777216
-  read : AcceptsColumns (needs_of plan.net) inputs columns
-  trace : IsTraceOf plan.net columns until limit a
+pub record IsSimulated (until limit : ℕ) (diagram inputs : List ℕ) (a : Answer) : Type 0 where
+  pub plan : Plan
+  pub accepted : Accepts diagram plan
+  pub columns : List (List ℤ)
+  pub short : length inputs ≤ 16777216
+  pub read : AcceptsColumns (needs_of plan.net) inputs columns
+  pub trace : IsTraceOf plan.net columns until limit a
 
 simulated_on : (files : Files) (i : List ℕ) (until limit : ℕ) (diagram inputs : List ℕ) (names : List (List ℕ)) (a : Answer) (p : Plan) → Accepts diagram p → IsDone a.status
-    → DueOn files (behind_diagram i until limit p) (inputs ∷ []) names a → IsSimulated until limit diagram inputs a
+    → DueOn files (behind_inputs i (needs_of p.net) (gives_trace until limit p)) (inputs ∷ []) names a → IsSimulated until limit diagram inputs a
 simulated_on files i until limit diagram inputs names a p accepted done (holds, inl h) = absurd (no_refusal a h.0 done h.2)
 simulated_on files i until limit diagram inputs names a p accepted done (holds, inr h) =
     record { plan = p; accepted = accepted; columns = h.0; short = h.1.0; read = h.1.1; trace = h.4.0 }
 
-is_simulated : (files : Files) (d i : List ℕ) (until limit : ℕ) (diagram inputs : List ℕ) (names : List (List ℕ)) (a : Answer) → IsDone a.status
+pub is_simulated : (files : Files) (d i : List ℕ) (until limit : ℕ) (diagram inputs : List ℕ) (names : List (List ℕ)) (a : Answer) → IsDone a.status
     → DueOn files (course_of (simulate d i until limit)) (diagram ∷ inputs ∷ []) names a → IsSimulated until limit diagram inputs a
 is_simulated files d i until limit diagram inputs names a done (holds, inl h) = absurd (no_refusal a h.0 done h.2)
 is_simulated files d i until limit diagram inputs names a done (holds, inr h) = simulated_on files i until limit diagram inputs h.2 a h.0 h.1.1 done h.4

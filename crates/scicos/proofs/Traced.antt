@@ -48,11 +48,11 @@ last_of_two : (o before last : Obs) (os : List Obs) → last_after o (os ++ befo
 last_of_two o before last [] = refl
 last_of_two o before last (p ∷ os) = last_of_two p before last os
 
-end_stops_not : (seen : List Obs) (word : EndWord) → stops (seen ++ End word ∷ []) ≡ false
+pub end_stops_not : (seen : List Obs) (word : EndWord) → stops (seen ++ End word ∷ []) ≡ false
 end_stops_not [] word = refl
 end_stops_not (o ∷ os) word = ap is_stop (last_one o (End word) os)
 
-stop_stops : (seen : List Obs) (header : Obs) (word : StopWord) (block port : ℤ) → stops (seen ++ header ∷ Stop word block port ∷ []) ≡ true
+pub stop_stops : (seen : List Obs) (header : Obs) (word : StopWord) (block port : ℤ) → stops (seen ++ header ∷ Stop word block port ∷ []) ≡ true
 stop_stops [] header word block port = refl
 stop_stops (o ∷ os) header word block port = ap is_stop (last_of_two o header (Stop word block port) os)
 

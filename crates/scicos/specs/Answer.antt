@@ -19,9 +19,9 @@ use Rattle.c_mean.specs.Answering.{end_of}
 use Rattle.scicos.specs.declared.command.Report.{Report}
 use Rattle.scicos.specs.declared.command.Report.TheVariants.{Check, Map, Schedule}
 
--- a command was done, or run to its end: done, stopped, or where a C program has no meaning
+-- a command was done, or run to its end: done, stopped, where a C program has no meaning, or where a file isn't the trace
 abbrev pub IsDone : ℕ → Type 0
-IsDone status = (status ≡ 0) ⊎ ((status ≡ 6) ⊎ (status ≡ 7))
+IsDone status = (status ≡ 0) ⊎ ((status ≡ 6) ⊎ ((status ≡ 7) ⊎ (status ≡ 8)))
 
 pub record Answer : Type 0 where
   pub out : List ℕ
@@ -33,7 +33,7 @@ abbrev pub says : ℕ → List ℕ → Answer
 says status text = record { out = []; err = text; status = status }
 
 unfoldable pub usage_line : List ℕ
-usage_line = codes "usage: scicos check D | map D | schedule D | simulate D I T N | ccode D | crun C I T N | host | bulk SEED SIZE\n"
+usage_line = codes "usage: scicos check D | map D | schedule D | simulate D I T N | ccode D | crun C I T N | host | bulk SEED SIZE | judge D I V T N | save D I T N K | resume D I S T N | vcd D I T N | vcdat V K\n"
 
 unfoldable pub read_fault_line : List ℕ
 read_fault_line = codes "read fault\n"

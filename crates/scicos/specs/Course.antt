@@ -25,6 +25,14 @@ inputs_slot = record { which = 2; longest = 16777216 }
 abbrev pub c_slot : Slot
 c_slot = record { which = 1; longest = 67108864 }
 
+-- a third file: a trace, or what was saved of a run
+abbrev pub third_slot : Slot
+third_slot = record { which = 3; longest = 67108864 }
+
+-- a dump
+abbrev pub dump_slot : Slot
+dump_slot = record { which = 1; longest = 67108864 }
+
 -- the file is too long
 abbrev pub too_long : Slot → Violation
 too_long slot = record { rule = FileTooLong; place = []; detail = pos slot.which ∷ pos slot.longest ∷ [] }

@@ -3,14 +3,20 @@ use Rattle.std.specs.Prelude.{ℕ, ◌≡◌, ◌≢◌, ◌⊎◌, List, [], Re
 use Rattle.sci_base.specs.declared.observation.Obs.{Obs}
 use Rattle.sci_io.specs.Taken.{SinkState}
 use Rattle.sci_io.specs.declared.sink.Failed.{Failed}
-use Rattle.sci_run.specs.Run.{IsRun}
+use Rattle.sci_run.specs.Run.{IsRest, IsRun}
+use Rattle.sci_save.specs.Saved.{saved_of}
+use Rattle.sci_save.specs.Resumed.{state_of}
 use Rattle.sci_sim.specs.declared.end.RunEnd.{RunEnd}
 use Rattle.sci_sim.specs.declared.end.RunEnd.TheVariants.{End as Ended, Stop as Stopped}
 use Rattle.sci_trace.specs.Lines.{text, stops}
+use Rattle.sci_vcd.specs.Waveforms.{Waveforms}
+use Rattle.sci_vcd.specs.Spelling.{spelling}
+use Rattle.sci_wave.specs.RunDump.{IsRunDump}
 use Rattle.scicos.specs.Answer.{Answer, write_fault_line, no_memory_line, undefined_line, no_memory, run_status}
 use Rattle.scicos.specs.Written.{Took, Cut, Given, CutShort, Written}
 use Rattle.scicos.specs.Prepare.{IsAnswerOf, MayLack}
 use Rattle.scicos.specs.declared.prepare.Prepared.{Prepared}
+use Rattle.scicos.specs.declared.prepare.ResumedRun.{ResumedRun}
 use Rattle.scicos.specs.declared.prepare.Simulation.{Simulation}
 use Rattle.c_mean.specs.Meaning.{Ran as Observed}
 use Rattle.c_mean.specs.Answering.{end_of}
@@ -32,14 +38,24 @@ abbrev pub is_stopped : RunEnd → Bool
 is_stopped (Ended word) = false
 is_stopped (Stopped word) = true
 
--- a run was printed on out, which ended as its trace does, or out failed
-abbrev pub Ran : List Obs → SinkState → SinkState → Result RunEnd Failed → Type 0
-Ran observed out out' (Ok end) = (is_stopped end ≡ stops observed) × Took out out' (text observed)
-Ran observed out out' (Err _) = Cut out out' (text observed)
+-- a run was printed on out by this text, and stopped or not, or out failed
+abbrev pub RanAs : List ℕ → (stopped : Bool) → SinkState → SinkState → Result RunEnd Failed → Type 0
+RanAs t stopped out out' (Ok end) = (is_stopped end ≡ stopped) × Took out out' t
+RanAs t stopped out out' (Err _) = Cut out out' t
 
 -- the same of a simulation, with some trace of its net
 abbrev pub PrintsTrace : Simulation → SinkState → SinkState → Result RunEnd Failed → Type 0
-PrintsTrace s out out' r = (os : List Obs) × IsRun s.ready.fixed.net s.inputs s.until s.limit os × Ran os out out' r
+PrintsTrace s out out' r = (os : List Obs) × IsRun s.ready.fixed.net s.inputs s.until s.limit os × RanAs (text os) (stops os) out out' r
+
+-- or with the dump of its run
+abbrev pub PrintsDump : Simulation → SinkState → SinkState → Result RunEnd Failed → Type 0
+PrintsDump s out out' r =
+    (w : Waveforms) × IsRunDump s.ready.fixed.net s.inputs s.until s.limit w × (os : List Obs) × IsRun s.ready.fixed.net s.inputs s.until s.limit os × RanAs (spelling w) (stops os) out out' r
+
+-- a run that goes on was printed, with some rest of its trace
+abbrev pub PrintsRest : ResumedRun → SinkState → SinkState → Result RunEnd Failed → Type 0
+PrintsRest s out out' r =
+    (os : List Obs) × IsRest s.run.ready.fixed.net s.run.inputs s.run.until s.run.limit (state_of (saved_of s.image)) os × RanAs (text os) (stops os) out out' r
 
 -- after a run: its status; after a failure of out a write fault put on err
 abbrev pub Finished : Result RunEnd Failed → SinkState → SinkState → ℕ → Type 0

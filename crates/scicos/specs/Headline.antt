@@ -42,7 +42,7 @@ pub record Meets (words : List (List ℕ)) (folder folder' : FolderState) (out o
   -- where no fault rose, it is the one that is due, memory aside
   pub complete : Quiet folder.faults folder'.faults → Quiet out.faults out'.faults → Quiet err.faults err'.faults → GivesDue words bytes folder folder' out out' err err' status ⊎ (status ≡ 5)
   pub done : IsDone status → GivesDue words bytes folder folder' out out' err err' status × AsksAll words folder folder'
-  -- and the banks have counted the run, where the command does one
+  -- and the banks have counted the run of `simulate`, of `vcd` and of `bulk`
   pub counts : IsDone status → HaveCounted words bytes banks
   pub refused : status ≡ 1 → GivesDue words bytes folder folder' out out' err err' status
   pub usage : status ≡ 2 → NoCommand words

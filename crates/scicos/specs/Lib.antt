@@ -3,10 +3,13 @@ pub mod Map
 pub mod Words
 pub mod Inputs
 pub mod Program
+pub mod Dump
 pub mod Host
 pub mod Answer
 pub mod Bulk
 pub mod Code
+pub mod Judge
+pub mod Save
 pub mod Course
 pub mod Due
 pub mod Counts
@@ -16,9 +19,12 @@ pub mod Deliver
 pub mod Probe
 pub mod Judged
 pub mod Look
+pub mod RunFiles
 pub mod Banks
 pub mod Prepare
 pub mod Headline
 pub mod Laws
 pub mod Ran
+pub mod Resumed
 pub mod BulkRuns
+pub mod DumpRuns

@@ -36,8 +36,12 @@ IsLooked accepts breaks slot old new name (Err (Refused r)) = ((bytes : List ℕ
 IsLooked accepts breaks slot old new name (Err Fault) = AsksInVain old new name
 IsLooked accepts breaks slot old new name (Err Memory) = MayAsk old new name
 
--- a refusal of a file that is too long, memory aside
+-- this refusal, memory aside
+abbrev pub IsRefusal : Violation → LookStop → Type 0
+IsRefusal v (Refused r) = violation_of r ≡ v
+IsRefusal v Fault = ⊥
+IsRefusal v Memory = Unit {0}
+
+-- that of a file that is too long
 abbrev pub IsTooLong : Slot → LookStop → Type 0
-IsTooLong slot (Refused r) = violation_of r ≡ too_long slot
-IsTooLong slot Fault = ⊥
-IsTooLong slot Memory = Unit {0}
+IsTooLong slot e = IsRefusal (too_long slot) e

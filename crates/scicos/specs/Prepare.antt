@@ -1,19 +1,28 @@
 -- The answers that a prepared command may write, and what it needs for it.
-use Rattle.std.specs.Prelude.{◌≡◌, ◌≤◌, ◌<◌, ◌^◌, List, length, pos, Result, Ok, Err}
+use Rattle.std.specs.Prelude.{true, ◌≡◌, ◌≤◌, ◌<◌, ◌^◌, List, length, pos, Result, Ok, Err}
 use Rattle.sci_base.specs.Plain.{violation_of}
 use Rattle.sci_io.specs.Files.{FolderState}
 use Rattle.sci_base.specs.declared.observation.Obs.{Obs}
 use Rattle.sci_net.specs.Net.{IsNet}
 use Rattle.sci_reaction.specs.Memory.{AreColumns}
-use Rattle.sci_run.specs.Run.{IsRun}
+use Rattle.sci_run.specs.Run.{IsRest, IsRun}
+use Rattle.sci_save.specs.Saved.{saved_of}
+use Rattle.sci_save.specs.Text.{saved_text}
+use Rattle.sci_save.specs.Valid.{IsShaped}
+use Rattle.sci_save.specs.Resumed.{state_of}
 use Rattle.sci_bank.specs.Bank.{Meaning}
-use Rattle.sci_sim.specs.At.{IsAtStart}
+use Rattle.sci_sim.specs.At.{IsAt, IsAtStart}
 use Rattle.c_ast.specs.View.{whole_of}
 use Rattle.c_ast.specs.Spelling.{spelling}
 use Rattle.c_ast.specs.Bounds.{IsWhole}
 use Rattle.c_mean.specs.Meaning.{meaning}
 use Rattle.scicos.specs.Answer.{Answer, usage, prints, refused, read_fault, no_memory, IsTraceOf, c_ran}
 use Rattle.scicos.specs.Bulk.{counted_line}
+use Rattle.scicos.specs.Judge.{judged}
+use Rattle.scicos.specs.Save.{IsRestOf}
+use Rattle.scicos.specs.Dump.{IsDumpAnswer, values_text}
+use Rattle.sci_run.specs.Laws.{AreLoopFree}
+use Rattle.sci_vcd.specs.Writing.{Writing, IsOutset}
 use Rattle.scicos.specs.Words.{Request}
 use Rattle.scicos.specs.Due.{course_of}
 use Rattle.scicos.specs.Counts.{CountsRun}
@@ -22,8 +31,9 @@ use Rattle.scicos.specs.Judged.{told_text, HasRows}
 use Rattle.scicos.specs.declared.look.LookStop.{LookStop}
 use Rattle.scicos.specs.declared.look.LookStop.TheVariants as stops
 use Rattle.scicos.specs.declared.prepare.Prepared.{Prepared}
+use Rattle.scicos.specs.declared.prepare.ResumedRun.{ResumedRun}
 use Rattle.scicos.specs.declared.prepare.Simulation.{Simulation}
-use Rattle.scicos.specs.declared.prepare.Prepared.TheVariants.{Usage, Refused, ReadFault, Memory, Print, Report as Tell, Simulate, Code, RunC, Bulk}
+use Rattle.scicos.specs.declared.prepare.Prepared.TheVariants.{Usage, Refused, ReadFault, Memory, Print, Report as Tell, Simulate, Judge, Save, Resume, Code, RunC, Bulk, Dump, DumpAt}
 
 -- what it writes
 abbrev pub IsAnswerOf : Prepared → Answer → Type 0
@@ -37,6 +47,11 @@ IsAnswerOf (RunC program columns until limit) a = a ≡ c_ran (meaning (whole_of
 IsAnswerOf (Code program) a = a ≡ prints (spelling (whole_of program))
 IsAnswerOf (Bulk counts) a = a ≡ prints (counted_line counts)
 IsAnswerOf (Simulate s) a = IsTraceOf s.ready.fixed.net s.inputs s.until s.limit a
+IsAnswerOf (Judge v) a = a ≡ judged v
+IsAnswerOf (Save s) a = a ≡ prints (saved_text s.ready.fixed.net (saved_of s.image))
+IsAnswerOf (Resume s) a = IsRestOf s.run.ready.fixed.net s.run.inputs s.run.until s.run.limit (saved_of s.image) a
+IsAnswerOf (Dump s out) a = IsDumpAnswer s.ready.fixed.net s.inputs s.until s.limit a
+IsAnswerOf (DumpAt dump tick) a = a ≡ prints (values_text dump tick)
 
 -- a net and its banks stand before the run, on columns in range and within the bounds; and the run has a trace
 pub record IsReadyToRun (banks : List Meaning) (s : Simulation) : Type 0 where
@@ -47,8 +62,23 @@ pub record IsReadyToRun (banks : List Meaning) (s : Simulation) : Type 0 where
   pub limit : s.limit ≤ 1000000
   pub trace : (os : List Obs) × IsRun s.ready.fixed.net s.inputs s.until s.limit os
 
+-- so does a net of which no source has a loop, and nothing of its dump is written
+pub record IsReadyToDump (banks : List Meaning) (s : Simulation) (out : Writing) : Type 0 where
+  pub run : IsReadyToRun banks s
+  pub free : AreLoopFree s.ready.fixed.net
+  pub outset : IsOutset s.ready.fixed.net out
+
+-- a net and its banks stand where a run was saved, on columns in range and within the bounds; and the rest of the run has a trace
+pub record IsReadyToGoOn (banks : List Meaning) (s : ResumedRun) : Type 0 where
+  pub at : IsAt s.run.ready banks (state_of (saved_of s.image))
+  pub started : s.run.ready.started ≡ true
+  pub columns : AreColumns s.run.ready.fixed.net s.run.inputs
+  pub until : s.run.until ≤ 2 ^ 62
+  pub limit : s.run.limit ≤ 1000000
+  pub rest : (os : List Obs) × IsRest s.run.ready.fixed.net s.run.inputs s.run.until s.run.limit (state_of (saved_of s.image)) os
+
 -- what it needs is there: a text isn't empty, schedules have a row for each source, a simulation can run with these banks, a program has a text,
--- bounds are kept
+-- what is saved is as its net asks, bounds are kept
 abbrev pub IsPrepared : List Meaning → Prepared → Type 0
 IsPrepared banks Usage = Unit {0}
 IsPrepared banks (Refused r) = Unit {0}
@@ -60,6 +90,11 @@ IsPrepared banks (RunC program columns until limit) = (until ≤ 2 ^ 62) × (lim
 IsPrepared banks (Code program) = IsWhole (whole_of program)
 IsPrepared banks (Bulk counts) = Unit {0}
 IsPrepared banks (Simulate s) = IsReadyToRun banks s
+IsPrepared banks (Judge v) = Unit {0}
+IsPrepared banks (Save s) = IsShaped s.ready.fixed.net (saved_of s.image)
+IsPrepared banks (Resume s) = IsReadyToGoOn banks s
+IsPrepared banks (Dump s out) = IsReadyToDump banks s out
+IsPrepared banks (DumpAt dump tick) = Unit {0}
 
 -- Behind it, where it was done: a simulation has counted its run; of any other command no run is left to do, and the banks are as they were.
 abbrev pub LeavesBanks : Prepared → (before after : List Meaning) → Type 0
@@ -73,6 +108,11 @@ LeavesBanks (RunC program columns until limit) before after = after ≡ before
 LeavesBanks (Code program) before after = after ≡ before
 LeavesBanks (Bulk counts) before after = after ≡ before
 LeavesBanks (Simulate s) before after = CountsRun s.ready.fixed.net s.inputs s.until s.limit after
+LeavesBanks (Judge v) before after = after ≡ before
+LeavesBanks (Save s) before after = after ≡ before
+LeavesBanks (Resume s) before after = Unit {0}
+LeavesBanks (Dump s out) before after = CountsRun s.ready.fixed.net s.inputs s.until s.limit after
+LeavesBanks (DumpAt dump tick) before after = after ≡ before
 
 -- memory may lack when it begins, before it writes anything
 abbrev pub MayLack : Prepared → Type 0
@@ -83,9 +123,14 @@ MayLack Memory = ⊥
 MayLack (Print text) = ⊥
 MayLack (Tell t) = ⊥
 MayLack (Simulate s) = ⊥
+MayLack (Judge v) = ⊥
+MayLack (Save s) = ⊥
+MayLack (Resume s) = ⊥
 MayLack (Code program) = ⊥
 MayLack (Bulk counts) = ⊥
 MayLack (RunC program columns until limit) = Unit {0}
+MayLack (Dump s out) = ⊥
+MayLack (DumpAt dump tick) = ⊥
 
 -- a file that gives nothing
 abbrev pub stop_answer : LookStop → Answer

@@ -11,31 +11,44 @@ ghost use Rattle.scicos.specs.declared.told.Told.TheVariants.{Check};
 ghost use Rattle.scicos.specs.Answer.{IsDone, prints, write_fault_line, usage_line, read_fault_line, no_memory_line, undefined_line};
 ghost use Rattle.scicos.specs.Bulk.{counted_line};
 ghost use Rattle.scicos.specs.Counts.{CountsRun};
+ghost use Rattle.scicos.specs.Dump.{values_text};
+ghost use Rattle.scicos.specs.Judge.{judged};
+ghost use Rattle.sci_save.specs.Saved.{saved_of};
+ghost use Rattle.sci_save.specs.Text.{saved_text};
+ghost use Rattle.sci_save.specs.Valid.{IsShaped};
 ghost use Rattle.scicos.specs.Judged.{told_text, HasRows};
 ghost use Rattle.scicos.specs.Written.{Written};
 ghost use Rattle.scicos.specs.Deliver.{Gives, Said, PrintsTrace, Finished, RunsOut, RanC, FinishedC, Delivers};
 ghost use Rattle.scicos.specs.Prepare.{IsReadyToRun, IsPrepared, LeavesBanks};
 
 use crate::bulk::BulkCounts;
+use crate::judged::{give_verdict, status_of};
 use crate::net_map::write_map;
 use crate::prepare::{Prepared, Simulation};
 use crate::probe::silent_end;
 use crate::report::put_refused;
+use crate::rest::print_rest;
+use crate::run_dump::print_dump;
+use crate::saved::{SavedRun, give_saved};
 use crate::told::Told;
+use crate::values::write_values;
 use c_ast::Program;
 use c_mean::{CEnd, RunStop, run};
 use itoa::Buffer;
+use sci_agree::Verdict;
 use sci_bank::library::{Banks, Library};
 use sci_base::{NoMemory, Refusal};
 use sci_io::{Failed, Sink, put_all};
 use sci_sched::write_plan;
 use sci_sim::RunEnd;
 use sci_trace::inputs::Inputs;
+use sci_vcd::{Dump, VcdOut};
 use sci_verdict::Measured;
+use sci_wave::dump_run;
 use std::alloc::Global;
 
 const USAGE: &str =
-    "usage: scicos check D | map D | schedule D | simulate D I T N | ccode D | crun C I T N | host | bulk SEED SIZE\n";
+    "usage: scicos check D | map D | schedule D | simulate D I T N | ccode D | crun C I T N | host | bulk SEED SIZE | judge D I V T N | save D I T N K | resume D I S T N | vcd D I T N | vcdat V K\n";
 
 fn give<S: Sink>(text: &str, out: &mut S) -> Result<(), Failed>
     requires { 0 < length text.now }
@@ -121,6 +134,29 @@ fn print_trace<O: Sink>(
     let end = ready.run(lib, &inputs, until, limit, out)?;
     out.flush()?;
     Ok(end)
+}
+
+// Prints the verdict on a trace, or tells the failure of out.
+#[tactic(auto, using(crate::proofs::Judging::verdict_written, crate::proofs::Judging::verdict_cut))]
+fn print_verdict<O: Sink, E: Sink>(verdict: Verdict, out: &mut O, err: &mut E) -> u8
+    ensures { Written (judged verdict) (O.state out.old) (O.state out.new) (E.state err.old) (E.state err.new) result }
+{
+    match give_verdict(verdict, out) {
+        Ok(()) => status_of(verdict),
+        Err(_) => say_write_fault(err),
+    }
+}
+
+// Prints what is saved of a run, or tells the failure of out.
+#[tactic(auto, using(crate::proofs::Saving::saved_some, crate::proofs::Giving::told_written, crate::proofs::Giving::told_cut))]
+fn print_saved<O: Sink, E: Sink>(saved: &SavedRun, out: &mut O, err: &mut E) -> u8
+    requires { IsShaped saved.now.ready.fixed.net (saved_of saved.now.image) }
+    ensures { Written (prints (saved_text saved.now.ready.fixed.net (saved_of saved.now.image))) (O.state out.old) (O.state out.new) (E.state err.old) (E.state err.new) result }
+{
+    match give_saved(saved, out) {
+        Ok(()) => 0,
+        Err(_) => say_write_fault(err),
+    }
 }
 
 // Prints a text, or tells the failure of out.
@@ -366,6 +402,27 @@ fn finish_run<E: Sink>(ran: Result<CEnd, RunStop>, err: &mut E) -> u8
     }
 }
 
+fn give_values<O: Sink>(dump: &Dump, tick: u64, out: &mut O) -> Result<(), Failed>
+    ensures { Gives (O.state out.old) (O.state out.new) (values_text dump.now tick) result }
+{
+    write_values(dump, tick, out)?;
+    out.flush()
+}
+
+// Prints the values of a dump at a tick, or tells the failure of out. A dump without signals has none.
+#[tactic(auto, using(crate::proofs::Dumped::no_values, crate::proofs::Dumped::some_values, crate::proofs::Giving::silent_written, crate::proofs::Giving::told_written, crate::proofs::Giving::told_cut))]
+fn print_values<O: Sink, E: Sink>(dump: &Dump, tick: u64, out: &mut O, err: &mut E) -> u8
+    ensures { Written (prints (values_text dump.now tick)) (O.state out.old) (O.state out.new) (E.state err.old) (E.state err.new) result }
+{
+    if dump.count() == 0 {
+        return 0;
+    }
+    match give_values(dump, tick, out) {
+        Ok(()) => 0,
+        Err(_) => say_write_fault(err),
+    }
+}
+
 /// Writes a prepared command, and gives its status.
 pub fn deliver<O: Sink, E: Sink>(
     alloc: Global,
@@ -390,9 +447,14 @@ pub fn deliver<O: Sink, E: Sink>(
         Prepared::Code(program) => print_code(&program, out, err),
         Prepared::Bulk(counts) => print_bulk(&counts, out, err),
         Prepared::Simulate(simulation) => finish(print_trace(simulation, lib, out), err),
+        Prepared::Judge(verdict) => print_verdict(verdict, out, err),
+        Prepared::Save(saved) => print_saved(&saved, out, err),
+        Prepared::Resume(resumed) => finish(print_rest(resumed, lib, out), err),
         Prepared::RunC(program, inputs, until, limit) => finish_run(
             print_run(alloc, &program, &inputs, until, limit, out),
             err,
         ),
+        Prepared::Dump(simulation, dump) => finish(print_dump(simulation, dump, lib, out), err),
+        Prepared::DumpAt(dump, tick) => print_values(&dump, tick, out, err),
     }
 }

@@ -1,6 +1,8 @@
 ghost use Rattle.scicos.specs.Laws.{OneAnswer, OneAnswerOfBytes};
 ghost use Rattle.scicos.specs.BulkRuns.{BulkEndsByEvents};
 ghost use Rattle.scicos.specs.Ran.{CodeIsDefined, CodeRunsAlike, CodeRunsOnlySo};
+ghost use Rattle.scicos.specs.DumpRuns.{DumpTellsRun};
+ghost use Rattle.scicos.specs.Resumed.{ResumeIsDue, ResumesAlike};
 
 /// Of the words and the files' bytes at most one answer is due, with one list of names that are read for it, and the files tell their bytes;
 /// but that any loop of the least source that has one may be told.
@@ -17,6 +19,14 @@ pub fn code_runs_alike()
     ensures only { CodeRunsOnlySo }
 {}
 
+/// Where `simulate` on a diagram and an input file is due to run, and `save` is due to save this run behind a reaction, in no more bytes than a file of
+/// what was saved may have, `resume` on these bytes, with the same diagram, input file and bounds, is due to go on: the lines of the reactions up to
+/// that one, and then what is due of `resume`, are what is due of `simulate`, with the same status.
+pub fn saved_runs_go_on()
+    ensures alike { ResumesAlike }
+    ensures due { ResumeIsDue }
+{}
+
 /// The run of which `bulk` tells ends by the bound on events.
 pub fn bulk_ends_by_events()
     ensures { BulkEndsByEvents }
@@ -26,4 +36,10 @@ pub fn bulk_ends_by_events()
 /// or 6, and never 7.
 pub fn code_is_defined()
     ensures { CodeIsDefined }
+{}
+
+/// Where `vcd` on a diagram and an input file is due to run, and the bytes that are due are no more than a dump's file may have, `vcdat` on these
+/// bytes is due to tell, at any tick, what the outputs hold behind the last reaction up to it, and nothing else.
+pub fn dump_tells_run()
+    ensures { DumpTellsRun }
 {}

@@ -1,11 +1,16 @@
 // One file of a command: its bytes, its limit and its rules.
-ghost use Rattle.std.specs.Prelude.{◌≡◌, ◌≤◌};
-ghost use Rattle.scicos.specs.Look.{IsFile, IsLooked, IsTooLong};
+ghost use Rattle.std.specs.Prelude.{◌≡◌, ◌≤◌, []};
+ghost use Rattle.scicos.specs.Course.{third_slot};
+ghost use Rattle.scicos.specs.Judge.{IsBytes, BreaksNothing};
+ghost use Rattle.scicos.specs.Look.{IsFile, IsLooked, IsRefusal, IsTooLong};
 
 use crate::rules::Rules;
 use sci_base::{NoMemory, Refusal, Rule, Stop};
 use sci_io::{Folder, ReadEnd};
 use std::alloc::Global;
+
+/// The limit of a file that is judged, in bytes.
+const LONGEST_TEXT: usize = 67_108_864;
 
 /// Why a file's bytes don't come.
 #[derive(Clone, Copy, Debug, PartialEq, Eq)]
@@ -64,19 +69,34 @@ fn file<F: Folder>(
     }
 }
 
+/// The refusal by a rule on a file as a whole, or on what is asked for, with these numbers.
+pub fn refused_by(alloc: Global, rule: Rule, detail: &[i64]) -> LookStop
+    ensures { IsRefusal (record { rule = rule; place = []; detail = detail.now }) result }
+{
+    match Stop::by(alloc, rule, &[], detail) {
+        Stop::Refused(refusal) => LookStop::Refused(refusal),
+        Stop::Memory => LookStop::Memory,
+    }
+}
+
 // The refusal of a file that is too long: which one of the command it is, and its limit.
 fn file_too_long(alloc: Global, which: u32, limit: usize) -> LookStop
     requires { limit ≤ 67108864 }
     ensures { IsTooLong (record { which = which; longest = limit }) result }
 {
-    match Stop::by(
-        alloc,
-        Rule::FileTooLong,
-        &[],
-        &[i64::from(which), limit as i64],
-    ) {
-        Stop::Refused(refusal) => LookStop::Refused(refusal),
-        Stop::Memory => LookStop::Memory,
+    refused_by(alloc, Rule::FileTooLong, &[i64::from(which), limit as i64])
+}
+
+/// The bytes of the file of this name, which is a third one and may be any text.
+pub fn look_text<F: Folder>(alloc: Global, folder: &mut F, name: &str) -> Result<Vec<u8>, LookStop>
+    ensures looked { IsLooked IsBytes BreaksNothing third_slot (F.state folder.old) (F.state folder.new) name.now result }
+    ensures kept { (F.state folder.new).files ≡ (F.state folder.old).files }
+{
+    match file(alloc, folder, name, LONGEST_TEXT) {
+        Ok(bytes) => Ok(bytes),
+        Err(FileStop::TooLong) => Err(file_too_long(alloc, 3, LONGEST_TEXT)),
+        Err(FileStop::Failed) => Err(LookStop::Fault),
+        Err(FileStop::Memory) => Err(LookStop::Memory),
     }
 }
 

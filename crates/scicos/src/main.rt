@@ -6,18 +6,25 @@ ghost use Rattle.scicos.specs.Banks.{AreAllBanks};
 mod bulk;
 mod command;
 mod deliver;
+mod dump;
 mod host;
+mod judged;
 mod laws;
 mod look;
 mod net_map;
 mod prepare;
 mod probe;
 mod report;
+mod rest;
 mod rules;
+mod run_dump;
+mod run_files;
+mod saved;
 #[cfg(test)]
 mod tests;
 mod told;
 mod top;
+mod values;
 mod words;
 
 use sci_bank::library::{Banks, Library};

@@ -1,6 +1,6 @@
 // The rules of each kind of file.
-ghost use Rattle.std.specs.Prelude.{◌≤◌, ◌<◌, ◌^◌, length};
-ghost use Rattle.scicos.specs.Program.{BreaksC, not_c};
+ghost use Rattle.std.specs.Prelude.{◌≤◌, ◌<◌, ◌^◌, pos, [], ◌∷◌, length};
+ghost use Rattle.scicos.specs.Program.{BreaksC};
 ghost use Rattle.sci_base.specs.Stops.{IsViolation};
 ghost use Rattle.scicos.specs.Judged.{IsJudged, AcceptsProgram};
 
@@ -95,12 +95,12 @@ impl Rules for PlanRules {
     ghost within = { Prim.search rules };
 }
 
-// The refusal of a C file, of which this byte is blamed.
-fn blame(alloc: Global, byte: usize) -> Stop
-    requires { byte < 2 ^ 63 }
-    ensures { IsViolation (not_c byte) result }
+/// The refusal of a file by this rule, which blames a byte or a line of it.
+pub fn blame(alloc: Global, rule: Rule, at: usize) -> Stop
+    requires { at < 2 ^ 63 }
+    ensures { IsViolation (record { rule = rule; place = []; detail = pos at ∷ [] }) result }
 {
-    Stop::by(alloc, Rule::NotC, &[], &[byte as i64])
+    Stop::by(alloc, rule, &[], &[at as i64])
 }
 
 // The program that a C file's bytes spell.
@@ -110,7 +110,7 @@ fn program_of(alloc: Global, bytes: &[u8]) -> Result<Program, Stop>
 {
     match parse(alloc, bytes) {
         Ok(program) => Ok(program),
-        Err(ParseStop::NotC(byte)) => Err(blame(alloc, byte)),
+        Err(ParseStop::NotC(byte)) => Err(blame(alloc, Rule::NotC, byte)),
         Err(ParseStop::Memory) => Err(Stop::Memory),
     }
 }

@@ -8,6 +8,7 @@ use std::alloc::Global;
 use std::test::Fail;
 
 mod each_fault;
+mod run_dumps;
 
 // A clock of period 3 that fires first at 2.
 const CLOCK: &str =
@@ -77,6 +78,7 @@ fn run_with(
     line: &str,
     diagram: &str,
     inputs: &str,
+    third: &str,
     faults: Faults,
 ) -> Result<Call, Fail>
     requires { AreAllBanks (⟦<Library as Banks>⟧.banks lib.old) }
@@ -93,6 +95,10 @@ fn run_with(
     files.push((
         String::from_str(alloc, "i")?,
         inputs.as_bytes().to_vec(alloc)?,
+    ))?;
+    files.push((
+        String::from_str(alloc, "s")?,
+        third.as_bytes().to_vec(alloc)?,
     ))?;
     let mut folder = MemFolder::new(alloc, files, Vec::from_array(alloc, [faults.read])?);
     let mut out = stream(alloc, faults.out, faults.room, faults.held)?;
@@ -114,12 +120,23 @@ fn run_line(
     inputs: &str,
     faults: Faults,
 ) -> Result<Call, Fail> {
+    run_on_three(alloc, line, diagram, inputs, "", faults)
+}
+
+fn run_on_three(
+    alloc: Global,
+    line: &str,
+    diagram: &str,
+    inputs: &str,
+    third: &str,
+    faults: Faults,
+) -> Result<Call, Fail> {
     let mut lib = Library::new(alloc);
     while let Some(kind) = lib.next_kind() {
         let bank = Box::new(alloc, AnyBank::of_kind(alloc, kind))?;
         put_fresh(&mut lib, kind, bank)?;
     }
-    run_with(alloc, &mut lib, line, diagram, inputs, faults)
+    run_with(alloc, &mut lib, line, diagram, inputs, third, faults)
 }
 
 #[test]

@@ -10,8 +10,8 @@ use std::alloc::Global;
 
 /// Does what the words ask for, and gives the status: 0 where it was done, 1 where a rule is broken, 2 where the words are
 /// no command, 3 where a file could not be read, 4 where out or err could not be written, 5 where memory lacked, 6 where
-/// the run stopped, 7 where a C program has no meaning. A simulation, and the run of a bulk diagram, go over the banks of the library, which
-/// are the banks of all kinds behind the call too, and have counted the blocks that were active.
+/// the run stopped, 7 where a C program has no meaning, 8 where a file is not the trace. Runs go over the banks of the library, which are the
+/// banks of all kinds behind the call too; those of `simulate`, `vcd` and `bulk` have counted the blocks that were active.
 pub fn top<F: Folder, O: Sink, E: Sink>(
     alloc: Global,
     words: &[String],

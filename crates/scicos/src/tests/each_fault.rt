@@ -1,29 +1,37 @@
 // Faults of the folder and of the two streams, one after another. What is due comes whole, or a front of it with the status of
 // the fault; its texts are worked out by hand, or were printed by a program of another make.
-use super::{Call, DIVISION, Faults, NONE, run_line};
+use super::{Call, DIVISION, Faults, NONE, run_line, run_on_three};
 use crate::host::host;
 use std::alloc::Global;
 use std::process::Abort;
 use std::str::from_utf8;
 use std::test::Fail;
 
-/// A command line, the bytes of the files d and i, how many of them are read, and what is due.
+/// A command line, the bytes of the files d, i and s, how many of them are read, and what is due.
 #[derive(Clone, Copy)]
-struct Case<'a> {
-    line: &'a str,
-    diagram: &'a str,
-    inputs: &'a str,
-    files: usize,
-    status: u8,
-    out: &'a str,
-    err: &'a str,
+pub struct Case<'a> {
+    pub line: &'a str,
+    pub diagram: &'a str,
+    pub inputs: &'a str,
+    pub third: &'a str,
+    pub files: usize,
+    pub status: u8,
+    pub out: &'a str,
+    pub err: &'a str,
 }
 
 fn run(alloc: Global, case: &Case<'_>, faults: Faults) -> Result<Call, Fail> {
-    run_line(alloc, case.line, case.diagram, case.inputs, faults)
+    run_on_three(
+        alloc,
+        case.line,
+        case.diagram,
+        case.inputs,
+        case.third,
+        faults,
+    )
 }
 
-// The names asked are the first so many of the files d and i.
+// The names asked are the first so many of the files d, i and s.
 fn check_asked(rt: &impl Abort, call: &Call, files: usize) {
     let asked = call.asked();
     assert_eq!(rt; asked.len(), files);
@@ -32,6 +40,9 @@ fn check_asked(rt: &impl Abort, call: &Call, files: usize) {
     }
     if 1 < files {
         assert!(rt; asked[1].as_str() == "i");
+    }
+    if 2 < files {
+        assert!(rt; asked[2].as_str() == "s");
     }
 }
 
@@ -53,9 +64,9 @@ fn check_cut(rt: &impl Abort, call: &Call, case: &Case<'_>, told: &str) {
     check_asked(rt, call, case.files);
 }
 
-// The first read fails, the second, the third.
+// The first read fails, the second, the third, the fourth.
 fn fail_reads(rt: &impl Abort, alloc: Global, case: &Case<'_>) -> Result<(), Fail> {
-    for read in 1..4usize {
+    for read in 1..5usize {
         let call = run(
             alloc,
             case,
@@ -130,7 +141,7 @@ fn fail_rooms(rt: &impl Abort, alloc: Global, case: &Case<'_>, held: usize) -> R
     Ok(())
 }
 
-fn fail_each(rt: &impl Abort, alloc: Global, case: &Case<'_>) -> Result<(), Fail> {
+pub fn fail_each(rt: &impl Abort, alloc: Global, case: &Case<'_>) -> Result<(), Fail> {
     fail_reads(rt, alloc, case)?;
     fail_puts(rt, alloc, case, 0, "write fault\n")?;
     if case.err.is_empty() {
@@ -287,6 +298,7 @@ fn faults_while_a_diagram_is_told_or_run(rt: HostRuntime) -> Result<(), Fail> {
             line,
             diagram: METER,
             inputs: READINGS,
+            third: "",
             files,
             status: 0,
             out,
@@ -298,6 +310,7 @@ fn faults_while_a_diagram_is_told_or_run(rt: HostRuntime) -> Result<(), Fail> {
         line: "check d",
         diagram: ON_ITSELF,
         inputs: "",
+        third: "",
         files: 1,
         status: 1,
         out: "",
@@ -318,6 +331,7 @@ fn faults_while_c_is_written_or_run(rt: HostRuntime) -> Result<(), Fail> {
         line: "crun d i 30 100",
         diagram: text,
         inputs: READINGS,
+        third: "",
         files: 2,
         status: 0,
         out: METER_TRACE,
@@ -328,6 +342,7 @@ fn faults_while_c_is_written_or_run(rt: HostRuntime) -> Result<(), Fail> {
         line: "ccode d",
         diagram: METER,
         inputs: "",
+        third: "",
         files: 1,
         status: 0,
         out: text,
@@ -336,6 +351,9 @@ fn faults_while_c_is_written_or_run(rt: HostRuntime) -> Result<(), Fail> {
     fail_each(&rt, alloc, &written)
 }
 
+const USAGE: &str =
+    "usage: scicos check D | map D | schedule D | simulate D I T N | ccode D | crun C I T N | host | bulk SEED SIZE | judge D I V T N | save D I T N K | resume D I S T N | vcd D I T N | vcdat V K\n";
+
 #[test]
 fn faults_of_other_commands(rt: HostRuntime) -> Result<(), Fail> {
     let alloc = rt.alloc();
@@ -343,19 +361,267 @@ fn faults_of_other_commands(rt: HostRuntime) -> Result<(), Fail> {
         ("host", 0, 0, host(), ""),
         ("bulk 5 2", 0, 0, "bulk 10 9 10 0 1126 123\n", ""),
         ("crun d i 8 10", 2, 7, "start\n", "undefined at 2\n"),
-        (
-            "bulk 5 0",
-            0,
-            2,
-            "",
-            "usage: scicos check D | map D | schedule D | simulate D I T N | ccode D | crun C I T N | host | bulk SEED SIZE\n",
-        ),
+        ("bulk 5 0", 0, 2, "", USAGE),
+        ("vcdat d 07", 0, 2, "", USAGE),
+        ("vcdat d 4611686018427387905", 0, 2, "", USAGE),
     ] {
         let case = Case {
             line,
             diagram: DIVISION,
             inputs: "[]",
+            third: "",
             files,
+            status,
+            out,
+            err,
+        };
+        fail_each(&rt, alloc, &case)?;
+    }
+    Ok(())
+}
+
+// The dump of a counter's run: it holds a 1, and adds it to what it delays, at ticks 0, 5 and 10.
+pub const COUNTER_DUMP: &str = "$timescale 1 ns $end
+$scope module scicos $end
+$var integer 32 v1 b2_1_1 $end
+$var integer 32 v2 b3_1_1 $end
+$var integer 32 v3 b4_1_1 $end
+$upscope $end
+$enddefinitions $end
+#0
+$dumpvars
+b00000000000000000000000000000001 v1
+b00000000000000000000000000000001 v2
+b00000000000000000000000000000000 v3
+$end
+#5
+b00000000000000000000000000000010 v2
+b00000000000000000000000000000001 v3
+#10
+b00000000000000000000000000000011 v2
+b00000000000000000000000000000010 v3
+";
+
+pub const EMPTY_DUMP: &str = "$timescale 1 ns $end
+$scope module scicos $end
+$upscope $end
+$enddefinitions $end
+#0
+$dumpvars
+$end
+";
+
+// Two bytes of which one is signed; a line for the first values is missing.
+const SHORT_DUMP: &str = "$timescale 1 ns $end
+$scope module scicos $end
+$var integer 8 v1 b1_1_1 $end
+$var wire 8 v2 b1_1_2 $end
+$upscope $end
+$enddefinitions $end
+#0
+b11111111 v1
+b11111111 v2
+$end
+";
+
+const BYTES_DUMP: &str = "$timescale 1 ns $end
+$scope module scicos $end
+$var integer 8 v1 b1_1_1 $end
+$var wire 8 v2 b1_1_2 $end
+$upscope $end
+$enddefinitions $end
+#0
+$dumpvars
+b11111111 v1
+b11111111 v2
+$end
+";
+
+#[test]
+fn faults_while_a_dump_is_told(rt: HostRuntime) -> Result<(), Fail> {
+    let alloc = rt.alloc();
+    for (line, diagram, status, out, err) in [
+        (
+            "vcdat d 7",
+            COUNTER_DUMP,
+            0,
+            "b2_1_1 1\nb3_1_1 2\nb4_1_1 1\n",
+            "",
+        ),
+        (
+            "vcdat d 4611686018427387904",
+            BYTES_DUMP,
+            0,
+            "b1_1_1 -1\nb1_1_2 255\n",
+            "",
+        ),
+        ("vcdat d 0", EMPTY_DUMP, 0, "", ""),
+        ("vcdat d 0", SHORT_DUMP, 1, "", "refused 37 NotVcd at - 8\n"),
+    ] {
+        let case = Case {
+            line,
+            diagram,
+            inputs: "",
+            third: "",
+            files: 1,
+            status,
+            out,
+            err,
+        };
+        fail_each(&rt, alloc, &case)?;
+    }
+    Ok(())
+}
+
+// A counter: it holds a 1, and adds it to what it delays, at ticks 0, 5 and 10.
+pub const COUNTER: &str = r#"{"objs":[
+{"obj":"Block","gui":"EVTDLY_c","model":{"evtin":1,"evtout":1,"ipar":5,"firing":0}},
+{"obj":"Block","gui":"CONST_m","model":{"out":1,"outtyp":3,"ipar":1}},
+{"obj":"Block","gui":"SUMMATION","model":{"in":[1,1],"intyp":[3,3],"out":1,"outtyp":3,"ipar":[0,1,1]}},
+{"obj":"Block","gui":"DOLLAR_m","model":{"in":1,"intyp":3,"out":1,"outtyp":3,"evtin":1,"dstate":0}},
+{"obj":"Link","from":[1,1],"to":[1,1],"ct":[5,-1]},
+{"obj":"Link","from":[1,1],"to":[4,1],"ct":[5,-1]},
+{"obj":"Link","from":[2,1],"to":[3,1],"ct":[1,1]},
+{"obj":"Link","from":[4,1],"to":[3,2],"ct":[1,1]},
+{"obj":"Link","from":[3,1],"to":[4,1],"ct":[1,1]}]}"#;
+
+const COUNTER_TRACE: &str = "start
+val 2 1 1 1
+val 3 1 1 1
+event 0 1 1
+val 3 1 1 1
+val 4 1 1 0
+event 5 1 1
+val 3 1 1 2
+val 4 1 1 1
+event 10 1 1
+val 3 1 1 3
+val 4 1 1 2
+end events
+";
+
+// Its trace with another value at tick 5.
+const WRONG_TRACE: &str = "start
+val 2 1 1 1
+val 3 1 1 1
+event 0 1 1
+val 3 1 1 1
+val 4 1 1 0
+event 5 1 1
+val 3 1 1 3
+val 4 1 1 1
+event 10 1 1
+val 3 1 1 3
+val 4 1 1 2
+end events
+";
+
+// What is saved of it behind its second reaction, at tick 0.
+const COUNTER_SAVED: &str = "save 1
+at 1 0
+state 4 1
+held 2 1
+held 3 1
+held 4 0
+pend 5 1 1
+done
+";
+
+// The same with an activation output that isn't there.
+const WRONG_SAVED: &str = "save 1
+at 1 0
+state 4 1
+held 2 1
+held 3 1
+held 4 0
+pend 5 2 1
+done
+";
+
+const COUNTER_REST: &str = "event 5 1 1
+val 3 1 1 2
+val 4 1 1 1
+event 10 1 1
+val 3 1 1 3
+val 4 1 1 2
+end events
+";
+
+#[test]
+fn faults_while_a_trace_is_judged(rt: HostRuntime) -> Result<(), Fail> {
+    let alloc = rt.alloc();
+    for (third, status, out) in [
+        (COUNTER_TRACE, 0, "yes 13\n"),
+        (WRONG_TRACE, 8, "no 8\n"),
+        ("start\n", 8, "no 2\n"),
+        ("", 8, "no 1\n"),
+    ] {
+        let case = Case {
+            line: "judge d i s 100 3",
+            diagram: COUNTER,
+            inputs: "[]",
+            third,
+            files: 3,
+            status,
+            out,
+            err: "",
+        };
+        fail_each(&rt, alloc, &case)?;
+    }
+    Ok(())
+}
+
+#[test]
+fn faults_while_a_run_is_saved(rt: HostRuntime) -> Result<(), Fail> {
+    let alloc = rt.alloc();
+    for (line, files, status, out, err) in [
+        ("save d i 100 3 2", 2, 0, COUNTER_SAVED, ""),
+        (
+            "save d i 100 3 4",
+            2,
+            1,
+            "",
+            "refused 35 RunEnded at - 4 4\n",
+        ),
+        ("save d i 100 3 0", 0, 2, "", USAGE),
+        ("save d i 100 3 1000002", 0, 2, "", USAGE),
+    ] {
+        let case = Case {
+            line,
+            diagram: COUNTER,
+            inputs: "[]",
+            third: "",
+            files,
+            status,
+            out,
+            err,
+        };
+        fail_each(&rt, alloc, &case)?;
+    }
+    Ok(())
+}
+
+#[test]
+fn faults_while_a_run_goes_on(rt: HostRuntime) -> Result<(), Fail> {
+    let alloc = rt.alloc();
+    for (line, third, status, out, err) in [
+        ("resume d i s 100 3", COUNTER_SAVED, 0, COUNTER_REST, ""),
+        ("resume d i s 100 1", COUNTER_SAVED, 0, "end events\n", ""),
+        ("resume d i s 4 3", COUNTER_SAVED, 0, "end until\n", ""),
+        (
+            "resume d i s 100 3",
+            WRONG_SAVED,
+            1,
+            "",
+            "refused 36 NotSave at - 7\n",
+        ),
+    ] {
+        let case = Case {
+            line,
+            diagram: COUNTER,
+            inputs: "[]",
+            third,
+            files: 3,
             status,
             out,
             err,

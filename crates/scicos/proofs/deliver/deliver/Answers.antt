@@ -1,8 +1,9 @@
 use Rattle.std.proofs.Common.{refl, inl}
 use Rattle.sci_base.specs.Plain.{violation_of}
 use Rattle.scicos.specs.Answer.{usage, refused, read_fault, no_memory}
-use Rattle.scicos.proofs.Giving.{said_written, trace_written, c_written}
+use Rattle.scicos.proofs.Giving.{said_written, trace_written, dump_written, c_written}
 use Rattle.scicos.proofs.Counting.{done_counts}
+use Rattle.scicos.proofs.Saving.{rest_written}
 use Rattle.scicos.proofs.deliver.deliver.Goals as goal
 
 pub returns-in-Usage-clause-delivered : goal.returns-in-Usage-clause-delivered
@@ -54,3 +55,18 @@ returns-in-Bulk-clause-left g c = λ _. rw c.in-Bulk.is refl
 
 pub returns-in-RunC-clause-left : goal.returns-in-RunC-clause-left
 returns-in-RunC-clause-left g c = λ _. rw c.in-RunC.is refl
+
+pub returns-in-DumpAt-clause-left : goal.returns-in-DumpAt-clause-left
+returns-in-DumpAt-clause-left g c = λ _. rw c.in-DumpAt.is refl
+
+pub returns-in-Dump-clause-delivered : goal.returns-in-Dump-clause-delivered
+returns-in-Dump-clause-delivered g c =
+    rw c.in-Dump.is (inl (dump_written c.in-Dump.simulation _ _ _ _ _ c.print_dump.result c.print_dump.ensures.printed c.finish-in-Dump.ensures))
+
+pub returns-in-Dump-clause-left : goal.returns-in-Dump-clause-left
+returns-in-Dump-clause-left g c =
+    rw c.in-Dump.is (done_counts c.in-Dump.simulation _ _ _ _ c.print_dump.result c.finish-in-Dump.ensures c.print_dump.ensures.counts_run)
+
+pub returns-in-Resume-clause-delivered : goal.returns-in-Resume-clause-delivered
+returns-in-Resume-clause-delivered g c =
+    rw c.in-Resume.is (inl (rest_written c.in-Resume.resumed _ _ _ _ _ c.print_rest.result c.print_rest.ensures.printed c.finish-in-Resume.ensures))

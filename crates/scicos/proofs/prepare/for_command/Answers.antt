@@ -11,3 +11,6 @@ returns-in-Bulk-clause-looks g c = rw c.in-Bulk.is (c.for_bulk.ensures.looks _)
 
 pub returns-in-RunC-clause-looks : goal.returns-in-RunC-clause-looks
 returns-in-RunC-clause-looks g c = rw c.in-RunC.is (c.for_run_c.ensures.looks _)
+
+pub returns-in-DumpAt-clause-looks : goal.returns-in-DumpAt-clause-looks
+returns-in-DumpAt-clause-looks g c = rw c.in-DumpAt.is (c.for_dump_at.ensures.looks _)
