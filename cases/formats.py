@@ -151,7 +151,7 @@ def wrong_refusals(program, page):
     wrong = []
     for words, body in parts(page):
         if words[0] == 'refused':
-            for diagram, line in re.findall(r'(^\{"objs".*?\}\]\})\n(\d+ [^\n]*)$', body, re.M | re.S):
+            for diagram, line in re.findall(r'(^\{"objs".*?\}\]\})\nrefused (\d+ [^\n]*)$', body, re.M | re.S):
                 run = answer(program, ['check', 'd'], diagram)
                 if run != ('', 'refused %s\n' % line, 1):
                     wrong.append('%r in place of %r' % (run, line))
@@ -195,12 +195,12 @@ def kinds_shown(page):
 
 
 def rules_shown(page):
-    """Each rule that some command gives has a row, which says when it is broken and what to do."""
+    """Each rule that some command gives has a row, which says when it is broken, at which place, and what to do."""
     rows = [[cell.strip() for cell in line.split('|')[1:-1]] for line in page.splitlines() if re.match(r'\| \d+ [A-Z]\w+', line)]
     with open(os.path.join(HERE, '..', 'crates', 'sci_base', 'src', 'refusal.rt')) as file:
         rules = {(number, name) for name, number in re.findall(r'Rule::(\w+) => (\d+),', file.read()) if int(number) not in UNGIVEN}
     missing = sorted(rules - {rule for row in rows for rule in re.findall(r'(\d+) ([A-Z]\w+)', row[0])})
-    return ['no row of %s %s' % rule for rule in missing] + ['the row of %s says too little' % row[0] for row in rows if not (row[1] and row[3])]
+    return ['no row of %s %s' % rule for rule in missing] + ['the row of %s says too little' % row[0] for row in rows if not (row[1] and row[2] and row[-1])]
 
 
 def formats(program):
