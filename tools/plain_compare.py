@@ -1,12 +1,26 @@
 """Commands that look at a run, beside what the slow programs in plain Python say of it.
 
 `ask` answers a command line in a folder with the diagram `d` and the input file `i`, or has None where no answer came in time; `put` writes a file
-there. Each function tells what differs.
+there. Each function tells what differs. `CHANGED` counts the changed traces, images and dumps.
 """
+import collections
+
 import plain_judge
 import plain_save
 import plain_vcd
 import text_changes
+
+CHANGED = collections.Counter()
+
+
+def changed(draw, what, content):
+    """A text with a change by chance, which is counted."""
+    CHANGED[what] += 1
+    return text_changes.drawn_change(draw, content)
+
+
+def counts():
+    return ', '.join('%d changed %s' % (CHANGED[what], what) for what in ('traces', 'images', 'dumps'))
 
 
 def differing(ask, words, due, what=''):
@@ -17,7 +31,7 @@ def differing(ask, words, due, what=''):
 def judged(ask, put, draw, bounds, traces, count):
     """Verdicts on the run's trace, which comes first, on what others made of it, and on so many changed ones."""
     wrong = []
-    for content in traces + [text_changes.drawn_change(draw, traces[0]) for _ in range(count)]:
+    for content in traces + [changed(draw, 'traces', traces[0]) for _ in range(count)]:
         put('v', content)
         out, status = plain_judge.verdict(traces[0], content)
         wrong += differing(ask, ['judge', 'd', 'i', 'v'] + bounds, (out, b'', status))
@@ -50,9 +64,9 @@ def resumed(ask, put, draw, bounds, net, columns, due, reactions, count):
         put('s', saved[0])
         wrong += differing(ask, ['resume', 'd', 'i', 's'] + bounds, (b''.join(parts(due[0])[reaction:]), b'', due[2]), ' behind reaction %d' % reaction)
         for _ in range(count):
-            changed = text_changes.drawn_change(draw, saved[0])
-            put('s', changed)
-            wrong += differing(ask, ['resume', 'd', 'i', 's'] + bounds, encoded(plain_save.resumed(net, columns, changed, *limits)), ' of %r' % changed)
+            other = changed(draw, 'images', saved[0])
+            put('s', other)
+            wrong += differing(ask, ['resume', 'd', 'i', 's'] + bounds, encoded(plain_save.resumed(net, columns, other, *limits)), ' of %r' % other)
     return wrong
 
 
@@ -65,7 +79,7 @@ def dumped(ask, put, draw, bounds, net, columns, ticks, count):
     for tick in [min(draw.choice(near), 2**62) for _ in range(ticks)]:
         wrong += differing(ask, ['vcdat', 'w', str(tick)], (dump.told(tick).encode(), b'', 0))
     for _ in range(count):
-        changed, tick = text_changes.drawn_change(draw, dump.written().encode()), draw.choice(near)
-        put('w', changed)
-        wrong += differing(ask, ['vcdat', 'w', str(tick)], encoded(plain_vcd.told(changed, tick)), ' of %r' % changed)
+        other, tick = changed(draw, 'dumps', dump.written().encode()), draw.choice(near)
+        put('w', other)
+        wrong += differing(ask, ['vcdat', 'w', str(tick)], encoded(plain_vcd.told(other, tick)), ' of %r' % other)
     return wrong
