@@ -1,5 +1,7 @@
 """The first run: what `./scicos` does where the program is still to be proved and built, beside a stand-in for `rt` that takes its time and proves
 nothing. The stand-in notes what it begins and ends, so that order, going on, failure and Ctrl-C are seen."""
+import contextlib
+import io
 import os
 import re
 import shutil
@@ -8,6 +10,8 @@ import subprocess
 import sys
 import tempfile
 import time
+
+from plain import plain_run
 
 TOP = os.path.join(os.path.dirname(os.path.abspath(__file__)), '..')
 CRATES = '# crates\nlow: smallvec\nleft: low  # a comment\nright: low smallvec\naside: low\nscicos: left right itoa\n'
@@ -122,11 +126,34 @@ def wrong_order(lines):
     return wrong + ([] if {line.split()[0] for line in given[2:4]} == {'begin'} else ['one at a time: %r' % lines])
 
 
+def wrong_told(said):
+    """What is wrong with what is said from nothing: how many crates there are and what the README says of the time, and then how many are proved, each time
+    that it has changed, with the minutes gone."""
+    with open(os.path.join(TOP, 'README.md')) as file:
+        minutes = re.search(r'takes some\s+(\d+)\s+minutes on four processors', file.read()).group(1)
+    first, *others = said.splitlines() or ['']
+    found = [re.fullmatch(r'scicos: (\d) of 4 crates are proved, 0 minutes gone', line) for line in others]
+    counts = [int(line.group(1)) if line else None for line in found]
+    same = first == 'scicos: proving and building the program, 4 crates; from nothing this takes some %s minutes on four processors' % minutes
+    return [] if same and counts in ([0, 1, 2, 3], [0, 1, 3]) else ['it is said: %r' % said]
+
+
+def wrong_minutes():
+    """What is wrong with what is said as time goes on: a line where the crates or the minutes have changed, and no other."""
+    progress, heard = plain_run.script('prove').Progress(7), io.StringIO()
+    with contextlib.redirect_stderr(heard):
+        for minutes, proved in ((0, 0), (0.4, 0), (2.1, 0), (2.1, 3), (2.8, 3), (75.5, 6)):
+            progress.begun = time.time() - 60 * minutes
+            progress.tell(proved)
+    due = ''.join('scicos: %d of 7 crates are proved, %d minutes gone\n' % line for line in ((0, 0), (0, 2), (3, 2), (6, 75)))
+    return [] if heard.getvalue() == due else ['%r in place of %r' % (heard.getvalue(), due)]
+
+
 def wrong_build(top):
     """From nothing: the libraries, then the program, which is run on the words; and then it is run at once, until a source changes."""
     given, lines = answer(begin(top, 'two', 'words')), noted(top)
-    same = (given[0], given[2]) == ('ran two words\n', 0) and '4 crates' in given[1] and '3 of 4 crates are proved' in given[1] and not left_over(lines)
-    wrong = wrong_order(lines) + ([] if same else ['the first run: %r, %r' % (given, lines)])
+    same = (given[0], given[2]) == ('ran two words\n', 0) and not left_over(lines)
+    wrong = wrong_order(lines) + wrong_told(given[1]) + ([] if same else ['the first run: %r, %r' % (given, lines)])
     given, lines = answer(begin(top, 'again')), noted(top)
     wrong += [] if (given, lines) == (('ran again\n', '', 0), []) else ['the second run: %r, %r' % (given, lines)]
     given = answer(begin(top))
@@ -189,7 +216,7 @@ def wrong_machine(top):
 
 def first_run(program):
     """The script `scicos`, from nothing and beside each trouble; and the gate says what it takes."""
-    wrong = []
+    wrong = wrong_minutes()
     for case in (wrong_build, wrong_end, wrong_failure, wrong_machine):
         with tempfile.TemporaryDirectory() as top:
             furnish(top)
