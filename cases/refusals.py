@@ -37,8 +37,9 @@ def gain(ins=(1,), outs=(1,), types=3, factor=2):
     return block('GAINBLK', ins, outs, types=types, ipar=[0, factor])
 
 
-def nested(levels):
-    objs = []
+def nested(levels, objs=()):
+    """These objects below so many superblocks, so that they are in the level behind these."""
+    objs = list(objs)
     for _ in range(levels):
         objs = [superblock(objs)]
     return objs
@@ -73,7 +74,11 @@ REFUSALS = [
     ('no diagram inside', [block('SUPER_f', sim='super')], '2 MissingField at 1 15'),
     ('a size that is no whole number', [block('CONST_m', outs=[1.5])], '3 WrongField at 1 9'),
     ('a size past 2^31 - 1', [block('CONST_m', outs=[2147483648])], '3 WrongField at 1 9'),
-    ('seventeen levels', nested(17), '4 TooDeep at ' + '/'.join(['1'] * 16) + ' 16'),
+    ('seventeen levels, the last of them empty', nested(16), '4 TooDeep at ' + '/'.join(['1'] * 16) + ' 16'),
+    ('seventeen levels, a block in the last', nested(16, [CLOCK]), '4 TooDeep at ' + '/'.join(['1'] * 16) + ' 16'),
+    ('eighteen levels', nested(17), '4 TooDeep at ' + '/'.join(['1'] * 16) + ' 16'),
+    ('no objects in the seventeenth level', nested(15, [block('SUPER_f', sim='super', rpar={})]), '4 TooDeep at ' + '/'.join(['1'] * 16) + ' 16'),
+    ('seventeen levels behind another mistake', [TEXT, block('SCOPE')] + nested(16), '4 TooDeep at 3/' + '/'.join(['1'] * 15) + ' 16'),
     ('too many blocks', [CLOCK] * 2049, '5 TooManyBlocks at - 2049'),
     ('too many links', [CLOCK] + [event((1, 1), (1, 1))] * 16385, '6 TooManyLinks at - 16385'),
     ('an unknown block', [TEXT, block('SCOPE', ins=[1])], '7 UnknownBlock at 2'),
@@ -158,7 +163,8 @@ REFUSALS = [
 LIMITS = [
     ('2,048 blocks', [CLOCK] * 2048, 'ok 2048 2049 0 0\n'),
     ('16,384 links', [CLOCK] + [event((1, 1), (1, 1))] * 16384, 'ok 1 2 1 0\n'),
-    ('sixteen levels', nested(15), 'ok 0 1 0 0\n'),
+    ('sixteen levels, the last of them empty', nested(15), 'ok 0 1 0 0\n'),
+    ('sixteen levels, a block in the last', nested(15, [CLOCK]), 'ok 1 2 0 0\n'),
     ('outputs of 65,536 elements, each of 256', [constant(0, rows=256)] * 256, 'ok 256 1 256 0\n'),
     ('71,500 ports of splits', [block('SPLIT_f', [1], [1] * 64)] * 1100, 'ok 0 1 0 0\n'),
     ('20,000 ports of a superblock', [superblock([block('CLKINV_f', evtout=1, ipar=k + 1) for k in range(20000)], evtin=20000)], 'ok 0 1 0 0\n'),

@@ -355,17 +355,6 @@ def endless_files(program):
     return '; '.join(filter(None, wrong))
 
 
-def blank_files(program):
-    """Files of spaces alone, of the greatest length and one byte more."""
-    wrong = []
-    with tempfile.TemporaryDirectory() as work:
-        for size, due in ((16777216, b'refused 1 NotJson at -\n'), (16777217, b'refused 29 FileTooLong at - 1 16777216\n')):
-            with open(os.path.join(work, 'd'), 'wb') as file:
-                file.write(b' ' * size)
-            wrong.append(without((b'', due, 1), ('%d spaces' % size, run(program, ['check', 'd'], cwd=work))))
-    return '; '.join(filter(None, wrong))
-
-
 def names(program):
     """Names of files: any text that the machine takes for a name is one, and a word that is no UTF-8 is no word of a command."""
     wrong = []
@@ -465,4 +454,4 @@ def little_stack(program):
 
 
 STREAMS = [full_disk, a_file_with_room, closed_streams, reader_leaves, no_reader, slow_reader, terminal, no_files, fifo, unreadable, cut_while_read,
-           endless_files, blank_files, names, words, little_memory, little_stack]
+           endless_files, names, words, little_memory, little_stack]
