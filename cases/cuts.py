@@ -1,25 +1,20 @@
-"""Files cut off behind each of their bytes, and an expression at its greatest depth and one deeper."""
+"""Files cut off behind each of their bytes or behind some of them, and an expression at its greatest depth and one deeper."""
 import os
-import subprocess
 import tempfile
 
-HERE = os.path.dirname(os.path.abspath(__file__))
+from readers import OTHERS, READERS
+from streams import HERE, run, text
+
 HEAD = 'static int64_t v1;\nvoid sci_main(void) {\n  v1 = '
 
 
-def text(*path):
-    with open(os.path.join(*path), 'rb') as file:
-        return file.read()
+def refused(line):
+    """The answer of a refusal."""
+    return b'', ('refused %s\n' % line).encode(), 1
 
 
-def refused(program, work, words, due):
-    """What is wrong where a refusal is due."""
-    run = subprocess.run([program] + words, cwd=work, stdin=subprocess.DEVNULL, capture_output=True, timeout=60)
-    return '' if (run.stdout, run.stderr, run.returncode) == (b'', ('refused %s\n' % due).encode(), 1) else repr(run)
-
-
-def wrong_cuts(program, content, words, due, others=()):
-    """What is wrong with the proper fronts of a file, of which each is refused as `due` says."""
+def wrong_cuts(program, content, words, due, others=(), sizes=None):
+    """What is wrong with the answers on the proper fronts of a file, or on those of some sizes; `due` says what is due of a front."""
     wrong = []
     with tempfile.TemporaryDirectory() as work:
         for name, other in others:
@@ -27,29 +22,56 @@ def wrong_cuts(program, content, words, due, others=()):
                 file.write(other)
         with open(os.path.join(work, 'cut'), 'wb') as file:
             file.write(content)
-        for size in reversed(range(len(content))):
+        for size in sorted(range(len(content)) if sizes is None else sizes, reverse=True):
             os.truncate(os.path.join(work, 'cut'), size)
-            answer = refused(program, work, words, due(content[:size]))
-            if answer:
-                wrong.append('%d bytes: %s' % (size, answer))
+            given = run(program, words, cwd=work)
+            wrong += [] if given == due(content[:size]) else ['%s, %d bytes: %r' % (words[0], size, given)]
     return '; '.join(wrong[:3])
 
 
 def cut_diagrams(program):
-    """No front of a diagram is JSON, if its last byte is its last brace."""
-    content = text(HERE, 'simulate-counter', 'd').rstrip()
-    return wrong_cuts(program, content, ['check', 'cut'], lambda front: '1 NotJson at -') if content[-1:] == b'}' else 'another last byte'
+    """No front of a diagram is JSON, if its last byte is its last brace: for one command of each front, for all of some of the fronts of a longer one."""
+    short, long = (text(HERE, name, 'd').rstrip() for name in ('simulate-counter', 'simulate-meter'))
+    if short[-1:] + long[-1:] != b'}}':
+        return 'another last byte'
+    some = {0, 1, len(long) - 1, *range(2, len(long), 89)}
+    wrong = [wrong_cuts(program, short, ['check', 'cut'], lambda front: refused('1 NotJson at -'))]
+    wrong += [wrong_cuts(program, long, [words[0], 'cut'] + words[2:], lambda front: refused('1 NotJson at -'), OTHERS.items(), some) for words in READERS]
+    return '; '.join(filter(None, wrong))
 
 
 def cut_inputs(program):
     """No front of an input file is one."""
     folder = os.path.join(HERE, 'simulate-meter')
-    return wrong_cuts(program, text(folder, 'i').rstrip(), ['simulate', 'd', 'cut', '30', '100'], lambda front: '27 InputShape at -', [('d', text(folder, 'd'))])
+    return wrong_cuts(program, text(folder, 'i').rstrip(), ['simulate', 'd', 'cut', '30', '100'], lambda front: refused('27 InputShape at -'), [('d', text(folder, 'd'))])
+
+
+def blamed(front):
+    """The refusal of a front of a C program: the first byte of its last line is blamed, or that behind a last line which is whole."""
+    return refused('26 NotC at - %d' % (front.rfind(b'\n') + 1))
 
 
 def cut_programs(program):
-    """No front of a C program is one: the first byte of its last line is blamed, or that behind a last line which is whole."""
-    return wrong_cuts(program, text(HERE, 'crun-stop', 'c'), ['crun', 'cut', 'i', '10', '10'], lambda front: '26 NotC at - %d' % (front.rfind(b'\n') + 1), [('i', b'[]')])
+    """No front of a C program is one."""
+    return wrong_cuts(program, text(HERE, 'crun-stop', 'c'), ['crun', 'cut', 'i', '10', '10'], blamed, [('i', b'[]')])
+
+
+def cut_code(program):
+    """The same of the C of the meter, behind each of its lines and behind some other bytes."""
+    folder = os.path.join(HERE, 'simulate-meter')
+    code, err, status = run(program, ['ccode', 'd'], cwd=folder)
+    ends = [size for size in range(1, len(code)) if code[size - 1:size] == b'\n']
+    if (err, status) != (b'', 0) or len(ends) < 200:
+        return 'ccode: %r' % ((code, err, status),)
+    some = {*ends, len(code) - 1, *range(0, len(code), 31)}
+    return wrong_cuts(program, code, ['crun', 'cut', 'i', '30', '100'], blamed, [('i', text(folder, 'i'))], some)
+
+
+def cut_traces(program):
+    """No front of a trace is one: the first line that isn't whole is told."""
+    folder = os.path.join(HERE, 'simulate-meter')
+    files = [(name, text(folder, name)) for name in 'di']
+    return wrong_cuts(program, text(folder, 'out'), ['judge', 'd', 'i', 'cut', '30', '100'], lambda front: (b'no %d\n' % (front.count(b'\n') + 1), b'', 8), files)
 
 
 def negations(program):
@@ -61,9 +83,8 @@ def negations(program):
                 file.write(head + '(-' * count + 'INT64_C(0)' + ')' * count + ';\n}\n')
         with open(os.path.join(work, 'i'), 'w') as file:
             file.write('[]')
-        run = subprocess.run([program, 'crun', '63', 'i', '10', '10'], cwd=work, stdin=subprocess.DEVNULL, capture_output=True, timeout=60)
-        passed = '' if (run.stdout, run.stderr, run.returncode) == (b'', b'', 0) else repr(run)
-        return passed or refused(program, work, ['crun', '64', 'i', '10', '10'], '26 NotC at - %d' % (len(head) - len('  v1 = ')))
+        given = [run(program, ['crun', name, 'i', '10', '10'], cwd=work) for name in ('63', '64')]
+    return '' if given == [(b'', b'', 0), refused('26 NotC at - %d' % (len(head) - len('  v1 = ')))] else repr(given)
 
 
-CUTS = [cut_diagrams, cut_inputs, cut_programs, negations]
+CUTS = [cut_diagrams, cut_inputs, cut_programs, cut_code, cut_traces, negations]

@@ -7,7 +7,7 @@ import json
 import os
 import tempfile
 
-from cuts import wrong_cuts
+from cuts import refused, wrong_cuts
 from plain import in_folder, plain, ring_of_delays, simulations, trace
 from streams import HERE, READ_FAULT, run, text, without
 import plain_run
@@ -204,7 +204,7 @@ def cut_images(program):
     """No front of an image is one."""
     folder = os.path.join(HERE, 'resume-meter')
     files = [(name, text(folder, name)) for name in 'di']
-    return wrong_cuts(program, text(folder, 's'), ['resume', 'd', 'i', 'cut', '30', '100'], lambda front: '36 NotSave at - %d' % (front.count(b'\n') + 1), files)
+    return wrong_cuts(program, text(folder, 's'), ['resume', 'd', 'i', 'cut', '30', '100'], lambda front: refused('36 NotSave at - %d' % (front.count(b'\n') + 1)), files)
 
 
 SAVES = [saved_and_resumed, mistakes, changed_images, images_of_others, long_images, largest_image, far_dates, saved_in_order, cut_images]
