@@ -2,6 +2,7 @@
 
 What is due comes from tools/plain_run.py and tools/plain_judge.py.
 """
+import json
 import os
 import subprocess
 import tempfile
@@ -53,15 +54,35 @@ def judged_traces(program):
 
 
 def judged_bounds(program):
-    """The trace of other bounds, of other readings and of another diagram is told by the first line in which they differ."""
+    """The trace of other bounds and of another diagram is told by the first line in which they differ, also where no event is asked for, or date 0."""
     runs, wrong = {name: given for name, *given in simulations()}, []
     for name, (diagram, inputs, until, limit) in runs.items():
-        others = [(diagram, inputs, until, str(number)) for number in (0, 1, 2, int(limit) + 1)]
-        others += [(diagram, inputs, str(date), limit) for date in (0, 1, int(until) // 2)] + [runs['simulate-counter'], runs['simulate-meter']]
-        texts = [trace(*given)[0] for given in others]
-        due = trace(diagram, inputs, until, limit)[0]
-        wrong += ['%s: %s' % (name, line) for line in wrong_verdicts(program, {'d': diagram, 'i': inputs}, due, texts, [until, limit])]
+        bounds = [(until, str(number)) for number in (0, 1, 2, int(limit), int(limit) + 1)] + [(str(date), limit) for date in (0, 1, int(until) // 2)] + [('0', '0')]
+        texts = [trace(diagram, inputs, *given)[0] for given in bounds] + [trace(*runs[other])[0] for other in ('simulate-counter', 'simulate-meter')]
+        for asked in ((until, limit), (until, '0'), ('0', limit)):
+            due = trace(diagram, inputs, *asked)[0]
+            wrong += ['%s: %s' % (name, line) for line in wrong_verdicts(program, {'d': diagram, 'i': inputs}, due, texts, list(asked))]
     return '; '.join(wrong)[:800]
+
+
+def other_readings(inputs):
+    """Input files for the same sensors: each column backwards, with a value less, and with its first value in the place of all."""
+    columns = json.loads(inputs)
+    for other in ([column[::-1] for column in columns], [column[:-1] for column in columns], [column[:1] * len(column) for column in columns]):
+        yield json.dumps(other).encode()
+
+
+def judged_readings(program):
+    """The trace of other readings of a diagram's sensors, and its own one beside these, are told by the first line in which they differ."""
+    wrong, differing = [], set()
+    for name, diagram, inputs, *bounds in simulations():
+        due = trace(diagram, inputs, *bounds)[0]
+        for other in other_readings(inputs) if b'SENSOR' in diagram else ():
+            text_of_other = trace(diagram, other, *bounds)[0]
+            differing |= {name} if text_of_other != due else set()
+            wrong += ['%s: %s' % (name, line) for line in wrong_verdicts(program, {'d': diagram, 'i': inputs}, due, [text_of_other], bounds)
+                      + wrong_verdicts(program, {'d': diagram, 'i': other}, text_of_other, [due], bounds)]
+    return '; '.join(wrong)[:800] or ('' if len(differing) > 10 else 'of too few diagrams the readings matter: %r' % differing)
 
 
 def judged_long(program):
@@ -109,4 +130,4 @@ def judged_on_full_disk(program):
     return '; '.join(wrong)
 
 
-VERDICTS = [judged_traces, judged_bounds, judged_long, judged_in_order, judged_on_full_disk]
+VERDICTS = [judged_traces, judged_bounds, judged_readings, judged_long, judged_in_order, judged_on_full_disk]
