@@ -129,18 +129,33 @@ def closed_streams(program):
     return '; '.join(wrong)
 
 
+def many_events(program, work):
+    """Command lines with a long answer, of each kind of it, and what is due."""
+    first = text(EXAMPLES, 'first.json')
+    constants = {'objs': [{'obj': 'Block', 'gui': 'CONST_m', 'model': {'out': [256], 'outtyp': [3], 'ipar': [k]}} for k in range(40)]}
+    for name, content in (('f', first), ('n', b'[]'), ('d', text(EXAMPLES, 'clock.json')), ('s', b'save 1\nat 0 0\npend 2 1 1\ndone\n'), ('k', json.dumps(constants).encode())):
+        with open(os.path.join(work, name), 'wb') as file:
+            file.write(content)
+    changes = ''.join('#%d\nb%s v1\n' % (5 * k, format(k % 10, '032b')) for k in range(1, 10000))
+    dump = LEVELS_DUMP.replace('b1_1_1', 'b2_1_1').replace('0111 v1', '0000 v1') + changes
+    return [(LONG, LONG_TRACE), (['resume', 'd', 'n', 's', '1000000', '100000'], LONG_TRACE[len('start\n'):]), (['vcd', 'f', 'n', '1000000', '10000'], dump.encode()),
+            (['ccode', 'k'], run(program, ['ccode', 'k'], cwd=work)[0])]
+
+
 def reader_leaves(program):
-    """Standard output is a pipe whose reader goes away behind so many bytes: it had a front of the trace, and the fault is told."""
+    """Standard output is a pipe whose reader goes away behind so many bytes: it had a front of the answer, and the fault is told."""
     wrong = []
-    for count in (0, 1, 100, 4096, 65535, 65536, 65537, 300000):
-        begun = subprocess.Popen([program] + LONG, stdin=subprocess.DEVNULL, stdout=subprocess.PIPE, stderr=subprocess.PIPE)
-        took = begun.stdout.read(count) if count else b''
-        begun.stdout.close()
-        told = begun.stderr.read()
-        begun.stderr.close()
-        status = begun.wait(timeout=60)
-        if (took, told, status) != (LONG_TRACE[:count], WRITE_FAULT, 4):
-            wrong.append('behind %d bytes: %r, %d' % (count, told, status))
+    with tempfile.TemporaryDirectory() as work:
+        for words, due in many_events(program, work):
+            wrong += [] if len(due) > 400000 else ['%s: %d bytes are too few' % (words[0], len(due))]
+            for count in (0, 1, 100, 4096, 65535, 65536, 65537, 300000):
+                begun = subprocess.Popen([program] + words, cwd=work, stdin=subprocess.DEVNULL, stdout=subprocess.PIPE, stderr=subprocess.PIPE)
+                took = begun.stdout.read(count) if count else b''
+                begun.stdout.close()
+                told = begun.stderr.read()
+                begun.stderr.close()
+                status = begun.wait(timeout=60)
+                wrong += [] if (took, told, status) == (due[:count], WRITE_FAULT, 4) else ['%s behind %d bytes: %r, %d' % (words[0], count, told, status)]
     return '; '.join(wrong)
 
 
@@ -250,40 +265,31 @@ def begun_through_fifo(program, words, work, name, pieces):
     return out, err, begun.returncode
 
 
-# a file that is no diagram, input file or C: its name, the command that reads it, and what is due of a front of it
-OTHER_FILES = [('t', ['judge', 'd', 'i', 't', '30', '100'], lambda front: (b'no %d\n' % (front.count(b'\n') + 1), b'', 8)),
-               ('s', ['resume', 'd', 'i', 's', '30', '100'], lambda front: (b'', b'refused 36 NotSave at - %d\n' % (front.count(b'\n') + 1), 1)),
-               ('w', ['vcdat', 'w', '14'], lambda front: (b'', b'refused 37 NotVcd at - %d\n' % (front.count(b'\n') + 1), 1))]
+# by the name of a file, what is due where a front of it is read
+CUT = {'d': lambda front: (b'', b'refused 1 NotJson at -\n', 1),
+       'i': lambda front: (b'', b'refused 27 InputShape at -\n', 1),
+       'c': lambda front: (b'', b'refused 26 NotC at - %d\n' % (front.rfind(b'\n') + 1), 1),
+       't': lambda front: (b'no %d\n' % (front.count(b'\n') + 1), b'', 8),
+       's': lambda front: (b'', b'refused 36 NotSave at - %d\n' % (front.count(b'\n') + 1), 1),
+       'w': lambda front: (b'', b'refused 37 NotVcd at - %d\n' % (front.count(b'\n') + 1), 1)}
 
 
 def fifo(program):
-    """A FIFO in the place of each file gives what comes through it, whole or cut off."""
-    wrong = []
+    """A FIFO in the place of each file of each command gives what comes through it, whole or cut off."""
+    wrong, tried = [], set()
     with tempfile.TemporaryDirectory() as work:
-        due = {words[0]: out for words, out in meter(program, work)}
-        given = {name: text(work, name) for name in 'dic'}
-        for name, whole, answer in OTHER_FILES:
-            content = text(work, name)
-            middle = len(content) // 2
-            os.remove(os.path.join(work, name))
-            wrong += [] if begun_through_fifo(program, whole, work, name, [content[:middle], content[middle:]]) == (due[whole[0]], b'', 0) else [' '.join(whole)]
-            wrong += [] if begun_through_fifo(program, whole, work, name, [content[:middle]]) == answer(content[:middle]) else [' '.join(whole) + ' cut']
-        for name in 'dic':
-            os.remove(os.path.join(work, name))
-        for word, name, other in (('simulate', 'd', 'i'), ('simulate', 'i', 'd'), ('crun', 'c', 'i'), ('crun', 'i', 'c')):
-            first, second = (name, other) if name in 'dc' else (other, name)
-            words = [word, first, second, '30', '100']
-            with open(os.path.join(work, other), 'wb') as file:
-                file.write(given[other])
-            middle = len(given[name]) // 2
-            whole = begun_through_fifo(program, words, work, name, [given[name][:1], given[name][1:middle], given[name][middle:]])
-            cut = begun_through_fifo(program, words, work, name, [given[name][:middle]])
-            os.remove(os.path.join(work, other))
-            end = given[name][:middle].rfind(b'\n') + 1
-            refused = {'d': b'refused 1 NotJson at -\n', 'i': b'refused 27 InputShape at -\n', 'c': b'refused 26 NotC at - %d\n' % end}[name]
-            if whole != (due[word], b'', 0) or cut != (b'', refused, 1):
-                wrong.append('%s, %s: %r, %r' % (word, name, whole, cut))
-    return '; '.join(wrong)[:800]
+        for words, due in meter(program, work):
+            for name in [word for word in words[1:] if word in CUT]:
+                content = text(work, name)
+                middle = len(content) // 2
+                os.remove(os.path.join(work, name))
+                whole = begun_through_fifo(program, words, work, name, [content[:1], content[1:middle], content[middle:]])
+                cut = begun_through_fifo(program, words, work, name, [content[:middle]])
+                wrong += [] if (whole, cut) == ((due, b'', 0), CUT[name](content[:middle])) else ['%s, %s: %r, %r' % (words[0], name, whole, cut)]
+                with open(os.path.join(work, name), 'wb') as file:
+                    file.write(content)
+                tried.add(words[0])
+    return '; '.join(wrong)[:800] or ('' if len(tried) == 11 else 'not all: %r' % tried)
 
 
 def unreadable(program):
@@ -304,30 +310,41 @@ def unreadable(program):
         for name in ('d', 'i', 'c', 't', 's', 'w', 'f'):
             shutil.copy(os.path.join(work, name), os.path.join(work, 'open-' + name)) if name != 'f' else None
             os.chmod(os.path.join(work, name), 0)
-        lines = ('check d', 'check f/d', 'simulate d i 30 100', 'simulate open-d i 30 100', 'crun c i 30 100', 'crun open-c i 30 100', 'ccode d', 'judge d i t 30 100',
-                 'judge open-d i t 30 100', 'judge open-d open-i t 30 100', 'save d i 30 100 1', 'save open-d i 30 100 1', 'resume open-d i s 30 100',
+        lines = ('check d', 'check f/d', 'map d', 'map f/d', 'schedule d', 'simulate d i 30 100', 'simulate open-d i 30 100', 'crun c i 30 100', 'crun open-c i 30 100', 'ccode d', 'judge d i t 30 100',
+                 'judge open-d i t 30 100', 'judge open-d open-i t 30 100', 'save d i 30 100 1', 'save open-d i 30 100 1', 'resume d i s 30 100', 'resume open-d i s 30 100',
                  'resume open-d open-i s 30 100', 'vcd d i 30 100', 'vcd open-d i 30 100', 'vcdat w 14')
         wrong.append(without(READ_FAULT, *((line, run(copy, line.split(), cwd=work, **as_nobody)) for line in lines)))
         os.chmod(os.path.join(work, 'f'), 0o755)
     return '; '.join(filter(None, wrong))
 
 
-def cut_while_read(program):
-    """A file that is cut at some time while it is read: it is read whole, or as the front that was there; nothing else comes of it."""
-    whole, wrong = (b'ok 0 1 0 0\n', b'', 0), []
-    content = b' ' * (16777216 - 11) + b'{"objs":[]}'
+def wrong_while_read(program, words, name, content, due, **files):
+    """What is wrong where a file of 16 MiB, whose last bytes are its content, is cut at some time while it is read: it is read whole, or as the front
+    that was there, which is refused; nothing else comes of it."""
+    wrong = []
     with tempfile.TemporaryDirectory() as work:
-        path = os.path.join(work, 'd')
+        for other, bytes_of_other in files.items():
+            with open(os.path.join(work, other), 'wb') as file:
+                file.write(bytes_of_other)
         for turn in range(12):
-            with open(path, 'wb') as file:
-                file.write(content)
-            begun = subprocess.Popen([program, 'check', 'd'], cwd=work, stdin=subprocess.DEVNULL, stdout=subprocess.PIPE, stderr=subprocess.PIPE)
+            with open(os.path.join(work, name), 'wb') as file:
+                file.write(b' ' * (16777216 - len(content)) + content)
+            begun = subprocess.Popen([program] + words, cwd=work, stdin=subprocess.DEVNULL, stdout=subprocess.PIPE, stderr=subprocess.PIPE)
             time.sleep(0.001 * turn)
-            os.truncate(path, turn * 1200000)
+            os.truncate(os.path.join(work, name), turn * 1200000)
             out, err = begun.communicate(timeout=60)
-            if (out, err, begun.returncode) not in (whole, (b'', b'refused 1 NotJson at -\n', 1)):
-                wrong.append('cut to %d bytes: %r, %r, %d' % (turn * 1200000, out, err, begun.returncode))
-    return '; '.join(wrong)
+            if (out, err, begun.returncode) not in ((due, b'', 0), CUT[name](b'')):
+                wrong.append('%s, cut to %d bytes: %r, %r, %d' % (words[0], turn * 1200000, out, err, begun.returncode))
+    return wrong
+
+
+def cut_while_read(program):
+    """A diagram, and an input file behind it, that are cut while they are read."""
+    trace, counter = text(HERE, 'simulate-counter', 'out'), text(HERE, 'simulate-counter', 'd')
+    bounds = text(HERE, 'simulate-counter', 'words').decode().split()[3:]
+    return '; '.join(wrong_while_read(program, ['check', 'd'], 'd', b'{"objs":[]}', b'ok 0 1 0 0\n')
+                     + wrong_while_read(program, ['simulate', 'd', 'i'] + bounds, 'i', b'[]', trace, d=counter)
+                     + wrong_while_read(program, ['judge', 'd', 'i', 't'] + bounds, 'i', b'[]', b'yes %d\n' % trace.count(b'\n'), d=counter, t=trace))
 
 
 def endless_files(program):
@@ -355,22 +372,38 @@ def endless_files(program):
     return '; '.join(filter(None, wrong))
 
 
-def names(program):
-    """Names of files: any text that the machine takes for a name is one, and a word that is no UTF-8 is no word of a command."""
+NAMES = ('a b', ' ', "a'b\"c", '-', '--help', '--', '*', 'a\nb', 'größe', '名.json', 'a' * 255, '%s%n')
+NO_NAMES = ('', 'a' * 256, 'a' * 5000, 'a/' * 2500, '-h', 'd/', 'd ')
+NO_TEXTS = (b'\xff', b'd\xc3', b'\x80d', b'\xed\xa0\x80')
+
+
+def wrong_names(program, work, words, due):
+    """What is wrong with a command line where each of its files has other names, one after the other."""
     wrong = []
+
+    def with_name(at, name):
+        given = list(map(os.fsencode, words[:at] + [name] + words[at + 1:]))
+        return '%s, word %d, %r' % (words[0], at, name[:20]), run(program, given, cwd=work)
+
+    for at in [k for k, word in enumerate(words) if k and word in CUT]:
+        for name in NAMES:
+            shutil.copy(os.path.join(work, words[at]), os.path.join(work, name))
+            wrong.append(without((due, b'', 0), with_name(at, name)))
+            os.remove(os.path.join(work, name))
+        paths = ('./' + words[at], '../%s/%s' % (os.path.basename(work), words[at]))
+        for answer, others in (((due, b'', 0), paths), (READ_FAULT, NO_NAMES), (USAGE, NO_TEXTS)):
+            wrong.append(without(answer, *(with_name(at, name) for name in others)))
+    return wrong
+
+
+def names(program):
+    """Names of files, of each file of some commands: any text that the machine takes for a name is one, and a word that is no UTF-8 is no word of a
+    command."""
     with tempfile.TemporaryDirectory() as work:
-        meter(program, work)
-        due = text(HERE, 'check-meter', 'out')
-        for name in ('a b', ' ', "a'b\"c", '-', '--help', '--', '*', 'a\nb', 'größe', '名.json', 'a' * 255, './d', '../' + os.path.basename(work) + '/d', '%s%n'):
-            if '/' not in name:
-                shutil.copy(os.path.join(work, 'd'), os.path.join(work, name))
-            wrong.append(without((due, b'', 0), (name, run(program, ['check', name], cwd=work))))
-        for name in ('', 'a' * 256, 'a' * 5000, 'a/' * 2500, '-h', 'd/', 'd '):
-            wrong.append(without(READ_FAULT, (name[:20], run(program, ['check', name], cwd=work)),
-                                 (name[:20] + ' behind d', run(program, ['simulate', 'd', name, '30', '100'], cwd=work))))
-        for words in ([b'check', b'\xff'], [b'\xffcheck', b'd'], [b'simulate', b'd', b'i\xc3', b'30', b'100'], [b'simulate', b'd', b'i', b'30', b'1\x80']):
+        wrong = sum((wrong_names(program, work, words, due) for words, due in meter(program, work) if words[0] in ('check', 'map', 'simulate', 'judge')), [])
+        for words in ([b'\xffcheck', b'd'], [b'simulate', b'd', b'i', b'30', b'1\x80'], [b'judge', b'd', b'i', b't', b'3\xff', b'100']):
             wrong.append(without(USAGE, (repr(words), run(program, words, cwd=work))))
-    return '; '.join(filter(None, wrong))
+    return '; '.join(filter(None, wrong))[:800]
 
 
 def words(program):
@@ -390,12 +423,15 @@ LEVELS_DUMP = ('$timescale 1 ns $end\n$scope module scicos $end\n$var integer 32
                'b00000000000000000000000000000111 v1\n$end\n')
 
 
-def deepest():
-    """Files as deep as the rules allow: superblocks in 16 levels, a text of 127 levels, and C where calls are 64 deep, each below 16 statements, with an
-    expression that is 64 deep in the deepest. Beside them a long list of objects, which takes memory by its length."""
-    objs = [{'obj': 'Block', 'gui': 'CONST_m', 'model': {'out': [1], 'outtyp': [3], 'ipar': [7]}}]
+def in_superblocks(objs):
+    """The text of a diagram with these objects in its sixteenth level."""
     for _ in range(15):
         objs = [{'obj': 'Block', 'gui': 'SUPER_f', 'model': {'sim': 'super', 'rpar': {'objs': objs}}}]
+    return json.dumps({'objs': objs})
+
+
+def deep_code():
+    """C where calls are 64 deep, each below 16 statements, with an expression that is 64 deep in the deepest."""
     head = text(HERE, 'crun-primes', 'c').decode().split('static')[0] + 'static int64_t v1;\n'
     left, right = 'INT64_C(0)', 'INT64_C(0)'
     for _ in range(63):
@@ -407,30 +443,35 @@ def deepest():
         lines += ['static void f%d(void) {' % k] + begin + ['  ' * 16 + inside] + end + ['}']
     lines += ['void sci_main(void) {'] + begin + ['  ' * 16 + 'f64();'] + end
     lines += ['  sci_val(INT64_C(1), INT64_C(1), INT64_C(1), v1);', '  v1 = %s;' % right, '  sci_val(INT64_C(1), INT64_C(1), INT64_C(2), v1);', '}']
-    levels = {'t': 'start\nval 1 1 1 7\nend empty\n', 's': 'save 1\nat 0 0\nheld 1 7\ndone\n', 'w': LEVELS_DUMP}
-    return {**levels, 'levels': json.dumps({'objs': objs}), 'brackets': '{"unread":%s%s,"objs":[]}' % ('[' * 126, ']' * 126),
-            'texts': json.dumps({'objs': [{'obj': 'Text'}] * 10000}), 'calls': head + '\n'.join(lines) + '\n', 'i': '[]'}
+    return head + '\n'.join(lines) + '\n'
 
 
-DEEPEST = [(['check', 'levels'], b'ok 1 1 1 0\n'),
-           (['simulate', 'levels', 'i', '1', '1'], b'start\nval 1 1 1 7\nend empty\n'),
-           (['check', 'brackets'], b'ok 0 1 0 0\n'),
-           (['check', 'texts'], b'ok 0 1 0 0\n'),
-           (['crun', 'calls', 'i', '1', '1'], b'val 1 1 1 63\nval 1 1 2 63\n'),
-           (['judge', 'levels', 'i', 't', '1', '1'], b'yes 3\n'),
-           (['resume', 'levels', 'i', 's', '1', '1'], b'end empty\n'),
-           (['vcd', 'levels', 'i', '1', '1'], LEVELS_DUMP.encode()),
-           (['vcdat', 'w', '1'], b'b1_1_1 7\n')]
+def deepest(program, work):
+    """Writes files as deep as the rules allow: superblocks in 16 levels, a text of 127 levels, C, and beside them a long list of objects, which takes
+    memory by its length; command lines on them, with what each prints."""
+    constant = {'obj': 'Block', 'gui': 'CONST_m', 'model': {'out': [1], 'outtyp': [3], 'ipar': [7]}}
+    clock = {'obj': 'Block', 'gui': 'EVTDLY_c', 'model': {'evtin': [1], 'evtout': [1], 'ipar': [1], 'firing': [5]}}
+    trace, image = 'start\nval 1 1 1 7\nend empty\n', 'save 1\nat 0 0\nheld 1 7\ndone\n'
+    files = {'levels': in_superblocks([constant]), 'clocked': in_superblocks([constant, clock]), 'brackets': '{"unread":%s%s,"objs":[]}' % ('[' * 126, ']' * 126),
+             'texts': json.dumps({'objs': [{'obj': 'Text'}] * 10000}), 'calls': deep_code(), 'i': '[]', 't': trace, 's': image, 'w': LEVELS_DUMP}
+    for name, content in files.items():
+        with open(os.path.join(work, name), 'w') as file:
+            file.write(content)
+    code = run(program, ['ccode', 'levels'], cwd=work)[0]
+    with open(os.path.join(work, 'code'), 'wb') as file:
+        file.write(code)
+    lines = {'check levels': 'ok 1 1 1 0\n', 'map levels': '1 %s CONST_m int32[1x1]\n' % '/'.join(['1'] * 16), 'schedule levels': 'source start\n1 always\n',
+             'simulate levels i 1 1': trace, 'check brackets': 'ok 0 1 0 0\n', 'check texts': 'ok 0 1 0 0\n', 'crun calls i 1 1': 'val 1 1 1 63\nval 1 1 2 63\n',
+             'ccode levels': code.decode(), 'crun code i 1 1': trace, 'judge levels i t 1 1': 'yes 3\n', 'resume levels i s 1 1': 'end empty\n',
+             'save clocked i 9 9 1': image.replace('done', 'pend 5 2 1\ndone'), 'vcd levels i 1 1': LEVELS_DUMP, 'vcdat w 1': 'b1_1_1 7\n'}
+    return [(line.split(), due.encode()) for line, due in lines.items()]
 
 
 def limited(program, limits, due_at_last):
     """What is wrong with the deepest files under each of these limits, which the shell sets: the whole answer, want of memory, or no run."""
     wrong, wants = [], 0
     with tempfile.TemporaryDirectory() as work:
-        for name, content in deepest().items():
-            with open(os.path.join(work, name), 'w') as file:
-                file.write(content)
-        for words, due in DEEPEST:
+        for words, due in deepest(program, work):
             for limit in limits:
                 given = run('sh', ['-c', 'ulimit %s; exec "$0" "$@"' % limit, program] + words, cwd=work, env={'PATH': os.environ['PATH']})
                 want = given == (b'', b'out of memory\n', 5)
