@@ -1,6 +1,6 @@
-"""The pages' command lines: each block of them is run, line by line, and each line gives the status that is due; and the README's first diagram."""
+"""The pages' command lines: each block of them is run, line by line, and each line gives the status that is due, and prints what the next block shows,
+if that shows something; each other block is one that another case reads; and the README's first diagram."""
 import glob
-import itertools
 import json
 import os
 import re
@@ -8,19 +8,38 @@ import shutil
 import subprocess
 import tempfile
 
+from lacking import lacks, untried
+from plain import in_folder
+
 TOP = os.path.join(os.path.dirname(os.path.abspath(__file__)), '..')
 EXAMPLES = os.path.join(TOP, 'examples')
 PAGES = ['README.md', 'docs/SHIPPING.md', 'examples/README.md']
 OTHERS = [os.path.join('docs', name) for name in sorted(os.listdir(os.path.join(TOP, 'docs'))) if name.endswith('.md')]  # these may be without any
-STARTS = re.compile(r'\./scicos |gcc |(?:tools|bench)/\w+ |\w+=')
+STARTS = re.compile(r'\./\w+ |gcc |(?:tools|bench)/\w+ |\w+=|mkdir |ls |parallel |crates/scicos/out/scicos ')
+NOT_RUN = ['./test']  # which runs the gate, and these cases in it
 WANTED = {'gcc', 'clang', 'arm-none-eabi-gcc', 'xargs', 'parallel'}
+# by page the words of fenced parts that other cases read
+FENCED = {'docs/FORMAT.md': 'diagram inputs trace judge save resume vcd vcdat map schedule check block refused'.split(), 'docs/GENERATED.md': ['c'],
+          'docs/SHIPPING.md': ['c'], 'docs/SCICOS.md': ['json']}
 
 
 def blocks(page):
-    """The blocks of command lines on a page, each a list of lines; a line that ends in a backslash goes on in the next one."""
-    indented = re.findall(r'(?:^    .*\n)+', page, re.M)
-    parts = [re.sub(r'^    ', '', block, flags=re.M).replace('\\\n', '').splitlines() for block in indented]
-    return [lines for lines in parts if STARTS.match(lines[0])]
+    """The blocks on a page in order, each by the word behind its fence, or none where it is indented, with its lines; a line that ends in a backslash goes
+    on in the next one."""
+    for found in re.finditer(r'^```(\S*).*\n((?:.*\n)*?)```$|(?:^    .*\n)+', page, re.M):
+        text = found.group(2) if found.group(1) is not None else re.sub(r'^    ', '', found.group(), flags=re.M)
+        yield found.group(1), text.replace('\\\n', '').splitlines()
+
+
+def is_read_elsewhere(name, word, lines):
+    """Whether another case reads a block, or it is a drawing in lines."""
+    examples = [text_of(path) for path in glob.glob(os.path.join(EXAMPLES, '*.json'))]
+    return word in FENCED.get(name, []) or '\n'.join(lines) + '\n' in examples or any('►' in line for line in lines)
+
+
+def text_of(*path):
+    with open(os.path.join(*path)) as file:
+        return file.read()
 
 
 def due(line):
@@ -29,11 +48,11 @@ def due(line):
     return int(beside.group(1)) if beside else 0
 
 
-def can_run(line):
-    """Whether what a line calls is installed here."""
+def cannot_run(name, line):
+    """Whether something that a line calls isn't installed here, which is told."""
     called = WANTED & set(re.findall(r'[\w.+-]+', line)) | ({'gcc', 'size'} if line.startswith('tools/sizes') else set())
     called |= {'gcc'} if line.startswith(('bench/generated', 'bench/c ', 'tools/refuse_memory')) else set()
-    return all(map(shutil.which, called))
+    return lacks('%s: %s' % (name, line), *sorted(called))
 
 
 def trace_of(name):
@@ -60,22 +79,48 @@ def furnish(program, work):
             json.dump([gaps], file)
 
 
-def wrong_lines(program, name, work):
-    """What is wrong with the lines of a page, run one by one; what a line assigns holds in those behind it."""
-    with open(os.path.join(TOP, name)) as file:
-        found = blocks(file.read())
-    wrong, trace = [] if found or name not in PAGES else ['%s has no command lines' % name], trace_of(name)
-    for lines in found:
-        assigned = ''
-        for line in itertools.takewhile(can_run, lines):
-            if re.match(r'\w+=', line):
-                assigned += line + '\n'
-                continue
-            run = subprocess.run(['bash', '-c', assigned + line], cwd=work, stdin=subprocess.DEVNULL, capture_output=True, timeout=120,
-                                 env=dict(os.environ, SLURM_ARRAY_TASK_ID='0'))
-            if run.returncode != due(line) or trace and run.stdout != (b'' if ' > ' in line else trace):
-                wrong.append('%s: %s gives %r' % (name, line, run))
+def wrong_lines(name, lines, work):
+    """What is wrong with a block of command lines of a page, run one by one, and what they print, or None where some can't be run; what a line assigns
+    holds in those behind it."""
+    wrong, printed, assigned, trace = [], b'', '', trace_of(name)
+    for number, line in enumerate(lines):
+        if cannot_run(name, line):
+            for later in lines[number + 1:]:
+                untried('%s: %s' % (name, later), 'the line before it')
+            return wrong, None
+        if re.match(r'\w+=', line):
+            assigned += line + '\n'
+            continue
+        run = subprocess.run(['bash', '-c', assigned + line], cwd=work, stdin=subprocess.DEVNULL, capture_output=True, timeout=120,
+                             env=dict(os.environ, SLURM_ARRAY_TASK_ID='0'))
+        printed += run.stdout
+        if run.returncode != due(line) or trace and run.stdout != (b'' if ' > ' in line else trace):
+            wrong.append('%s: %s gives %r' % (name, line, run))
+    return wrong, printed
+
+
+def wrong_blocks(name, page, work):
+    """What is wrong with the blocks of a page: those of command lines are run, one behind these is what they print, and the others are read elsewhere."""
+    wrong, run, printed = [], False, None
+    for word, lines in blocks(page):
+        known = [line in NOT_RUN or STARTS.match(line) is not None for line in lines]
+        if is_read_elsewhere(name, word, lines) or lines == NOT_RUN:
+            run = False
+        elif all(known):
+            more, printed = wrong_lines(name, lines, work)
+            wrong, run = wrong + more, True
+        elif known[0] or not run:
+            wrong.append('%s: neither a command line that is known nor what one prints: %s' % (name, lines[known.index(False)]))
+        else:
+            shown, run = ''.join(line + '\n' for line in lines).encode(), False
+            wrong += [] if printed in (None, shown) else ['%s: %r is shown, and %r printed' % (name, shown, printed)]
     return wrong
+
+
+def wrong_page(name, work):
+    page = text_of(TOP, name)
+    has_none = name in PAGES and not any(STARTS.match(lines[0]) for _, lines in blocks(page))
+    return wrong_blocks(name, page, work) + ['%s has no command lines' % name] * has_none
 
 
 def wrong_bulk(program, work):
@@ -107,7 +152,7 @@ def command_lines(program):
     for name in PAGES + [name for name in OTHERS if name not in PAGES] + designs:
         with tempfile.TemporaryDirectory() as work:
             furnish(program, work)
-            wrong += wrong_lines(program, name, work)
+            wrong += wrong_page(name, work)
             wrong += wrong_bulk(program, work) if name == 'docs/SHIPPING.md' and shutil.which('xargs') else []
             wrong += wrong_remade(work) if name == 'examples/README.md' else []
     return '; '.join(wrong)
@@ -115,10 +160,19 @@ def command_lines(program):
 
 def first_diagram(program):
     """The diagram that the README explains, and that the page on files begins with, is examples/first.json."""
-    with open(os.path.join(EXAMPLES, 'first.json')) as file:
-        first = file.read()
-    with open(os.path.join(TOP, 'README.md')) as file:
-        shown = re.search(r'^    \{"objs".*?^    \]\}\n', file.read(), re.M | re.S).group(0)
-    with open(os.path.join(TOP, 'docs', 'FORMAT.md')) as file:
-        begun = re.search(r'^```diagram\n(.*?)^```$', file.read(), re.M | re.S).group(1)
+    first = text_of(EXAMPLES, 'first.json')
+    shown = re.search(r'^    \{"objs".*?^    \]\}\n', text_of(TOP, 'README.md'), re.M | re.S).group(0)
+    begun = re.search(r'^```diagram\n(.*?)^```$', text_of(TOP, 'docs', 'FORMAT.md'), re.M | re.S).group(1)
     return '' if re.sub(r'^    ', '', shown, flags=re.M) == first == begun else 'the pages show another diagram than examples/first.json'
+
+
+def clocks_shown(program):
+    """A superblock that the page for users of Scicos shows, in the place of the first diagram's clock, gives that one's trace."""
+    first, wrong = json.loads(text_of(EXAMPLES, 'first.json')), []
+    due = in_folder(program, ['simulate', 'd', 'i', '12', '10'], d=json.dumps(first).encode(), i=b'[]')
+    for word, lines in blocks(text_of(TOP, 'docs', 'SCICOS.md')):
+        if word == 'json':
+            objs = [json.loads('\n'.join(lines)), first['objs'][1], {'obj': 'Deleted'}, first['objs'][3]]
+            given = in_folder(program, ['simulate', 'd', 'i', '12', '10'], d=json.dumps({'objs': objs}).encode(), i=b'[]')
+            wrong += [] if given == due and due[2] == 0 else ['%r in place of %r' % (given, due)]
+    return '; '.join(wrong)

@@ -6,6 +6,7 @@ import subprocess
 import tempfile
 
 from formats import HERE, around, parts
+from lacking import untried
 from refusals import LIMITS, REFUSALS, TEXTS
 
 DOCS = os.path.join(HERE, '..', 'docs')
@@ -141,6 +142,7 @@ def schema(program):
     """The schema and the program agree as the first line of this file says, where Python's jsonschema is there to tell."""
     judge = validator()
     if judge is None:
+        untried('the schema of diagrams', "Python's jsonschema")
         return ''
     bases = list(accepted())
     wrong = ['refused by the schema: %s' % json.dumps(diagram) for diagram in bases if not judge.is_valid(diagram)]
