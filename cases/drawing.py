@@ -4,12 +4,12 @@ import html
 import json
 import os
 import re
-import shutil
 import subprocess
 import sys
 import tempfile
 
 from formats import HERE, parts
+from lacking import lacks
 from refusals import CLOCK, FROM, block, constant, event, gain, superblock, wire
 from schema import example_files
 
@@ -28,9 +28,10 @@ CROSSED = [CLOCK, constant(1), constant(2), superblock(INSIDE, ins=[1, 1]), wire
 BRANCHED = ('b1>b1 b1>b7 b7.1>b8 b7.2>b9', 'b2>b5 b3>b4 b6>b7')
 
 
-def drawn(program, words, diagram):
-    """The text of a drawing, and what is said beside it."""
-    run = subprocess.run([sys.executable, '-B', os.path.join(TOP, 'tools', 'draw')] + words + [program, diagram], capture_output=True, timeout=120)
+def drawn(program, words, diagram, path=os.environ.get('PATH', '')):
+    """The text of a drawing, and what is said beside it, where commands are looked up in a path."""
+    run = subprocess.run([sys.executable, '-B', os.path.join(TOP, 'tools', 'draw')] + words + [program, diagram], capture_output=True, timeout=120,
+                         env=dict(os.environ, PATH=path))
     return run.stdout.decode(), run.stderr.decode(), run.returncode
 
 
@@ -118,18 +119,53 @@ def picture_of(path):
 
 def pictures(program):
     """Each example's picture shows the blocks and links that are drawn now, and a page has it; where Graphviz is installed it draws such pictures."""
-    wrong = []
+    wrong, is_bare = [], lacks('pictures drawn anew', 'dot')
     for path in example_files():
         due = wanted(drawn(program, ['--text'], path)[0])
         picture, page, words = picture_of(path)
         with open(picture) as file:
             found = [file.read()]
-        found += [drawn(program, [], path)[0]] if shutil.which('dot') else []
+        found += [] if is_bare else [drawn(program, [], path)[0]]
         wrong += ['%s shows %r in place of %r' % (picture, shown(content), due) for content in found if shown(content) != due or '<!--' in content]
         with open(page) as file:
             content = file.read()
         wrong += ['%s has no %s' % (page, part.strip()) for part in words if part not in content]
     return '; '.join(wrong)
+
+
+# what stands in for `dot`: it notes its words and what it reads, and answers with this status
+DOT = """#!%s
+import sys
+open(%r, 'w').write(' '.join(sys.argv[1:]) + '\\n' + sys.stdin.read())
+print('<!-- a comment -->\\n<svg/>')
+sys.exit(%d)
+"""
+
+
+def wrong_dot(program, diagram, text, status):
+    """What is wrong where `dot` answers with a status: it gets the text of the graph, and what it makes of that is written without comments."""
+    with tempfile.TemporaryDirectory() as work:
+        took = os.path.join(work, 'took')
+        with open(os.path.join(work, 'dot'), 'w') as file:
+            file.write(DOT % (sys.executable, took, status))
+        os.chmod(file.name, 0o755)
+        given = drawn(program, [], diagram, work)
+        with open(took) as file:
+            read = file.read()
+    return [] if (given, read) == (('<svg/>\n', '', status), '-Tsvg\n' + text) else ['dot with status %d: %r, %r' % (status, given, read)]
+
+
+def without_dot(program):
+    """Where there is no `dot`, the text of the graph is written, and that is said; what breaks a rule isn't drawn with it or without."""
+    diagram = os.path.join(EXAMPLES, 'branches.json')
+    text, said, status = drawn(program, ['--text'], diagram)
+    wrong = [] if (said, status) == ('', 0) and text.startswith('digraph ') else ['--text: %r' % ((text, said, status),)]
+    with tempfile.TemporaryDirectory() as nothing:
+        bare = drawn(program, [], diagram, nothing)
+        refused = drawn(program, [], os.path.join(EXAMPLES, 'loop.json'), nothing)
+    wrong += [] if bare == (text, "draw: dot isn't installed, so this is the graph's text\n", 0) else ['without dot: %r' % (bare,)]
+    wrong += [] if refused == ('', 'refused 24 AlgebraicLoop at 3 1 1 3 4\n', 1) else ['refused: %r' % (refused,)]
+    return '; '.join(wrong + wrong_dot(program, diagram, text, 0) + wrong_dot(program, diagram, text, 1))
 
 
 def numbers(program):
