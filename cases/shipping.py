@@ -1,5 +1,6 @@
-"""The page on targets: its host and examples/paced-host.c are C without a warning, a paced run has the trace and takes its time, sizes are told, and a
-checker names the rules of the page."""
+"""The page on targets: its host and examples/paced-host.c are C without a warning, a paced run has the trace and takes its time, sizes are told, and what
+is said of the names and warnings of generated programs, and of the rules that a checker names, holds of all designs."""
+import concurrent.futures
 import glob
 import os
 import re
@@ -8,10 +9,14 @@ import subprocess
 import tempfile
 import time
 
+from lacking import lacks, untried
+
 HERE = os.path.dirname(os.path.abspath(__file__))
 TOP = os.path.join(HERE, '..')
 EXAMPLES = os.path.join(TOP, 'examples')
 FLAGS = ['-std=c99', '-Wall', '-Wextra', '-pedantic', '-Werror', '-O2']
+SPARE = ['-Wno-unused-function', '-Wno-unused-variable']
+PROGRAMS = sorted(glob.glob(os.path.join(EXAMPLES, '*', 'program.c')))
 
 
 def text(*path):
@@ -38,23 +43,28 @@ def wrong_run(program, work):
 
 def paced(program):
     """A generated program with the paced host: each event waits for its date."""
-    if shutil.which('gcc') is None:
+    if lacks('a paced run', 'gcc'):
         return ''
     with tempfile.TemporaryDirectory() as work:
         with open(os.path.join(work, 'd.c'), 'wb') as file:
             file.write(subprocess.run([program, 'ccode', os.path.join(EXAMPLES, 'counter.json')], capture_output=True, timeout=120).stdout)
         host = os.path.join(EXAMPLES, 'paced-host.c')
         return (compiled(FLAGS + ['-D_POSIX_C_SOURCE=200809L', '-c', '-o', 'host.o', host], work)
-                or compiled(FLAGS + ['-Wno-unused-function', '-Wno-unused-variable', '-o', 'paced', 'd.c', 'host.o'], work)
+                or compiled(FLAGS + SPARE + ['-o', 'paced', 'd.c', 'host.o'], work)
                 or wrong_run(program, work))
+
+
+def outside(content):
+    """The functions that a generated program declares."""
+    return re.findall(r'^extern .*?(sci_\w+)\(', content, re.M)
 
 
 def targets(program):
     """The host on the page is C, and the page tells of each function that a generated program declares."""
     page = text(TOP, 'docs', 'SHIPPING.md')
-    named = re.findall(r'^extern .*?(sci_\w+)\(', text(EXAMPLES, 'primes.c'), re.M)
+    named = outside(text(EXAMPLES, 'primes.c'))
     wrong = ['%s is not on the page' % name for name in named if '| `%s(' % name not in page]
-    if shutil.which('gcc') is not None:
+    if not lacks('the hosts of docs/SHIPPING.md', 'gcc'):
         with tempfile.TemporaryDirectory() as work:
             for number, part in enumerate(re.findall(r'^```c\n(.*?)^```$', page, re.M | re.S)):
                 with open(os.path.join(work, '%d.c' % number), 'w') as file:
@@ -63,9 +73,32 @@ def targets(program):
     return '; '.join(told for told in wrong + ([] if len(named) == 9 else ['not nine functions']) if told)
 
 
+def wrong_object(path, declared):
+    """What is wrong with what the compiler makes of a program: there is no warning, it calls none but the functions that it declares, and defines for others
+    `sci_main` alone, which has no declaration."""
+    with tempfile.TemporaryDirectory() as work:
+        told = compiled(FLAGS + SPARE + ['-c', '-o', 'o', path], work)
+        bare = re.findall(r': error: (.*)', compiled(['-std=c99', '-Werror', '-Wmissing-prototypes', '-fsyntax-only', path], work))
+        names = [line.split() for line in subprocess.run(['nm', '-g', 'o'], cwd=work, capture_output=True, text=True, timeout=120).stdout.splitlines()]
+    called, defined = ({name for *_, kind, name in names if (kind == 'U') == is_called} for is_called in (True, False))
+    same = called <= set(declared) and defined == {'sci_main'} and len(bare) == 1 and 'sci_main' in bare[0]
+    return [told] * bool(told) + ([] if same else ['it calls %r, defines %r, and is told %r' % (called, defined, bare)])
+
+
+def program_names(program):
+    """The C of each design calls the nine functions and nothing else, and others see `sci_main` alone; compilers warn as the page says."""
+    declared, is_bare, wrong = outside(text(EXAMPLES, 'primes.c')), lacks('what is made of the programs of the designs', 'gcc', 'nm'), []
+    for path in PROGRAMS:
+        content = text(path)
+        called = set(re.findall(r'\b(sci_\w+)\(', content)) - {'sci_main'}
+        told = [] if outside(content) == declared and called <= set(declared) else ['it declares %r and calls %r' % (outside(content), called)]
+        wrong += ['%s: %s' % (path, line) for line in told + ([] if is_bare else wrong_object(path, declared))]
+    return '; '.join(wrong) or ('' if len(PROGRAMS) == 10 else 'not ten designs')
+
+
 def sizes(program):
     """The table of sizes has a row of five numbers for a diagram, and the one on the page is what is printed of the designs."""
-    if shutil.which('gcc') is None or shutil.which('size') is None:
+    if lacks('tools/sizes', 'gcc', 'size'):
         return ''
     run = subprocess.run([os.path.join(TOP, 'tools', 'sizes'), program, os.path.join(EXAMPLES, 'counter.json')], capture_output=True, timeout=120)
     same = run.returncode == 0 and re.search(r'^\| counter\.json \| 4 (\| \d+ ){4}\|$', run.stdout.decode(), re.M)
@@ -83,16 +116,31 @@ def wrong_table(program):
     return '' if given == due and due else '%r in place of %r' % (given, due)
 
 
-def checkers(program):
-    """On the C of the counter cppcheck's MISRA addon names the rules of the page, each as often, where the version is the page's."""
-    page = text(TOP, 'docs', 'SHIPPING.md')
-    version = subprocess.run(['cppcheck', '--version'], capture_output=True).stdout.decode().split() if shutil.which('cppcheck') else ['none']
-    if '(%s)' % version[-1] not in page:
-        return ''
-    with tempfile.TemporaryDirectory() as work:
-        with open(os.path.join(work, 'counter.c'), 'wb') as file:
-            file.write(subprocess.run([program, 'ccode', os.path.join(EXAMPLES, 'counter.json')], capture_output=True, timeout=120).stdout)
-        run = subprocess.run(['cppcheck', '--addon=misra', '--std=c99', 'counter.c'], cwd=work, capture_output=True, timeout=120)
+def rules_named(path):
+    """How often cppcheck's MISRA addon names each rule on a C file."""
+    with tempfile.TemporaryDirectory() as work:  # where it leaves what it makes
+        shutil.copy(path, os.path.join(work, 'c.c'))
+        run = subprocess.run(['cppcheck', '--addon=misra', '--std=c99', 'c.c'], cwd=work, capture_output=True, timeout=120)
     named = re.findall(r'misra-c2012-([\d.]+)', run.stderr.decode())
-    given, due = {rule: named.count(rule) for rule in named}, dict(re.findall(r'^\| ([\d.]+) \| (\d+) \|', page, re.M))
-    return '' if {rule: str(times) for rule, times in given.items()} == due and due else '%r in place of %r' % (given, due)
+    return {rule: str(named.count(rule)) for rule in named}
+
+
+def checkers(program):
+    """On the C of the counter cppcheck's MISRA addon names the rules of the page, each as often, and on that of the designs no other, where the version is
+    the page's."""
+    if lacks('the rules of MISRA', 'cppcheck'):
+        return ''
+    page = text(TOP, 'docs', 'SHIPPING.md')
+    version = subprocess.run(['cppcheck', '--version'], capture_output=True).stdout.decode().split()[-1]
+    if '(%s)' % version not in page:
+        untried('the rules of MISRA', 'the version of cppcheck that docs/SHIPPING.md names, here is ' + version)
+        return ''
+    due = dict(re.findall(r'^\| ([\d.]+) \| (\d+) \|', page, re.M))
+    with tempfile.TemporaryDirectory() as work, concurrent.futures.ThreadPoolExecutor(os.cpu_count()) as pool:
+        counter = os.path.join(work, 'counter.c')
+        with open(counter, 'wb') as file:
+            file.write(subprocess.run([program, 'ccode', os.path.join(EXAMPLES, 'counter.json')], capture_output=True, timeout=120).stdout)
+        given, *others = pool.map(rules_named, [counter] + PROGRAMS)
+    wrong = [] if given == due and due else ['%r in place of %r' % (given, due)]
+    wrong += ['%s: %r' % (path, named) for path, named in zip(PROGRAMS, others) if not set(named) <= set(due) or named.get('8.4') != '1']
+    return '; '.join(wrong)
