@@ -1,15 +1,16 @@
-"""Value change dumps: of runs, with a mistake, at the limits, and read by GTKWave's and sigrok's own readers where these are installed.
+"""Value change dumps: of runs, with a mistake, at the limits, and read by GTKWave's own readers where these are installed.
 
 What is due comes from tools/plain_vcd.py; the first wrong line of the dump of the counter is also written here by hand.
 """
+import json
 import os
-import re
-import shutil
 import subprocess
 import tempfile
 
+from lacking import lacks
 from plain import EXAMPLES, in_folder, plain, ring_of_delays, simulations
 from streams import HERE, READ_FAULT, run, text, without
+import plain_kinds as kinds
 import plain_vcd
 import text_changes
 
@@ -157,69 +158,84 @@ def dumped_in_order(program):
     return '; '.join(filter(None, wrong))[:800]
 
 
+def number_of(bits):
+    return int(bits, 2) if set(bits) <= {'0', '1'} else bits
+
+
 def values_of(content):
     """What a dump in any spelling says, as readers of the field take it: of each name the ticks with its values, as numbers of its bits."""
-    names, now, found = {}, 0, {}
-    for line in re.sub(r'\$(?!var|end\b)\w+[^$]*\$end', '', content.replace('$dumpvars', '')).splitlines():
-        var = re.match(r'\$var \w+ +(\d+) (\S+) (\S+)( \[\S+\])? \$end', line)
-        change = re.match(r'b([01]+) (\S+)$|([01])(\S+)$', line)
-        if var:
-            names[var.group(2)] = var.group(3)
-            found[var.group(3)] = {}
-        elif line.startswith('#'):
-            now = int(line[1:])
-        elif change and (change.group(2) or change.group(4)) in names:
-            found[names[change.group(2) or change.group(4)]][now] = int(change.group(1) or change.group(3), 2)
+    names, found, now, words = {}, {}, 0, iter(content.split())
+    for word in words:
+        if word == '$var':
+            _, _, code, name = (next(words) for _ in range(4))
+            names[code], found[name] = name, {}
+        elif word in ('$date', '$version', '$timescale', '$scope', '$comment'):
+            while next(words) != '$end':
+                pass
+        elif word[0] == '#':
+            now = int(word[1:])
+        elif word[0] == 'b':
+            found.setdefault(names.get(next(words)), {})[now] = number_of(word[1:])
+        elif word[0] in '01xz':
+            found.setdefault(names.get(word[1:]), {})[now] = number_of(word[0])
     return found
 
 
-def changes_of(found):
+def changes_of(values):
     """Of each name the ticks with a value that is another than before."""
-    return {name: [(tick, value) for k, (tick, value) in enumerate(sorted(ticks.items())) if k == 0 or value != sorted(ticks.items())[k - 1][1]]
-            for name, ticks in found.items()}
+    changes = {name: [] for name in values}
+    for name, ticks in values.items():
+        for tick, value in sorted(ticks.items()):
+            changes[name] += [(tick, value)] if not changes[name] or changes[name][-1][1] != value else []
+    return changes
 
 
-def there_and_back(dump, there, back, form):
-    """What a reader makes of a dump, written again as a dump; None where it doesn't take it."""
+def changes_due(dump):
+    """The same of the signals of a dump as they are meant."""
+    due = [[(0, value)] for value in dump.first]
+    for tick, changes in dump.ticks:
+        for signal, value in changes:
+            due[signal - 1].append((tick, value))
+    return {'b%d_%d_%d' % place: [(tick, kinds.pattern(kind, value)) for tick, value in changes] for (kind, place), changes in zip(dump.signals, due)}
+
+
+def far_events():
+    """The README's first diagram with the longest period, so that ticks are past 2^32."""
+    diagram = json.loads(text(EXAMPLES, 'first.json'))
+    diagram['objs'][0]['model']['ipar'] = [2**31 - 1]
+    return json.dumps(diagram).encode()
+
+
+def runs_with_signals(program):
+    """Of each run that has signals its name, the dump that the program writes, and the dump as it is meant."""
+    more = [('far events', far_events(), b'[]', str(2**62), '20'), ('65,536 signals', ring_of_delays(), b'[]', '100', '4')]
+    for name, diagram, inputs, until, limit in [*simulations(), *more]:
+        dump, _ = plain_vcd.of_run(*plain(diagram, inputs), int(until), int(limit))
+        if dump.signals:
+            yield name, in_folder(program, ['vcd', 'd', 'i', until, limit], d=diagram, i=inputs)[0], dump
+
+
+def there_and_back(content, there, back):
+    """What a reader makes of a dump, written again as a dump, and what both say."""
     with tempfile.TemporaryDirectory() as work:
         with open(os.path.join(work, 'v.vcd'), 'wb') as file:
-            file.write(dump)
-        read = subprocess.run([there, 'v.vcd', form], cwd=work, capture_output=True, timeout=60)
-        again = subprocess.run([back, form], cwd=work, capture_output=True, timeout=60)
-        return again.stdout.decode() if read.returncode == again.returncode == 0 else None
+            file.write(content)
+        ran = [subprocess.run(words, cwd=work, capture_output=True, timeout=60) for words in ([there, 'v.vcd', 'v.other'], [back, 'v.other'])]
+        return ran[1].stdout.decode(), [(run.stderr[-200:], run.returncode) for run in ran]
 
 
 def gtkwave(program):
-    """The readers of GTKWave's three formats take the dumps, and give them back with the same values, where they are installed. Two of them want a
-    later tick than 0."""
-    wrong = []
+    """The readers of GTKWave's three formats take each dump that has signals, and give it back with the same values, where they are installed. Two of them
+    don't take one without a later tick than 0."""
+    wrong, runs = [], list(runs_with_signals(program))
     for there, back in (('vcd2fst', 'fst2vcd'), ('vcd2lxt2', 'lxt2vcd'), ('vcd2vzt', 'vzt2vcd')):
-        if not (shutil.which(there) and shutil.which(back)):
-            print('gtkwave: %s and %s are not installed, so this is not tried' % (there, back))
+        if lacks('dumps read by ' + there, there, back):
             continue
-        for name, diagram, inputs, until, limit in simulations():
-            dump = in_folder(program, ['vcd', 'd', 'i', until, limit], d=diagram, i=inputs)[0]
-            tried = b'$var' in dump and (there == 'vcd2fst' or dump.count(b'#') > 1)
-            again = there_and_back(dump, there, back, 'v.other') if tried else ''
-            same = not tried or again is not None and changes_of(values_of(again)) == changes_of(values_of(dump.decode()))
-            wrong += [] if same and dump else ['%s, %s: %r' % (there, name, again)]
-    return '; '.join(wrong)[:800]
-
-
-def sigrok(program):
-    """sigrok's reader takes a dump, where it is installed and takes signals of several bits (libsigrok 0.5.2 doesn't)."""
-    if not shutil.which('sigrok-cli'):
-        print('sigrok: sigrok-cli is not installed, so this is not tried')
-        return ''
-    dump = in_folder(program, ['vcd', 'd', 'i', '30', '100'], d=text(HERE, 'vcd-meter', 'd'), i=text(HERE, 'vcd-meter', 'i'))[0]
-    with tempfile.TemporaryDirectory() as work:
-        with open(os.path.join(work, 'v.vcd'), 'wb') as file:
-            file.write(dump)
-        read = subprocess.run(['sigrok-cli', '-l', '5', '-I', 'vcd', '-i', 'v.vcd', '-O', 'csv'], cwd=work, capture_output=True, timeout=60)
-    if b'Unexpected vector format' in read.stdout + read.stderr:
-        print('sigrok: this sigrok-cli takes single bits alone, so this is not tried')
-        return ''
-    return '' if read.returncode == 0 and b'error' not in read.stderr.lower() else repr(read)
+        for name, content, dump in runs:
+            if dump.ticks or there == 'vcd2fst':
+                again, told = there_and_back(content, there, back)
+                wrong += [] if changes_of(values_of(again)) == changes_due(dump) else ['%s, %s: %r, %r' % (there, name, told, again[-300:])]
+    return '; '.join(wrong)[:800] or ('' if len(runs) > 30 else 'too few runs: %d' % len(runs))
 
 
 def waveforms(program):
@@ -249,4 +265,4 @@ def text_file(work, content):
     return file.name
 
 
-WAVES = [dumps_of_runs, wrong_dumps, changed_dumps, cut_dumps, long_dumps, dumps_at_the_limits, largest_dump, dumped_in_order, gtkwave, sigrok, waveforms]
+WAVES = [dumps_of_runs, wrong_dumps, changed_dumps, cut_dumps, long_dumps, dumps_at_the_limits, largest_dump, dumped_in_order, gtkwave, waveforms]
