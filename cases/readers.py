@@ -93,6 +93,20 @@ def most_elements():
             'save 1\nat 0 0\n' + ''.join('held %d%s\n' % (k, (' %d' % k) * 256) for k in numbers) + 'pend 7 257 1\ndone\n', dump)
 
 
+def one_union(timers):
+    """So many timers, each of which activates all of them through one union; the first fires at date 7."""
+    objs = [block('EVTDLY_c', evtin=1, evtout=1, ipar=1, firing=-1 if k else 7) for k in range(timers)] + [block('CLKSOM_f', evtin=1, evtout=1)]
+    return objs + [event((k, 1), (timers + 1, 1)) for k in range(1, timers + 1)] + [event((timers + 1, 1), (k, 1)) for k in range(1, timers + 1)]
+
+
+def most_entries():
+    """512 timers make 262,144 entries of schedules. Each event moves the pending ones of the others."""
+    numbers = range(1, 513)
+    rows = ''.join('%d always\n' % k for k in numbers)
+    return (one_union(512), '512 513 262144 0', ''.join('%d %d EVTDLY_c\n' % (k, k) for k in numbers), 'source start\n' + ''.join('source %d.1\n%s' % (k, rows) for k in numbers),
+            'start\n' + ''.join('event %d 1 1\n' % date for date in range(7, 11)) + 'end until\n', 'save 1\nat 0 0\npend 7 1 1\ndone\n', no_signals())
+
+
 def longest():
     """A clock, in a text of the greatest length."""
     content = text(HERE, '..', 'examples', 'clock.json')
@@ -101,9 +115,9 @@ def longest():
 
 
 def accepted_limits(program):
-    """As many blocks, links and elements as there may be, and as many bytes: each command says what is due."""
+    """As many blocks, links, elements and entries of schedules as there may be, and as many bytes: each command says what is due."""
     wrong = []
-    for limit in (most_blocks, most_links, most_elements, longest):
+    for limit in (most_blocks, most_links, most_elements, most_entries, longest):
         diagram, *due = limit()
         content = diagram if isinstance(diagram, bytes) else json.dumps({'objs': diagram}).encode()
         wrong += ['%s, %s' % (limit.__name__, told) for told in wrong_accepted(program, content, *due)]
@@ -116,4 +130,9 @@ def too_long_diagram(program):
     return wrong_answers(program, content + b' ' * (MOST + 1 - len(content)), (b'', b'refused 29 FileTooLong at - 1 16777216\n', 1))
 
 
-LIMITED = [blank_files, accepted_limits, too_long_diagram]
+def too_long_schedule(program):
+    """One timer more is refused."""
+    return wrong_answers(program, json.dumps({'objs': one_union(513)}).encode(), (b'', b'refused 25 ScheduleTooLong at - 263169\n', 1))
+
+
+LIMITED = [blank_files, accepted_limits, too_long_diagram, too_long_schedule]
