@@ -85,8 +85,9 @@ def full_disk(program):
     return '; '.join(wrong)
 
 
-def a_file_with_room(program):
-    """Standard output is a file that may have so many bytes and no more: it gets a front of what is due, and the fault is told."""
+def a_file_with_room(program, steps=40):
+    """Standard output is a file that may have so many bytes and no more: it gets a front of what is due, and the fault is told. So many rooms are tried
+    of each answer, or with None every one."""
     def limited(room):
         def limit():
             signal.signal(signal.SIGXFSZ, signal.SIG_IGN)
@@ -95,7 +96,7 @@ def a_file_with_room(program):
     wrong = []
     with tempfile.TemporaryDirectory() as work:
         for words, due in meter(program, work):
-            for room in sorted({0, 1, len(due) - 1, len(due), *range(2, len(due), 1 + len(due) // 40)}):
+            for room in sorted({0, 1, len(due) - 1, len(due), *range(2, len(due), 1 + len(due) // steps if steps else 1)}):
                 with open(os.path.join(work, 'out'), 'wb') as out:
                     ended = subprocess.run([program] + words, cwd=work, stdout=out, stderr=subprocess.PIPE, timeout=60,
                                            restore_signals=False, preexec_fn=limited(room))
