@@ -2,7 +2,7 @@
 """Writes crates/sci_rows/proofs/Rows.antt: rows of the table of kinds 14 to 34, each proved by computing.
 
 What each kind gives is worked out here in plain Python numbers, apart from the program's own definitions. Run it at the top of
-the repository. `math_rows.py` has rows of kinds 1 to 13, and `corner_values.py` tests of their banks.
+the repository. `math_rows.py` has rows of kinds 1 to 13, and `corner_table.py` those that run through their banks.
 """
 
 WIDTH = {3: 32, 4: 16, 5: 8, 6: 32, 7: 16, 8: 8}

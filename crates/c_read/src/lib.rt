@@ -4,8 +4,6 @@
 pub mod laws;
 mod names;
 mod reader;
-#[cfg(test)]
-mod tests;
 
 ghost use Rattle.std.specs.Prelude.{◌≡◌, ℕ};
 ghost use Rattle.c_ast.specs.Syntax.{Whole};

@@ -140,8 +140,8 @@ impl<'a> Comparing<'a> {
 }
 
 impl<'a> Sink for Comparing<'a> {
-    ghost use Rattle.std.specs.Prelude.{◌≡◌, ◌<◌, [], length, IsOk, OnOk};
-    ghost use Rattle.sci_io.specs.Taken.{Writes};
+    ghost use Rattle.std.specs.Prelude.{◌≡◌, ◌<◌, [], length, false, IsOk, OnOk};
+    ghost use Rattle.sci_io.specs.Taken.{Writes, before_text};
     ghost use Rattle.sci_agree.specs.Compared.{state_of};
 
     ghost state = { λ s. state_of s };
@@ -172,7 +172,10 @@ impl<'a> Sink for Comparing<'a> {
         Ok(())
     }
 
-    fn begin(&mut self) {
+    fn begin(&mut self)
+        ensures begun { state_of self.new ≡ before_text (state_of self.old) }
+        ensures kept { self.new ≡ record { text = self.old.text; at = self.old.at; lines = self.old.lines; wrong = self.old.wrong; faults = self.old.faults; begun = false } }
+    {
         self.begun = false;
     }
 

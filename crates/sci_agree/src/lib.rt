@@ -21,6 +21,3 @@ pub fn verdicts_name_the_line()
     ensures yes { YesIsDue }
     ensures no { NoIsFirst }
 {}
-
-#[cfg(test)]
-mod tests;

@@ -13,8 +13,6 @@ mod relational_op;
 mod select;
 mod shift;
 mod switch2;
-#[cfg(test)]
-mod tests;
 
 pub use and_log::{AndLog, AndLogRule};
 pub use bit_clear::{BitClear, BitClearRule};

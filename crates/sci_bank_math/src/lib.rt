@@ -5,8 +5,6 @@
 mod abs_value;
 mod const_values;
 mod convert;
-#[cfg(test)]
-mod corners;
 mod dead_band;
 mod demux;
 mod extractor;
@@ -17,8 +15,6 @@ mod product;
 mod saturation;
 mod signum;
 mod summation;
-#[cfg(test)]
-mod tests;
 
 pub use abs_value::{AbsValue, AbsValueRule};
 pub use const_values::{Const, ConstRule};

@@ -16,8 +16,6 @@ mod register;
 mod samp_hold;
 mod sensor;
 mod stateful;
-#[cfg(test)]
-mod tests;
 
 pub use branching::{BranchRule, Branching};
 pub use delayed::{DelayRule, Delayed};

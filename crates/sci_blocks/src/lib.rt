@@ -13,8 +13,6 @@ mod part;
 mod pass_through;
 mod superblock;
 mod tally;
-#[cfg(test)]
-mod tests;
 mod walk;
 
 pub use class::{LinkType, PortClass};

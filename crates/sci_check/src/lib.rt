@@ -4,8 +4,6 @@
 ghost use Rattle.sci_check.specs.Laws.{CheckedLaw};
 
 pub mod check;
-#[cfg(test)]
-mod tests;
 
 pub use check::check_spec;
 

@@ -12,8 +12,6 @@ mod numbers;
 mod pass_through;
 mod places;
 mod sorts;
-#[cfg(test)]
-mod tests;
 mod walk;
 
 pub use counts::{count_blocks, count_links};

@@ -13,8 +13,6 @@ mod refusals;
 mod rows;
 pub mod single;
 pub mod steps;
-#[cfg(test)]
-mod tests;
 mod wires;
 
 pub use flat::flatten;

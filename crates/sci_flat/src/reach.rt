@@ -4,8 +4,6 @@ mod forward;
 mod origins;
 mod search;
 mod successors;
-#[cfg(test)]
-mod tests;
 
 pub use forward::reached;
 pub use origins::find_origins;

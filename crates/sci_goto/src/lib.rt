@@ -10,8 +10,6 @@ mod placed;
 mod served;
 mod serving;
 mod tag;
-#[cfg(test)]
-mod tests;
 
 pub use laws::{names_law, untagged_law};
 pub use served::serve;

@@ -1,7 +1,5 @@
 // A JSON text (RFC 8259) that was read, and its values where they stand in it.
 mod number;
-#[cfg(test)]
-mod tests;
 mod value;
 
 ghost use Rattle.std.specs.Prelude.{◌≡◌, ◌&&◌, nat_le, map, Some, None, Err, is_some, IfOk, IsUtf8};

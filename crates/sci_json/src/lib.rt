@@ -14,8 +14,6 @@ use std::alloc::Global;
 use thiserror::Error;
 
 pub mod document;
-#[cfg(test)]
-mod tests;
 
 /// Why a field was not read.
 #[derive(Clone, Copy, Debug, PartialEq, Eq, Drop, Error)]

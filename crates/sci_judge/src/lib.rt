@@ -35,9 +35,9 @@ use sci_trace::inputs::Inputs;
 use std::alloc::Global;
 
 /// The verdict on a text, where the trace of the net's run is due, past no date over `until`, in ticks of at most 2^62, and for at most
-/// `limit` events, at most 1,000,000. No source of the net has a loop, and each sensor's column is in range. All banks of the library
-/// are reset, and an instance of each block is added; all memory is taken before the run, which ends at the first byte that differs. Want
-/// of memory is the only error; the banks may hold any instances then.
+/// `limit` events, at most 1,000,000. No source of the net has a loop, so there is such a run, and each sensor's column is in range.
+/// All banks of the library are reset, and an instance of each block is added; all memory is taken before the run, which ends at the first
+/// byte that differs. Want of memory is the only error; the banks may hold any instances then.
 pub fn judge_trace(
     alloc: Global,
     n: Net,
@@ -53,7 +53,8 @@ pub fn judge_trace(
     requires columns { AreColumns n inputs.now }
     requires full { IsFull (⟦<Library as Banks>⟧.banks lib.old) }
     requires in_order { AreInOrder (⟦<Library as Banks>⟧.banks lib.old) }
-    ensures verdict { IfOk result (λ v. (os : List Obs) → IsRun n inputs.now until limit os → IsVerdict (text os) trace.now v) }
+    ensures verdict { IfOk result (λ v. (os : List Obs) × IsRun n inputs.now until limit os × IsVerdict (text os) trace.now v) }
+    ensures each_run { IfOk result (λ v. (os : List Obs) → IsRun n inputs.now until limit os → IsVerdict (text os) trace.now v) }
     ensures full { IsFull (⟦<Library as Banks>⟧.banks lib.new) }
     ensures in_order { AreInOrder (⟦<Library as Banks>⟧.banks lib.new) }
 {

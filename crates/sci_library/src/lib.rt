@@ -10,8 +10,6 @@ ghost use Rattle.sci_bank.specs.Library.{next_of};
 ghost use Rattle.sci_library.specs.Banks.{fresh, IsBegun};
 
 mod any_bank;
-#[cfg(test)]
-mod tests;
 
 pub use any_bank::AnyBank;
 use sci_bank::Bank;

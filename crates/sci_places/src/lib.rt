@@ -19,6 +19,3 @@ pub fn inputs_are_gathered()
 pub fn outputs_are_written()
     ensures { OutputsAreWritten }
 {}
-
-#[cfg(test)]
-mod tests;

@@ -9,7 +9,7 @@ ghost use Rattle.sci_bank.specs.Library.{AreInOrder, IsFull};
 ghost use Rattle.sci_sim.specs.At.{IsAtStart};
 ghost use Rattle.sci_resume.specs.Behind.{HasEnded, IsReached};
 ghost use Rattle.sci_resume.specs.Stands.{StandsBehind};
-ghost use Rattle.sci_resume.specs.Laws.{OneSaved, OneEnd, NotBoth, SavedIsValid, RunGoesOn};
+ghost use Rattle.sci_resume.specs.Laws.{OneSaved, OneEnd, NotBoth, SomeReached, SavedIsValid, RunGoesOn};
 
 use sci_bank::library::{Banks, Library};
 use sci_base::NoMemory;
@@ -92,12 +92,13 @@ pub fn run_to(
     }
 }
 
-/// Behind a reaction of a run one thing is saved, which may be read again, or the run is over; and not both. What was observed up to there, and what
+/// Behind each reaction of a run one thing is saved, which may be read again, or the run is over; and not both. What was observed up to there, and what
 /// is observed of the run that goes on from what was saved, are the whole run.
 pub fn one_is_saved()
     ensures saved { OneSaved }
     ensures ended { OneEnd }
     ensures not_both { NotBoth }
+    ensures some { SomeReached }
     ensures valid { SavedIsValid }
     ensures goes_on { RunGoesOn }
 {}

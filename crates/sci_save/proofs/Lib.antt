@@ -7,6 +7,7 @@ pub mod Whole
 pub mod Blaming
 pub mod Writing
 pub mod InRange
+pub mod Short
 pub mod Resumed
 pub mod NumberLoops
 pub mod Loops

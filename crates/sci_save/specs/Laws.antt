@@ -1,5 +1,5 @@
 -- What holds of all texts and of all that may be saved.
-use Rattle.std.specs.Prelude.{◌≡◌, ◌⊎◌, ℕ, List}
+use Rattle.std.specs.Prelude.{◌≡◌, ◌⊎◌, ◌≤◌, ℕ, List, length}
 use Rattle.sci_net.specs.Parts.{Parts}
 use Rattle.sci_net.specs.Net.{IsNet}
 use Rattle.sci_reaction.specs.Memory.{Columns, IsMemory}
@@ -28,3 +28,7 @@ OneIsDue = (n : Parts) (i : Columns) (bytes : List ℕ) → IsNet n → AreShort
 -- the memory that was saved is in range
 abbrev pub SavedInRange : Type 0
 SavedInRange = (n : Parts) (m : Saved) → IsNet n → IsShaped n m → IsMemory n (memory_of m)
+
+-- the text of what may be saved has no more bytes than a file of what was saved may have
+abbrev pub SavedIsShort : Type 0
+SavedIsShort = (n : Parts) (i : Columns) (m : Saved) → IsNet n → AreShort i → IsValid n i m → length (saved_text n m) ≤ 67108864

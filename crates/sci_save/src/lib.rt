@@ -5,7 +5,7 @@
 //! what may be saved of a net and its input columns, and blames the first line with which a text goes on as none of them.
 #![tactic(auto)]
 
-ghost use Rattle.sci_save.specs.Laws.{OneSaved, TextIsRead, OneBlamed, OneIsDue, SavedInRange};
+ghost use Rattle.sci_save.specs.Laws.{OneSaved, TextIsRead, OneBlamed, OneIsDue, SavedInRange, SavedIsShort};
 ghost use Rattle.sci_save.specs.Resumed.{ReachedIsSaved, ResumedGoesOn};
 
 mod bounds;
@@ -15,8 +15,6 @@ mod line;
 mod read;
 mod rows;
 mod stop;
-#[cfg(test)]
-mod tests;
 mod write;
 
 pub use image::Image;
@@ -35,6 +33,11 @@ pub fn one_answer()
 /// The states and the held values that were saved are in range.
 pub fn in_range()
     ensures { SavedInRange }
+{}
+
+/// The text of what may be saved has at most 67,108,864 bytes.
+pub fn is_short()
+    ensures { SavedIsShort }
 {}
 
 /// Each state that a run reaches may be saved. Where the run goes on behind it, what was observed up to there, and then from what was saved

@@ -142,38 +142,3 @@ pub fn write_plan<S: Sink>(net: &Net, plan: &Schedule, out: &mut S) -> Result<()
     }
     Ok(())
 }
-
-#[cfg(test)]
-mod tests {
-    use super::*;
-    use sci_io::MemSink;
-    use std::test::Fail;
-
-    #[test]
-    fn a_line_for_each_entry(rt: HostRuntime) -> Result<(), Fail> {
-        let alloc = rt.alloc();
-        let guard = Guard {
-            block: 2,
-            port: 1,
-            mask: 1,
-        };
-        let row = vec![in alloc;
-            Entry {
-                block: 4,
-                always: true,
-                mask: 0,
-                guards: Vec::new(alloc)
-            },
-            Entry {
-                block: 3,
-                always: false,
-                mask: 0,
-                guards: vec![in alloc; guard]?
-            },
-        ]?;
-        let mut out = MemSink::new(alloc, Vec::new(alloc), 100)?;
-        put_row(Source::Start, &row, &mut out)?;
-        assert_eq!(rt; out.taken(), "source start\n4 always\n3 2.1\n".as_bytes());
-        Ok(())
-    }
-}

@@ -191,6 +191,7 @@ module _ (f : Fixed) (rows : List Row) (s : Standing) (w : Wheel) (m : Saved) (f
           halted = no_halt 1 f.net.specs;
         };
         offset = refl;
+        row = refl;
         lines = lines;
         sum = sum;
       })

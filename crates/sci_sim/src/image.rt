@@ -93,12 +93,12 @@ impl Ready {
     ghost use Rattle.sci_sim.specs.At.{IsAt};
 
     /// What is saved of the state behind the last reaction, at which the net stands with its library. The state is one of which something is saved,
-    /// as each is that a run reaches. It takes the pending events out, so the net goes on no more; it is of use but for the calls that read it, those of
-    /// pending events apart.
+    /// as each is that a run reaches. It takes the pending events out, so the net goes on no more; all else that it shows stays, also where memory is
+    /// wanting, so it is of use for the calls that read it, those of pending events apart.
     pub fn image(&mut self, alloc: Global, lib: &Library) -> Result<Image, NoMemory>
         requires { (st : State) × (m : Saved) × IsAt self.old (⟦<Library as Banks>⟧.banks lib.now) st × IsSavedOf self.old.fixed.net st m }
         ensures image { (st : State) (m : Saved) → IsAt self.old (⟦<Library as Banks>⟧.banks lib.now) st → IsSavedOf self.old.fixed.net st m → IfOk result (λ image. saved_of image ≡ m) }
-        ensures net { self.new.fixed ≡ self.old.fixed }
+        ensures rest { self.new ≡ record self.old { wheel = self.new.wheel } }
     {
         let states = states(alloc, &self.frame, lib)?;
         let held = held(alloc, &self.frame, &self.store)?;

@@ -3,8 +3,6 @@
 
 mod lines;
 mod stop;
-#[cfg(test)]
-mod tests;
 mod text;
 
 pub use lines::split_line;

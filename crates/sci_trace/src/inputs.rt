@@ -1,8 +1,6 @@
 // Reads the file of sensor values: a JSON list (RFC 8259) of lists of whole numbers. List k is column k.
 mod inputs;
 mod read;
-#[cfg(test)]
-mod tests;
 
 pub use inputs::{Inputs, Need};
 pub use read::read_inputs;

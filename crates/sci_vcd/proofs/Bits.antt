@@ -49,6 +49,54 @@ binary_step w k left tail h =
     let e : w - k ≡ suc (w - (k + 1)) = omega arith in
     sym (ap (λ (j : ℕ). binary j left ++ tail) e ∙ append_assoc (binary (w - (k + 1)) (left / 2)) ((48 + left % 2) ∷ []) tail)
 
+-- four at once
+pub binary_steps : (g k left : ℕ) (tail : List ℕ) → k < g → binary (4 * g - 4 * (k + 1)) (left / 16) ++ (binary 4 left ++ tail) ≡ binary (4 * g - 4 * k) left ++ tail
+unfolding binary
+binary_steps g k left tail h =
+    let w = 4 * g in
+    let a = 4 * k in
+    let l1 = left / 2 in
+    let l2 = left / 2 / 2 in
+    let l3 = left / 2 / 2 / 2 in
+    let e0 : a + 1 ≤ w = omega arith in
+    let same : left / 16 ≡ left / 2 / 2 / 2 / 2 = omega arith in
+    let end : w - 4 * (k + 1) ≡ w - (a + 3 + 1) = omega arith in
+    let s3 = binary_step w (a + 3) l3 ((48 + l2 % 2) ∷ (48 + l1 % 2) ∷ (48 + left % 2) ∷ tail) (omega arith) in
+    let s2 = binary_step w (a + 2) l2 ((48 + l1 % 2) ∷ (48 + left % 2) ∷ tail) (omega arith) in
+    let s1 = binary_step w (a + 1) l1 ((48 + left % 2) ∷ tail) (omega arith) in
+    let s0 = binary_step w a left tail (omega arith) in
+    let m3 : w - (a + 3) ≡ w - (a + 2 + 1) = omega arith in
+    let m2 : w - (a + 2) ≡ w - (a + 1 + 1) = omega arith in
+    ap (λ (j : ℕ). binary j (left / 16) ++ (binary 4 left ++ tail)) end
+    ∙ ap (λ (l : ℕ). binary (w - (a + 3 + 1)) l ++ (binary 4 left ++ tail)) same
+    ∙ s3
+    ∙ ap (λ (j : ℕ). binary j l3 ++ ((48 + l2 % 2) ∷ (48 + l1 % 2) ∷ (48 + left % 2) ∷ tail)) m3
+    ∙ s2
+    ∙ ap (λ (j : ℕ). binary j l2 ++ ((48 + l1 % 2) ∷ (48 + left % 2) ∷ tail)) m2
+    ∙ s1
+    ∙ s0
+
+-- the last four are those of what is left by 16
+pub binary_last : (p : ℕ) → binary 4 (p % 16) ≡ binary 4 p
+unfolding binary
+binary_last p =
+    let d0 : p % 16 % 2 ≡ p % 2 = omega arith in
+    let d1 : p % 16 / 2 % 2 ≡ p / 2 % 2 = omega arith in
+    let d2 : p % 16 / 2 / 2 % 2 ≡ p / 2 / 2 % 2 = omega arith in
+    let d3 : p % 16 / 2 / 2 / 2 % 2 ≡ p / 2 / 2 / 2 % 2 = omega arith in
+    ap (λ (d : ℕ). (48 + d) ∷ (48 + p % 16 / 2 / 2 % 2) ∷ (48 + p % 16 / 2 % 2) ∷ (48 + p % 16 % 2) ∷ []) d3
+    ∙ ap (λ (d : ℕ). (48 + p / 2 / 2 / 2 % 2) ∷ (48 + d) ∷ (48 + p % 16 / 2 % 2) ∷ (48 + p % 16 % 2) ∷ []) d2
+    ∙ ap (λ (d : ℕ). (48 + p / 2 / 2 / 2 % 2) ∷ (48 + p / 2 / 2 % 2) ∷ (48 + d) ∷ (48 + p % 16 % 2) ∷ []) d1
+    ∙ ap (λ (d : ℕ). (48 + p / 2 / 2 / 2 % 2) ∷ (48 + p / 2 / 2 % 2) ∷ (48 + p / 2 % 2) ∷ (48 + d) ∷ []) d0
+
+pub width_fours : (t : Ty) → 4 * (width t / 4) ≡ width t
+width_fours I32 = refl
+width_fours I16 = refl
+width_fours I8 = refl
+width_fours U32 = refl
+width_fours U16 = refl
+width_fours U8 = refl
+
 pub binary_over : (w k left : ℕ) (tail : List ℕ) → w ≤ k → binary (w - k) left ++ tail ≡ tail
 unfolding binary
 binary_over w k left tail h = let e : w - k ≡ 0 = omega arith in ap (λ (j : ℕ). binary j left ++ tail) e

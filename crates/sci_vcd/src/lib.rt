@@ -12,8 +12,6 @@ mod put;
 mod read;
 mod signal;
 mod spell;
-#[cfg(test)]
-mod tests;
 mod writer;
 
 pub use dump::Dump;

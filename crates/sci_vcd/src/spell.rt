@@ -1,6 +1,6 @@
 // A line, made from its end to its front.
 
-ghost use Rattle.std.specs.Prelude.{◌≡◌, ◌≤◌, ◌<◌, ◌^◌, ◌+◌, ◌++◌, ◌∷◌, codes, drop, length};
+ghost use Rattle.std.specs.Prelude.{◌≡◌, ◌≤◌, ◌<◌, ◌^◌, ◌+◌, ◌*◌, ◌++◌, ◌∷◌, codes, drop, length};
 ghost use Rattle.std.specs.Fmt.{decimal};
 ghost use Rattle.sci_io.specs.Taken.{Writes};
 ghost use Rattle.sci_vcd.specs.Spelling.{binary, type_text, name_text, signal_line, value_line, tick_line};
@@ -63,19 +63,55 @@ pub fn word_before(line: &mut [u8; ROOM], end: usize, word: &str) -> usize
     start
 }
 
-/// The last so many binary digits of a number.
-pub fn bits_before(line: &mut [u8; ROOM], end: usize, width: u32, bits: u64) -> usize
+/// The last four binary digits of a number.
+fn four_digits(n: u64) -> [u8; 4]
+    ensures { result ≡ binary 4 n }
+{
+    match n % 16 {
+        0 => *b"0000",
+        1 => *b"0001",
+        2 => *b"0010",
+        3 => *b"0011",
+        4 => *b"0100",
+        5 => *b"0101",
+        6 => *b"0110",
+        7 => *b"0111",
+        8 => *b"1000",
+        9 => *b"1001",
+        10 => *b"1010",
+        11 => *b"1011",
+        12 => *b"1100",
+        13 => *b"1101",
+        14 => *b"1110",
+        _ => *b"1111",
+    }
+}
+
+/// Four digits.
+fn four_before(line: &mut [u8; ROOM], end: usize, digits: [u8; 4]) -> usize
+    requires room { 4 ≤ end }
+    requires within { end ≤ 128 }
+    ensures text { drop result line.new ≡ digits ++ drop end line.old }
+    ensures start { result + 4 ≡ end }
+{
+    let start = end - 4;
+    line[start..end].copy_from_slice(&digits);
+    start
+}
+
+/// The last binary digits of a number, in so many groups of four.
+pub fn bits_before(line: &mut [u8; ROOM], end: usize, groups: u32, bits: u64) -> usize
     requires room { 32 ≤ end }
     requires within { end ≤ 128 }
-    requires narrow { width ≤ 32 }
-    ensures text { drop result line.new ≡ binary width bits ++ drop end line.old }
-    ensures start { result + width ≡ end }
+    requires narrow { groups ≤ 8 }
+    ensures text { drop result line.new ≡ binary (4 * groups) bits ++ drop end line.old }
+    ensures start { result + 4 * groups ≡ end }
 {
     let mut at = end;
     let mut left = bits;
-    for _ in 0..width {
-        at = byte_before(line, at, b'0' + (left % 2) as u8);
-        left /= 2;
+    for _ in 0..groups {
+        at = four_before(line, at, four_digits(left));
+        left /= 16;
     }
     at
 }
@@ -129,6 +165,7 @@ pub fn signal_line(line: &mut [u8; ROOM], number: u32, signal: &Signal) -> usize
 }
 
 /// The line of a signal's value, by its type and number.
+#[tactic(auto, using(crate::proofs::Bits::width_fours, crate::proofs::Bits::width_most))]
 pub fn value_line(line: &mut [u8; ROOM], ty: Ty, number: u32, value: i64) -> usize
     ensures text { drop result line.new ≡ with_lf (value_line ty number value) }
     ensures within { result < 128 }
@@ -136,7 +173,7 @@ pub fn value_line(line: &mut [u8; ROOM], ty: Ty, number: u32, value: i64) -> usi
     let at = end_line(line);
     let at = digits_before(line, at, u64::from(number));
     let at = word_before(line, at, " v");
-    let at = bits_before(line, at, ty.width(), pattern(ty, value));
+    let at = bits_before(line, at, ty.width() / 4, pattern(ty, value));
     byte_before(line, at, b'b')
 }
 

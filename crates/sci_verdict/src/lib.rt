@@ -4,8 +4,6 @@
 ghost use Rattle.sci_verdict.specs.Laws.{OneVerdict, OneTreeVerdict};
 
 mod checked;
-#[cfg(test)]
-mod tests;
 mod verdict;
 
 pub use checked::{Checked, Measured};

@@ -24,7 +24,7 @@ use Rattle.sci_run.proofs.Ranges.{stands_in_range, now_within}
 use Rattle.sci_run.proofs.Ordered.{stands_ahead, fires_ahead}
 use Rattle.sci_run.proofs.Traces.{some_rest}
 use Rattle.sci_vcd.specs.declared.signal.Signal.{Signal}
-use Rattle.sci_vcd.specs.Waveforms.{Waveforms, no_signal, first_of, type_of}
+use Rattle.sci_vcd.specs.Waveforms.{Waveforms, no_signal}
 use Rattle.sci_vcd.specs.Spelling.{spelling}
 use Rattle.sci_vcd.specs.Signals.{block_signals, output_signals, signals_of}
 use Rattle.sci_vcd.specs.Writing.{Writing, IsWriting, AreOf, text_of, told_at, tick_text, closed_at}
@@ -102,7 +102,7 @@ gathered_fits y b (s ∷ ss) i h within =
           (gathered_fits y (b + 1) ss (i - total s.outs) (λ k g. let s2 : b + suc k ≡ (b + 1) + k = omega arith in subst (λ (c : ℕ). Fills (get_or ss k no_spec).outs (y c)) s2 (h (suc k) (omega (arith, g)))) (omega (arith, within, above))))
     ]
 
-all_held : Parts → Memory → List ℤ
+pub all_held : Parts → Memory → List ℤ
 unfolding gathered
 all_held n m = gathered m.held 1 n.specs
 
@@ -111,7 +111,7 @@ block_fills n m h k within =
     let e : k + 1 ≡ 1 + k = omega arith in
     subst (λ (s : Spec). Fills s.outs (m.held (1 + k))) (ap (spec_of n) (sym e) ∙ numbered_next no_spec n.specs k) (h.held (1 + k) (record { least = omega arith; most = omega (arith, within) }))
 
-all_held_at : (n : Parts) (m : Memory) → IsMemory n m → (b : ℕ) → IsBlock n b → values_at n (all_held n m) b ≡ m.held b
+pub all_held_at : (n : Parts) (m : Memory) → IsMemory n m → (b : ℕ) → IsBlock n b → values_at n (all_held n m) b ≡ m.held b
 unfolding all_held gathered
 all_held_at n m h b block =
     let least = block.least in
@@ -123,24 +123,26 @@ all_held_at n m h b block =
     ap (λ (s : Spec). take (total s.outs) (drop (start_of n b) (gathered m.held 1 n.specs))) spec
     ∙ gathered_at m.held 1 n.specs k (λ j g. (block_fills n m h j g).enough) (omega (arith, least, most)) ∙ ap m.held f
 
--- these values noted
-all_noted : (n : Parts) (o : Writing) (m : Memory) → IsNet n → o.signals ≡ signals_of n → IsWriting o → IsMemory n m → IsWriting (record o { noted = all_held n m })
+-- each is of its signal's type
+pub all_held_fit : (n : Parts) (m : Memory) → IsNet n → IsMemory n m → AreOf (signals_of n) (all_held n m)
 unfolding all_held gathered
-all_noted n o m net signals w h =
+all_held_fit n m net h =
     let count = net_signals n net in
     let long = gathered_length m.held 1 n.specs (λ j g. (block_fills n m h j g).enough) in
-    let l = ap (λ (gs : List Signal). length gs) signals in
     record {
-      signals = w.signals;
-      some = w.some;
-      few = w.few;
-      written = w.written;
-      noted = record {
-        one_each = long ∙ sym (l ∙ count.1);
-        fit = λ k least most. subst (λ (gs : List Signal). in_range (type_of gs k) (first_of (gathered m.held 1 n.specs) k) ≡ true) (sym signals)
-            (gathered_fits m.held 1 n.specs (k - 1) (block_fills n m h) (let c = count.1 in omega (arith, l, c, least, most)));
-      };
+      one_each = long ∙ sym count.1;
+      fit = λ k least most. gathered_fits m.held 1 n.specs (k - 1) (block_fills n m h) (let c = count.1 in omega (arith, c, least, most));
     }
+
+-- these values noted
+all_noted : (n : Parts) (o : Writing) (m : Memory) → IsNet n → o.signals ≡ signals_of n → IsWriting o → IsMemory n m → IsWriting (record o { noted = all_held n m })
+all_noted n o m net signals w h = record {
+  signals = w.signals;
+  some = w.some;
+  few = w.few;
+  written = w.written;
+  noted = subst (λ (gs : List Signal). AreOf gs (all_held n m)) (sym signals) (all_held_fit n m net h);
+}
 
 closed_writing : (o : Writing) (t : ℕ) → IsWriting o → IsWriting (closed_at o t)
 closed_writing o t w = record { signals = w.signals; some = w.some; few = w.few; written = w.noted.one_each; noted = w.noted }

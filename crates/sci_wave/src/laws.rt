@@ -1,6 +1,7 @@
-ghost use Rattle.sci_wave.specs.Laws.{OneRunDump};
+ghost use Rattle.sci_wave.specs.Laws.{SomeRunDump, OneRunDump};
 
-/// A run has one dump.
+/// A run has a dump, and no other.
 pub fn one_run_dump()
-    ensures { OneRunDump }
+    ensures some { SomeRunDump }
+    ensures one { OneRunDump }
 {}

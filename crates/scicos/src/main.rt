@@ -1,34 +1,11 @@
 //! Checks, simulates and compiles Scicos block diagrams in discrete time over integer signals.
 #![tactic(auto)]
 
-ghost use Rattle.scicos.specs.Banks.{AreAllBanks};
-
-mod bulk;
-mod command;
-mod deliver;
-mod dump;
-mod host;
-mod judged;
-mod laws;
-mod look;
-mod net_map;
-mod prepare;
-mod probe;
-mod report;
-mod rest;
-mod rules;
-mod run_dump;
-mod run_files;
-mod saved;
-#[cfg(test)]
-mod tests;
-mod told;
-mod top;
-mod values;
-mod words;
+ghost use Rattle.sci_commands.specs.Banks.{AreAllBanks};
 
 use sci_bank::library::{Banks, Library};
 use sci_base::NoMemory;
+use sci_commands::top::top;
 use sci_io::{BufferedSink, Machine, RealFolder, RealSink, Sink};
 use sci_library::{AnyBank, put_fresh};
 use std::alloc::Global;
@@ -62,7 +39,7 @@ fn run(rt: &HostRuntime, alloc: Global, lib: &mut Library) -> Result<u8, NoMemor
     let mut out = BufferedSink::new(alloc, RealSink::new(rt.stdout()), ROOM)?;
     let mut err = BufferedSink::new(alloc, RealSink::new(rt.stderr()), LINE_ROOM)?;
     let mut folder = RealFolder::new(Machine::new(rt), alloc);
-    Ok(top::top(alloc, &words, &mut folder, &mut out, &mut err, lib))
+    Ok(top(alloc, &words, &mut folder, &mut out, &mut err, lib))
 }
 
 // Tells that there is no memory to begin with.

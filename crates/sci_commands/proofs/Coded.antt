@@ -1,0 +1,57 @@
+-- What the C of a diagram comes to.
+use Rattle.std.proofs.Common.{◌≡◌, ℕ, List, refl, sym, subst, Result, Ok}
+use Rattle.sci_io.specs.Files.{FolderState}
+use Rattle.sci_net.specs.Parts.{Parts}
+use Rattle.sci_net.specs.Net.{IsNet}
+use Rattle.sci_reaction.specs.Schedule.{Entry, IsSchedule}
+use Rattle.sci_run.specs.Laws.{AreLoopFree}
+use Rattle.sci_sched.specs.Plain.{rows_of}
+use Rattle.c_ast.specs.Syntax.{Whole}
+use Rattle.c_ast.specs.Spelling.{spelling}
+use Rattle.sci_cgen.specs.Program.{program}
+use Rattle.sci_cgen.proofs.Run.{program_means_run}
+use Rattle.sci_cgen.proofs.Whole.{program_is_whole}
+use Rattle.sci_cgen.proofs.Blocks.{program_has_block_functions}
+use Rattle.sci_verdict.specs.Verdict.{Plan, Accepts, Breaks, plan_of}
+use Rattle.sci_verdict.specs.declared.checked.Checked.{Checked}
+use Rattle.sci_verdict.proofs.Verdicts.{given_is_net}
+use Rattle.sci_commands.specs.Answer.{Answer, prints, no_memory}
+use Rattle.sci_commands.specs.Code.{IsCode, IsCodeOf}
+use Rattle.sci_commands.specs.Course.{diagram_slot, gives}
+use Rattle.sci_commands.specs.Words.{code}
+use Rattle.sci_commands.specs.Due.{course_of}
+use Rattle.sci_commands.specs.Judged.{AcceptsChecked}
+use Rattle.sci_commands.specs.Look.{IsLooked}
+use Rattle.sci_commands.specs.Reached.{ComesTo, ReachesTo}
+use Rattle.sci_commands.specs.declared.look.LookStop.{LookStop}
+use Rattle.sci_commands.proofs.Courses.{due_now, lacks_now, of_files}
+use Rattle.sci_commands.proofs.Looking.{first_passes}
+
+program_is_code : (n : Parts) (rows : List (List Entry)) → IsNet n → AreLoopFree n → IsSchedule n rows → IsCode n rows (program n rows)
+program_is_code n rows net free schedule =
+    let whole = program_is_whole n rows net free schedule in
+    record {
+      whole = whole.0;
+      rules = whole.1;
+      means = λ i until limit st how os columns late most finish. program_means_run n rows i until limit st how os net free schedule columns late most finish;
+      functions = program_has_block_functions n rows net schedule;
+      defined = refl;
+    }
+
+pub is_code : (bytes : List ℕ) (c : Checked) (p : Whole) → AcceptsChecked bytes c → p ≡ program c.net (rows_of c.schedule) → IsCode c.net (rows_of c.schedule) p
+is_code bytes c p accepted is =
+    subst (λ (w : Whole). IsCode c.net (rows_of c.schedule) w) (sym is)
+    (program_is_code c.net (rows_of c.schedule) (given_is_net bytes c.net accepted.given) accepted.planned.free accepted.planned.schedule)
+
+module _ (file : List ℕ) (old mid : FolderState) (c : Checked) (r : Result Checked LookStop) (is : r ≡ Ok c)
+    (looked : IsLooked AcceptsChecked Breaks diagram_slot old mid file r) (kept : mid.files ≡ old.files) where
+  pub behind_code : (a : Answer) → ((bytes : List ℕ) → AcceptsChecked bytes c → ComesTo mid mid (gives (IsCodeOf (plan_of c))) a) → ReachesTo old mid (course_of (code file)) a
+  behind_code a then =
+      of_files old mid Plan diagram_slot file Accepts Breaks (λ p. gives (IsCodeOf p)) a
+      (first_passes Plan diagram_slot file Accepts Breaks (λ p. gives (IsCodeOf p)) Checked AcceptsChecked old mid mid r c a is looked kept (λ bytes accepted. (plan_of c, accepted, then bytes accepted)))
+
+  pub lacks_code : ReachesTo old mid (course_of (code file)) no_memory
+  lacks_code = behind_code no_memory (λ bytes accepted. lacks_now mid (gives (IsCodeOf (plan_of c))))
+
+  pub gives_code : (p : Whole) (a : Answer) → p ≡ program c.net (rows_of c.schedule) → a ≡ prints (spelling p) → ReachesTo old mid (course_of (code file)) a
+  gives_code p a of told = behind_code a (λ bytes accepted. due_now mid (IsCodeOf (plan_of c)) a (record { code = p; is_code = is_code bytes c p accepted of; told = told }))

@@ -1,0 +1,49 @@
+-- A sink that fails at the first piece tells whether a run observes anything.
+use Rattle.std.proofs.Common.{◌≡◌, ◌≢◌, ◌≤◌, ◌<◌, ◌-◌, ◌^◌, ℕ, List, [], ◌∷◌, ◌++◌, length, drop, get_or, slice_index, refl, sym, ◌∙◌, ap, arith, Option, Some, None, Bool, true, false}
+use Rattle.std.specs.Prelude.{Result, Ok, Err}
+use Rattle.sci_io.specs.Taken.{SinkState, Advances, TakesFront, Writes}
+use Rattle.sci_io.proofs.Advance.{took_nothing, stays, all_taken, or-nil}
+use Rattle.sci_trace.specs.Lines.{text}
+use Rattle.c_mean.specs.declared.start.CEnd.{CEnd}
+use Rattle.c_mean.specs.declared.start.RunStop.{RunStop}
+use Rattle.c_mean.specs.declared.start.RunStop.TheVariants.{Failed}
+use Rattle.c_mean.specs.Meaning.{Ran}
+use Rattle.c_mean.specs.Answering.{end_of, AnswersBy}
+use Rattle.sci_commands.specs.Probe.{probe_state}
+use Rattle.sci_commands.specs.Deliver.{IsSilence}
+
+-- the first piece, of which the first byte is taken
+pub first_piece : {T E : Type 0} (s : Bool) (piece : List ℕ) (b : ℕ) (e : E) → 0 < length piece → b ≡ get_or piece 0 b → Writes {T = T} {E = E} (probe_state None s) (probe_state (Some b) true) piece (Err e)
+first_piece s [] b e some is = absurd (omega (arith, some))
+first_piece s (x ∷ xs) b e some is =
+    record { ok = tt; quiet = tt; begun = tt; cut = (xs, record { front = b ∷ []; split = cc is; taken = refl }); dropped = refl; cause = omega arith; later = omega arith }
+
+-- the same of the byte at 0
+pub first_index : {T E : Type 0} (s : Bool) (piece : List ℕ) (e : E) → 0 < length piece → Writes {T = T} {E = E} (probe_state None s) (probe_state (Some (slice_index piece 0)) true) piece (Err e)
+first_index s [] e some = absurd (omega (arith, some))
+first_index s (x ∷ xs) e some = first_piece s (x ∷ xs) x e some refl
+
+-- a later piece, of which nothing is taken
+pub later_piece : {T E : Type 0} (s : Bool) (piece : List ℕ) (b : ℕ) (e : E) → Writes {T = T} {E = E} (probe_state (Some b) s) (probe_state (Some b) true) piece (Err e)
+later_piece s piece b e = record { ok = tt; quiet = tt; begun = tt; cut = took_nothing (Some (b ∷ [])) piece; dropped = refl; cause = omega arith; later = omega arith }
+
+pub flushed_probe : {T E : Type 0} (o : Option ℕ) (s : Bool) (x : T) → Writes {T = T} {E = E} (probe_state o s) (probe_state o s) [] (Ok x)
+flushed_probe None s x = record { ok = stays (Some []) []; quiet = refl; begun = sym (or-nil s); cut = tt; dropped = tt; cause = tt; later = omega arith }
+flushed_probe (Some b) s x = record { ok = stays (Some (b ∷ [])) []; quiet = refl; begun = sym (or-nil s); cut = tt; dropped = tt; cause = tt; later = omega arith }
+
+silent_text : (o : Option ℕ) (s : Bool) (t : List ℕ) → Writes {T = Unit {0}} {E = Unit {0}} (probe_state None false) (probe_state o s) t (Ok tt) → t ≡ []
+silent_text None s t w = let taken : [] ≡ [] ++ t = all_taken w.ok in sym taken
+silent_text (Some b) s t w = absurd (omega (arith, w.quiet))
+
+loud_text : (o : Option ℕ) (s : Bool) (t : List ℕ) → Writes {T = Unit {0}} {E = Unit {0}} (probe_state None false) (probe_state o s) t (Err tt) → t ≢ []
+loud_text None s t w = absurd (omega (arith, w.cause))
+loud_text (Some b) s t w = λ none.
+    let a = w.cut.1 in
+    let front : b ∷ [] ≡ a.front = a.taken in
+    absurd (cc (front, a.split, none))
+
+pub silent_run : (o : Option ℕ) (s : Bool) (ran : Ran) (end : CEnd) → AnswersBy (probe_state None false) (probe_state o s) (Ok end) ran → IsSilence {E = Unit {0}} ran (Ok (Some end))
+silent_run o s ran end by = (silent_text o s (text ran.seen) by.0, by.1)
+
+pub loud_run : (o : Option ℕ) (s : Bool) (ran : Ran) → AnswersBy (probe_state None false) (probe_state o s) (Err Failed) ran → text ran.seen ≢ []
+loud_run o s ran by = loud_text o s (text ran.seen) by

@@ -1,0 +1,40 @@
+-- What is due of a diagram as C: the text of a program that means the trace of its net.
+use Rattle.std.specs.Prelude.{ℕ, ◌≡◌, ◌≤◌, ◌^◌, pos, List}
+use Rattle.sci_base.specs.declared.observation.Obs.{Obs}
+use Rattle.sci_net.specs.Parts.{Parts}
+use Rattle.sci_reaction.specs.Memory.{Columns, AreColumns}
+use Rattle.sci_reaction.specs.Schedule.{Entry}
+use Rattle.sci_run.specs.Run.{State}
+use Rattle.sci_run.specs.Finish.{Ending, Finish}
+use Rattle.c_ast.specs.Syntax.{Whole}
+use Rattle.c_ast.specs.Spelling.{spelling}
+use Rattle.c_ast.specs.Bounds.{IsWhole}
+use Rattle.c_ast.specs.Rules.{KeepsRules}
+use Rattle.c_mean.specs.Meaning.{meaning}
+use Rattle.sci_cgen.specs.Program.{program}
+use Rattle.sci_cgen.specs.Laws.{answer_by, HasBlockFunctions}
+use Rattle.sci_verdict.specs.Verdict.{Plan}
+use Rattle.sci_commands.specs.Answer.{Answer, prints}
+
+-- On every input file in range and within all bounds the program observes exactly the trace of the net, and it ends as the run does. So it is
+-- never undefined.
+abbrev pub MeansRun : Parts → Whole → Type 0
+MeansRun n p =
+    (i : Columns) (until limit : ℕ) (st : State) (how : Ending) (os : List Obs) → AreColumns n i → until ≤ 2 ^ 62 → limit ≤ 1000000
+    → Finish n i until limit st how os
+    → meaning p i (pos until) (pos limit) ≡ record { seen = os; how = answer_by how }
+
+-- A program for a net and its schedule: one of the subset of C, which keeps its bounds and its static rules and means the trace of the net, with a
+-- function for each block, which as many calls name as the schedule has entries of the block. Of such programs it is the one that is defined.
+pub record IsCode (n : Parts) (rows : List (List Entry)) (p : Whole) : Type 0 where
+  pub whole : IsWhole p
+  pub rules : KeepsRules p
+  pub means : MeansRun n p
+  pub functions : HasBlockFunctions n rows p
+  pub defined : p ≡ program n rows
+
+-- its text
+pub record IsCodeOf (p : Plan) (a : Answer) : Type 0 where
+  pub code : Whole
+  pub is_code : IsCode p.net p.rows code
+  pub told : a ≡ prints (spelling code)

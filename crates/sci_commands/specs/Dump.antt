@@ -1,0 +1,56 @@
+-- The dump of a run; the file of a dump, and what is told of it at a tick.
+use Rattle.std.specs.Prelude.{ℕ, ℤ, ◌≡◌, ◌+◌, pos, List, [], ◌∷◌, ◌++◌, codes}
+use Rattle.std.specs.Fmt.{signed_decimal}
+use Rattle.sci_base.specs.Plain.{Violation}
+use Rattle.sci_base.specs.declared.refusal.Rule.TheVariants.{NotVcd}
+use Rattle.sci_base.specs.declared.observation.Obs.{Obs}
+use Rattle.sci_net.specs.Parts.{Parts}
+use Rattle.sci_reaction.specs.Memory.{Columns}
+use Rattle.sci_run.specs.Run.{IsRun}
+use Rattle.sci_trace.specs.Lines.{stops}
+use Rattle.sci_wave.specs.RunDump.{IsRunDump}
+use Rattle.sci_commands.specs.Answer.{Answer, run_status}
+use Rattle.sci_vcd.specs.declared.signal.Signal.{Signal}
+use Rattle.sci_vcd.specs.Waveforms.{Waveforms, value_at}
+use Rattle.sci_vcd.specs.Spelling.{name_text, spelling}
+use Rattle.sci_vcd.specs.Blame.{Spells, IsFirstWrong}
+
+-- ---- of a run
+
+-- its text on out, and whether the run ends with a stop
+abbrev pub dumped : Waveforms → List Obs → Answer
+dumped w observed = record { out = spelling w; err = []; status = run_status (stops observed) }
+
+-- it tells the dump of the net's run on these columns of the input file, up to the last date, of at most so many events
+abbrev pub IsDumpAnswer : Parts → Columns → (until limit : ℕ) → Answer → Type 0
+IsDumpAnswer n columns until limit a =
+    (w : Waveforms) × IsRunDump n columns until limit w × (os : List Obs) × IsRun n columns until limit os × (a ≡ dumped w os)
+
+-- ---- of a file
+
+-- this line of the file is blamed, from 1
+abbrev pub not_vcd : ℕ → Violation
+not_vcd line = record { rule = NotVcd; place = []; detail = pos line ∷ [] }
+
+-- the bytes spell this dump
+abbrev pub AcceptsDump : List ℕ → Waveforms → Type 0
+AcceptsDump bytes w = Spells bytes w
+
+-- they spell none
+pub record BreaksDump (bytes : List ℕ) (v : Violation) : Type 0 where
+  pub line : ℕ
+  pub blamed : IsFirstWrong bytes line
+  pub told : v ≡ not_vcd line
+
+-- a signal's name and its value, in a line
+unfoldable pub signal_text : Signal → ℤ → List ℕ
+signal_text g v = name_text g ++ (codes " " ++ (signed_decimal v ++ codes "\n"))
+
+-- the lines of these signals, of which the first has number n, with their values at the tick
+abbrev pub texts_from : Waveforms → (tick n : ℕ) → List Signal → List ℕ
+texts_from w tick n [] = []
+texts_from w tick n (g ∷ gs) = signal_text g (value_at w n tick) ++ texts_from w tick (n + 1) gs
+
+-- the lines of all signals
+abbrev pub values_text : Waveforms → (tick : ℕ) → List ℕ
+values_text w tick = texts_from w tick 1 w.signals

@@ -1,0 +1,51 @@
+-- What the rules of a file make of its bytes.
+use Rattle.std.specs.Prelude.{ℕ, ◌≡◌, List, Result, Ok, Err, length}
+use Rattle.sci_base.specs.Plain.{Violation}
+use Rattle.c_ast.specs.declared.Program.{Program}
+use Rattle.c_ast.specs.View.{whole_of}
+use Rattle.sci_net.specs.Sources.{sources_of}
+use Rattle.sci_sched.specs.Plain.{rows_of}
+use Rattle.sci_sched.specs.Text.{plan_text}
+use Rattle.sci_commands.specs.Map.{map_text}
+use Rattle.sci_verdict.specs.Verdict.{Plan, Accepts, plan_of}
+use Rattle.sci_verdict.specs.declared.checked.Checked.{Checked}
+use Rattle.sci_commands.specs.Answer.{counts_line, report_text}
+use Rattle.sci_commands.specs.Program.{AcceptsC}
+use Rattle.sci_base.specs.Stops.{StopsBy}
+use Rattle.sci_commands.specs.declared.command.Report.{Report}
+use Rattle.sci_base.specs.declared.stop.Stop.{Stop}
+use Rattle.sci_commands.specs.declared.told.Told.{Told}
+use Rattle.sci_commands.specs.declared.told.Told.TheVariants.{Check, Map, Schedule}
+
+-- what is made of the bytes, or the first rule that they break; want of memory may come at any time
+abbrev pub IsJudged : {A : Type 0} → (List ℕ → A → Type 0) → (List ℕ → Violation → Type 0) → List ℕ → Result A Stop → Type 0
+IsJudged accepts breaks bytes (Ok made) = accepts bytes made
+IsJudged accepts breaks bytes (Err e) = StopsBy (breaks bytes) e
+
+-- the text of what is told
+abbrev pub told_text : Told → List ℕ
+told_text (Check m) = counts_line (length m.net.specs) (length (sources_of m.net)) m.size.entries m.size.guards
+told_text (Map net) = map_text net
+told_text (Schedule c) = plan_text (sources_of c.net) (rows_of c.schedule)
+
+-- a schedule has a row for each source
+abbrev pub HasRows : Told → Type 0
+HasRows (Check m) = Unit {0}
+HasRows (Map net) = Unit {0}
+HasRows (Schedule c) = length (rows_of c.schedule) ≡ length (sources_of c.net)
+
+-- it has the text of this report on a plan
+abbrev pub Tells : Report → Plan → Told → Type 0
+Tells r p t = (report_text r p ≡ told_text t) × HasRows t
+
+-- the bytes are a diagram, and this tells the report on its plan
+abbrev pub AcceptsTold : Report → List ℕ → Told → Type 0
+AcceptsTold r bytes t = (p : Plan) × Accepts bytes p × Tells r p t
+
+-- the bytes are a diagram with this net and these schedules
+abbrev pub AcceptsChecked : List ℕ → Checked → Type 0
+AcceptsChecked bytes c = Accepts bytes (plan_of c)
+
+-- the bytes spell this program
+abbrev pub AcceptsProgram : List ℕ → Program → Type 0
+AcceptsProgram bytes p = AcceptsC bytes (whole_of p)

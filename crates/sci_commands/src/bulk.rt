@@ -1,0 +1,101 @@
+// A bulk diagram: made, judged and run.
+ghost use Rattle.std.specs.Prelude.{◌≤◌, ◌^◌, List, [], IfOk};
+ghost use Rattle.sci_base.specs.declared.observation.Obs.{Obs};
+ghost use Rattle.sci_bulk.specs.Bulk.{bulk};
+ghost use Rattle.sci_run.specs.Run.{IsRun};
+ghost use Rattle.sci_sched.specs.Answer.{IsPlan};
+ghost use Rattle.sci_sched.specs.Plain.{rows_of};
+ghost use Rattle.sci_sim.specs.At.{IsTallied};
+ghost use Rattle.sci_verdict.specs.Verdict.{IsTreeChecked};
+ghost use Rattle.sci_commands.specs.Banks.{AreAllBanks};
+ghost use Rattle.sci_commands.specs.Bulk.{IsCounted};
+ghost use Rattle.sci_commands.specs.Counts.{CountsRun, CountsBulk};
+
+use sci_bank::library::{Banks, Library};
+use sci_base::{NoMemory, Stop};
+use sci_bulk::bulk_diagram;
+use sci_io::SureSink;
+use sci_net::Net;
+use sci_sched::{Schedule, measure};
+use sci_sim::Ready;
+use sci_trace::inputs::Inputs;
+use sci_verdict::{Checked, check_diagram};
+use std::alloc::Global;
+
+/// What is counted of a bulk diagram and of its run.
+#[derive(Clone, Copy, Debug, PartialEq, Eq)]
+pub struct BulkCounts {
+    /// Blocks of the net.
+    pub blocks: u32,
+    /// Sources of the net.
+    pub sources: u32,
+    /// Entries of its schedules.
+    pub entries: u64,
+    /// Guards of its schedules.
+    pub guards: u64,
+    /// Observations of the run.
+    pub lines: u64,
+    /// The sum of the values observed, modulo 2^32.
+    pub sum: u32,
+}
+
+// The bulk diagram of a seed and a size, judged as `check` judges a diagram that was read.
+fn judged(alloc: Global, seed: u32, size: u32) -> Result<Checked, Stop>
+    requires least { 1 ≤ size }
+    requires most { size ≤ 2000 }
+    ensures { IsTreeChecked (bulk seed size) result }
+{
+    let diagram = bulk_diagram(alloc, seed, size)?;
+    check_diagram(alloc, &diagram)
+}
+
+// A net behind its run without an input file, up to the last date that there is, of at most 1,000 events. Nothing is kept of what it writes.
+fn run_net(
+    alloc: Global,
+    net: Net,
+    schedule: Schedule,
+    lib: &mut Library,
+) -> Result<Ready, NoMemory>
+    requires plan { IsPlan net (rows_of schedule) }
+    requires banks { AreAllBanks (⟦<Library as Banks>⟧.banks lib.old) }
+    ensures ran { IfOk result (λ r. (os : List Obs) × IsRun net [] (2 ^ 62) 1000 os × IsTallied r.store os) }
+    ensures counts_run { IfOk result (λ r. CountsRun net [] (2 ^ 62) 1000 (⟦<Library as Banks>⟧.banks lib.new)) }
+    ensures banks { AreAllBanks (⟦<Library as Banks>⟧.banks lib.new) }
+{
+    net.well_formed();
+    let mut ready = Ready::new(alloc, net, schedule, lib)?;
+    let inputs = Inputs::of(Vec::new(alloc));
+    let mut nowhere = SureSink::new();
+    let _ = ready.run(lib, &inputs, 1 << 62, 1000, &mut nowhere);
+    Ok(ready)
+}
+
+/// Makes the bulk diagram of a seed and a size, judges it and runs it on the banks of the library. The answer is what is counted: no such
+/// diagram breaks a rule.
+pub fn count_bulk(
+    alloc: Global,
+    seed: u32,
+    size: u32,
+    lib: &mut Library,
+) -> Result<BulkCounts, Stop>
+    requires least { 1 ≤ size }
+    requires most { size ≤ 2000 }
+    requires banks { AreAllBanks (⟦<Library as Banks>⟧.banks lib.old) }
+    ensures counted { IsCounted seed size result }
+    ensures counts_run { IfOk result (λ c. CountsBulk seed size (⟦<Library as Banks>⟧.banks lib.new)) }
+    ensures banks { AreAllBanks (⟦<Library as Banks>⟧.banks lib.new) }
+{
+    let checked = judged(alloc, seed, size)?;
+    let length = measure(alloc, &checked.net)?;
+    let blocks = checked.net.len();
+    let sources = checked.net.source_count();
+    let ran = run_net(alloc, checked.net, checked.schedule, lib)?;
+    Ok(BulkCounts {
+        blocks,
+        sources,
+        entries: length.entries,
+        guards: length.guards,
+        lines: ran.lines(),
+        sum: ran.sum(),
+    })
+}

@@ -1,0 +1,460 @@
+ghost use Rattle.std.specs.Prelude.{◌≡◌, ◌≢◌, false, ◌≤◌, ◌<◌, ◌^◌, IsTrue, IfOk, [], length, pos};
+ghost use Rattle.sci_commands.specs.Banks.{AreAllBanks};
+ghost use Rattle.sci_base.specs.Plain.{violation_of};
+ghost use Rattle.sci_commands.specs.Line.{refused_line};
+ghost use Rattle.sci_io.specs.Taken.{Writes};
+ghost use Rattle.c_ast.specs.View.{whole_of};
+ghost use Rattle.c_ast.specs.Spelling.{spelling};
+ghost use Rattle.c_ast.specs.Bounds.{IsWhole};
+ghost use Rattle.c_mean.specs.Meaning.{meaning};
+ghost use Rattle.sci_commands.specs.declared.told.Told.TheVariants.{Check};
+ghost use Rattle.sci_commands.specs.Answer.{IsDone, prints, write_fault_line, usage_line, read_fault_line, no_memory_line, undefined_line};
+ghost use Rattle.sci_commands.specs.Bulk.{counted_line};
+ghost use Rattle.sci_commands.specs.Counts.{CountsRun};
+ghost use Rattle.sci_commands.specs.Dump.{values_text};
+ghost use Rattle.sci_commands.specs.Judge.{judged};
+ghost use Rattle.sci_save.specs.Saved.{saved_of};
+ghost use Rattle.sci_save.specs.Text.{saved_text};
+ghost use Rattle.sci_save.specs.Valid.{IsShaped};
+ghost use Rattle.sci_commands.specs.Judged.{told_text, HasRows};
+ghost use Rattle.sci_commands.specs.Written.{Written};
+ghost use Rattle.sci_commands.specs.Deliver.{Gives, Said, PrintsTrace, Finished, RunsOut, RanC, FinishedC, Delivers};
+ghost use Rattle.sci_commands.specs.Prepare.{IsReadyToRun, IsPrepared, LeavesBanks};
+
+use crate::bulk::BulkCounts;
+use crate::judged::{give_verdict, status_of};
+use crate::net_map::write_map;
+use crate::prepare::{Prepared, Simulation};
+use crate::probe::silent_end;
+use crate::report::put_refused;
+use crate::rest::print_rest;
+use crate::run_dump::print_dump;
+use crate::saved::{SavedRun, give_saved};
+use crate::told::Told;
+use crate::values::write_values;
+use c_ast::Program;
+use c_mean::{CEnd, RunStop, run};
+use itoa::Buffer;
+use sci_agree::Verdict;
+use sci_bank::library::{Banks, Library};
+use sci_base::{NoMemory, Refusal};
+use sci_io::{Failed, Sink, put_all};
+use sci_sched::write_plan;
+use sci_sim::RunEnd;
+use sci_trace::inputs::Inputs;
+use sci_vcd::{Dump, VcdOut};
+use sci_verdict::Measured;
+use sci_wave::dump_run;
+use std::alloc::Global;
+
+const USAGE: &str =
+    "usage: scicos check D | map D | schedule D | simulate D I T N | ccode D | crun C I T N | host | bulk SEED SIZE | judge D I V T N | save D I T N K | resume D I S T N | vcd D I T N | vcdat V K\n";
+
+fn give<S: Sink>(text: &str, out: &mut S) -> Result<(), Failed>
+    requires { 0 < length text.now }
+    ensures { Gives (S.state out.old) (S.state out.new) text.now result }
+{
+    out.put(text.as_bytes())?;
+    out.flush()
+}
+
+fn give_refusal<S: Sink>(refusal: &Refusal, out: &mut S) -> Result<(), Failed>
+    ensures { Gives (S.state out.old) (S.state out.new) (refused_line (violation_of refusal.now)) result }
+{
+    put_refused(refusal, out)?;
+    out.flush()
+}
+
+#[tactic(auto, using(crate::proofs::Giving::some_text))]
+fn say<E: Sink>(status: u8, text: &str, err: &mut E) -> u8
+    requires { 0 < length text.now }
+    ensures { Said status text.now (E.state err.old) (E.state err.new) result }
+{
+    match give(text, err) {
+        Ok(()) => status,
+        Err(Failed) => 4,
+    }
+}
+
+#[tactic(auto, using(crate::proofs::Giving::some_refusal))]
+fn refuse<E: Sink>(refusal: &Refusal, err: &mut E) -> u8
+    ensures { Said 1 (refused_line (violation_of refusal.now)) (E.state err.old) (E.state err.new) result }
+{
+    match give_refusal(refusal, err) {
+        Ok(()) => 1,
+        Err(Failed) => 4,
+    }
+}
+
+#[tactic(auto, unfolding(crate::specs::Answer::usage_line))]
+fn say_usage<E: Sink>(err: &mut E) -> u8
+    ensures { Said 2 usage_line (E.state err.old) (E.state err.new) result }
+{
+    say(2, USAGE, err)
+}
+
+#[tactic(auto, unfolding(crate::specs::Answer::read_fault_line))]
+fn say_read_fault<E: Sink>(err: &mut E) -> u8
+    ensures { Said 3 read_fault_line (E.state err.old) (E.state err.new) result }
+{
+    say(3, "read fault\n", err)
+}
+
+#[tactic(auto, unfolding(crate::specs::Answer::write_fault_line))]
+fn say_write_fault<E: Sink>(err: &mut E) -> u8
+    ensures { Said 4 write_fault_line (E.state err.old) (E.state err.new) result }
+{
+    say(4, "write fault\n", err)
+}
+
+#[tactic(auto, unfolding(crate::specs::Answer::no_memory_line))]
+fn say_no_memory<E: Sink>(err: &mut E) -> u8
+    ensures { Said 5 no_memory_line (E.state err.old) (E.state err.new) result }
+{
+    say(5, "out of memory\n", err)
+}
+
+// Runs to the end and gives the last byte on.
+fn print_trace<O: Sink>(
+    simulation: Simulation,
+    lib: &mut Library,
+    out: &mut O,
+) -> Result<RunEnd, Failed>
+    requires { IsReadyToRun (⟦<Library as Banks>⟧.banks lib.old) simulation }
+    ensures printed { PrintsTrace simulation (O.state out.old) (O.state out.new) result }
+    ensures counts_run { IfOk result (λ e. CountsRun simulation.ready.fixed.net simulation.inputs simulation.until simulation.limit (⟦<Library as Banks>⟧.banks lib.new)) }
+    ensures banks { AreAllBanks (⟦<Library as Banks>⟧.banks lib.new) }
+{
+    let Simulation {
+        mut ready,
+        inputs,
+        until,
+        limit,
+    } = simulation;
+    let end = ready.run(lib, &inputs, until, limit, out)?;
+    out.flush()?;
+    Ok(end)
+}
+
+// Prints the verdict on a trace, or tells the failure of out.
+#[tactic(auto, using(crate::proofs::Judging::verdict_written, crate::proofs::Judging::verdict_cut))]
+fn print_verdict<O: Sink, E: Sink>(verdict: Verdict, out: &mut O, err: &mut E) -> u8
+    ensures { Written (judged verdict) (O.state out.old) (O.state out.new) (E.state err.old) (E.state err.new) result }
+{
+    match give_verdict(verdict, out) {
+        Ok(()) => status_of(verdict),
+        Err(_) => say_write_fault(err),
+    }
+}
+
+// Prints what is saved of a run, or tells the failure of out.
+#[tactic(auto, using(crate::proofs::Saving::saved_some, crate::proofs::Giving::told_written, crate::proofs::Giving::told_cut))]
+fn print_saved<O: Sink, E: Sink>(saved: &SavedRun, out: &mut O, err: &mut E) -> u8
+    requires { IsShaped saved.now.ready.fixed.net (saved_of saved.now.image) }
+    ensures { Written (prints (saved_text saved.now.ready.fixed.net (saved_of saved.now.image))) (O.state out.old) (O.state out.new) (E.state err.old) (E.state err.new) result }
+{
+    match give_saved(saved, out) {
+        Ok(()) => 0,
+        Err(_) => say_write_fault(err),
+    }
+}
+
+// Prints a text, or tells the failure of out.
+#[tactic(auto, using(crate::proofs::Giving::printed_written, crate::proofs::Giving::cut_written))]
+fn print<O: Sink, E: Sink>(text: &str, out: &mut O, err: &mut E) -> u8
+    requires { 0 < length text.now }
+    ensures { Written (prints text.now) (O.state out.old) (O.state out.new) (E.state err.old) (E.state err.new) result }
+{
+    match give(text, out) {
+        Ok(()) => 0,
+        Err(_) => say_write_fault(err),
+    }
+}
+
+fn put_counts<O: Sink>(measured: &Measured, out: &mut O) -> Result<(), Failed>
+    ensures { Writes (O.state out.old) (O.state out.new) (told_text (Check measured.now)) result }
+{
+    let mut blocks = Buffer::new();
+    let mut sources = Buffer::new();
+    let mut entries = Buffer::new();
+    let mut guards = Buffer::new();
+    put_all(
+        out,
+        &[
+            "ok ".as_bytes(),
+            blocks.format(measured.net.len()).as_bytes(),
+            " ".as_bytes(),
+            sources.format(measured.net.source_count()).as_bytes(),
+            " ".as_bytes(),
+            entries.format(measured.size.entries).as_bytes(),
+            " ".as_bytes(),
+            guards.format(measured.size.guards).as_bytes(),
+            "\n".as_bytes(),
+        ],
+    )
+}
+
+fn put_told<O: Sink>(told: &Told, out: &mut O) -> Result<(), Failed>
+    requires { HasRows told.now }
+    ensures { Writes (O.state out.old) (O.state out.new) (told_text told.now) result }
+{
+    match told {
+        Told::Check(measured) => put_counts(measured, out),
+        Told::Map(net) => write_map(net, out),
+        Told::Schedule(checked) => write_plan(&checked.net, &checked.schedule, out),
+    }
+}
+
+fn give_told<O: Sink>(told: &Told, out: &mut O) -> Result<(), Failed>
+    requires { HasRows told.now }
+    ensures { Gives (O.state out.old) (O.state out.new) (told_text told.now) result }
+{
+    put_told(told, out)?;
+    out.flush()
+}
+
+// Whether nothing is told: the map of a diagram without blocks.
+fn is_silent(told: &Told) -> bool
+    requires { HasRows told.now }
+    ensures silent { IsTrue result → told_text told.now ≡ [] }
+    ensures loud { result ≡ false → told_text told.now ≢ [] }
+{
+    match told {
+        Told::Check(_) => false,
+        Told::Map(net) => net.len() == 0,
+        Told::Schedule(_) => false,
+    }
+}
+
+// Prints what is told of a diagram, or tells the failure of out.
+#[tactic(auto, using(crate::proofs::Giving::silent_written, crate::proofs::Giving::told_written, crate::proofs::Giving::told_cut))]
+fn tell<O: Sink, E: Sink>(told: &Told, out: &mut O, err: &mut E) -> u8
+    requires { HasRows told.now }
+    ensures { Written (prints (told_text told.now)) (O.state out.old) (O.state out.new) (E.state err.old) (E.state err.new) result }
+{
+    if is_silent(told) {
+        return 0;
+    }
+    match give_told(told, out) {
+        Ok(()) => 0,
+        Err(_) => say_write_fault(err),
+    }
+}
+
+fn put_bulk<O: Sink>(counts: &BulkCounts, out: &mut O) -> Result<(), Failed>
+    ensures { Writes (O.state out.old) (O.state out.new) (counted_line counts.now) result }
+{
+    let mut blocks = Buffer::new();
+    let mut sources = Buffer::new();
+    let mut entries = Buffer::new();
+    let mut guards = Buffer::new();
+    let mut lines = Buffer::new();
+    let mut sum = Buffer::new();
+    put_all(
+        out,
+        &[
+            "bulk ".as_bytes(),
+            blocks.format(counts.blocks).as_bytes(),
+            " ".as_bytes(),
+            sources.format(counts.sources).as_bytes(),
+            " ".as_bytes(),
+            entries.format(counts.entries).as_bytes(),
+            " ".as_bytes(),
+            guards.format(counts.guards).as_bytes(),
+            " ".as_bytes(),
+            lines.format(counts.lines).as_bytes(),
+            " ".as_bytes(),
+            sum.format(counts.sum).as_bytes(),
+            "\n".as_bytes(),
+        ],
+    )
+}
+
+fn give_bulk<O: Sink>(counts: &BulkCounts, out: &mut O) -> Result<(), Failed>
+    ensures { Gives (O.state out.old) (O.state out.new) (counted_line counts.now) result }
+{
+    put_bulk(counts, out)?;
+    out.flush()
+}
+
+// Prints what is counted of a bulk diagram, or tells the failure of out.
+#[tactic(auto, using(crate::proofs::Silent::bulk_some, crate::proofs::Giving::told_written, crate::proofs::Giving::told_cut))]
+fn print_bulk<O: Sink, E: Sink>(counts: &BulkCounts, out: &mut O, err: &mut E) -> u8
+    ensures { Written (prints (counted_line counts.now)) (O.state out.old) (O.state out.new) (E.state err.old) (E.state err.new) result }
+{
+    match give_bulk(counts, out) {
+        Ok(()) => 0,
+        Err(_) => say_write_fault(err),
+    }
+}
+
+fn give_code<O: Sink>(program: &Program, out: &mut O) -> Result<(), Failed>
+    requires { IsWhole (whole_of program.now) }
+    ensures { Gives (O.state out.old) (O.state out.new) (spelling (whole_of program.now)) result }
+{
+    c_print::print(program, out)?;
+    out.flush()
+}
+
+// Prints a C program, or tells the failure of out.
+#[tactic(auto, using(crate::proofs::Silent::code_some, crate::proofs::Giving::told_written, crate::proofs::Giving::told_cut))]
+fn print_code<O: Sink, E: Sink>(program: &Program, out: &mut O, err: &mut E) -> u8
+    requires { IsWhole (whole_of program.now) }
+    ensures { Written (prints (spelling (whole_of program.now))) (O.state out.old) (O.state out.new) (E.state err.old) (E.state err.new) result }
+{
+    match give_code(program, out) {
+        Ok(()) => 0,
+        Err(_) => say_write_fault(err),
+    }
+}
+
+fn finish<E: Sink>(ran: Result<RunEnd, Failed>, err: &mut E) -> u8
+    ensures { Finished ran (E.state err.old) (E.state err.new) result }
+{
+    match ran {
+        Ok(RunEnd::End(_)) => 0,
+        Ok(RunEnd::Stop(_)) => 6,
+        Err(Failed) => say_write_fault(err),
+    }
+}
+
+// Runs a C program to the end and gives the last byte on.
+fn run_out<O: Sink>(
+    alloc: Global,
+    program: &Program,
+    inputs: &Inputs,
+    until: u64,
+    limit: u64,
+    out: &mut O,
+) -> Result<CEnd, RunStop>
+    requires until { until ≤ 2 ^ 62 }
+    requires limit { limit ≤ 1000000 }
+    ensures { RunsOut (meaning (whole_of program.now) inputs.now (pos until) (pos limit)) (O.state out.old) (O.state out.new) result }
+{
+    let end = run(alloc, program, inputs, until, limit, out)?;
+    match out.flush() {
+        Ok(()) => Ok(end),
+        Err(_) => Err(RunStop::Failed),
+    }
+}
+
+// Runs a C program. Where it observes nothing, out is not written to.
+#[tactic(auto, using(crate::proofs::Giving::c_observed, crate::proofs::Giving::c_silent))]
+fn print_run<O: Sink>(
+    alloc: Global,
+    program: &Program,
+    inputs: &Inputs,
+    until: u64,
+    limit: u64,
+    out: &mut O,
+) -> Result<CEnd, RunStop>
+    requires until { until ≤ 2 ^ 62 }
+    requires limit { limit ≤ 1000000 }
+    ensures { RanC (meaning (whole_of program.now) inputs.now (pos until) (pos limit)) (O.state out.old) (O.state out.new) result }
+{
+    match silent_end(alloc, program, inputs, until, limit) {
+        Ok(Some(end)) => Ok(end),
+        Ok(None) => run_out(alloc, program, inputs, until, limit, out),
+        Err(NoMemory) => Err(RunStop::Memory),
+    }
+}
+
+fn put_undefined<E: Sink>(statement: u64, err: &mut E) -> Result<(), Failed>
+    ensures { Writes (E.state err.old) (E.state err.new) (undefined_line statement) result }
+{
+    let mut number = Buffer::new();
+    put_all(
+        err,
+        &[
+            "undefined at ".as_bytes(),
+            number.format(statement).as_bytes(),
+            "\n".as_bytes(),
+        ],
+    )
+}
+
+fn give_undefined<E: Sink>(statement: u64, err: &mut E) -> Result<(), Failed>
+    ensures { Gives (E.state err.old) (E.state err.new) (undefined_line statement) result }
+{
+    put_undefined(statement, err)?;
+    err.flush()
+}
+
+#[tactic(auto, using(crate::proofs::Giving::some_statement))]
+fn say_undefined<E: Sink>(statement: u64, err: &mut E) -> u8
+    ensures { Said 7 (undefined_line statement) (E.state err.old) (E.state err.new) result }
+{
+    match give_undefined(statement, err) {
+        Ok(()) => 7,
+        Err(Failed) => 4,
+    }
+}
+
+fn finish_run<E: Sink>(ran: Result<CEnd, RunStop>, err: &mut E) -> u8
+    ensures { FinishedC ran (E.state err.old) (E.state err.new) result }
+{
+    match ran {
+        Ok(CEnd::End) => 0,
+        Ok(CEnd::Stop) => 6,
+        Ok(CEnd::Undefined(statement)) => say_undefined(statement, err),
+        Err(RunStop::Failed) => say_write_fault(err),
+        Err(RunStop::Memory) => say_no_memory(err),
+    }
+}
+
+fn give_values<O: Sink>(dump: &Dump, tick: u64, out: &mut O) -> Result<(), Failed>
+    ensures { Gives (O.state out.old) (O.state out.new) (values_text dump.now tick) result }
+{
+    write_values(dump, tick, out)?;
+    out.flush()
+}
+
+// Prints the values of a dump at a tick, or tells the failure of out. A dump without signals has none.
+#[tactic(auto, using(crate::proofs::Dumped::no_values, crate::proofs::Dumped::some_values, crate::proofs::Giving::silent_written, crate::proofs::Giving::told_written, crate::proofs::Giving::told_cut))]
+fn print_values<O: Sink, E: Sink>(dump: &Dump, tick: u64, out: &mut O, err: &mut E) -> u8
+    ensures { Written (prints (values_text dump.now tick)) (O.state out.old) (O.state out.new) (E.state err.old) (E.state err.new) result }
+{
+    if dump.count() == 0 {
+        return 0;
+    }
+    match give_values(dump, tick, out) {
+        Ok(()) => 0,
+        Err(_) => say_write_fault(err),
+    }
+}
+
+/// Writes a prepared command, and gives its status.
+pub fn deliver<O: Sink, E: Sink>(
+    alloc: Global,
+    prepared: Prepared,
+    out: &mut O,
+    err: &mut E,
+    lib: &mut Library,
+) -> u8
+    requires prepared { IsPrepared (⟦<Library as Banks>⟧.banks lib.old) prepared }
+    requires banks { AreAllBanks (⟦<Library as Banks>⟧.banks lib.old) }
+    ensures delivered { Delivers prepared (O.state out.old) (O.state out.new) (E.state err.old) (E.state err.new) result }
+    ensures left { IsDone result → LeavesBanks prepared (⟦<Library as Banks>⟧.banks lib.old) (⟦<Library as Banks>⟧.banks lib.new) }
+    ensures banks { AreAllBanks (⟦<Library as Banks>⟧.banks lib.new) }
+{
+    match prepared {
+        Prepared::Usage => say_usage(err),
+        Prepared::Refused(refusal) => refuse(&refusal, err),
+        Prepared::ReadFault => say_read_fault(err),
+        Prepared::Memory => say_no_memory(err),
+        Prepared::Print(text) => print(text, out, err),
+        Prepared::Report(told) => tell(&told, out, err),
+        Prepared::Code(program) => print_code(&program, out, err),
+        Prepared::Bulk(counts) => print_bulk(&counts, out, err),
+        Prepared::Simulate(simulation) => finish(print_trace(simulation, lib, out), err),
+        Prepared::Judge(verdict) => print_verdict(verdict, out, err),
+        Prepared::Save(saved) => print_saved(&saved, out, err),
+        Prepared::Resume(resumed) => finish(print_rest(resumed, lib, out), err),
+        Prepared::RunC(program, inputs, until, limit) => finish_run(
+            print_run(alloc, &program, &inputs, until, limit, out),
+            err,
+        ),
+        Prepared::Dump(simulation, dump) => finish(print_dump(simulation, dump, lib, out), err),
+        Prepared::DumpAt(dump, tick) => print_values(&dump, tick, out, err),
+    }
+}

@@ -1,0 +1,409 @@
+// A command with all that it needs: its files are looked at, and nothing is written.
+ghost use Rattle.std.specs.Prelude.{◌≡◌, ◌≤◌, ◌^◌, List, map, string_bytes};
+ghost use Rattle.sci_bank.specs.Bank.{Meaning};
+ghost use Rattle.sci_commands.specs.Banks.{AreAllBanks};
+ghost use Rattle.sci_io.specs.Files.{FolderState};
+ghost use Rattle.sci_commands.specs.Words.{report as tell, simulate, judge, save, resume, code, run_c, bulk, dump, dump_at, InBounds, asked_by};
+ghost use Rattle.sci_commands.specs.Reached.{Reaches, ReachesCounted};
+ghost use Rattle.sci_commands.specs.Answer.{Answer, no_memory};
+ghost use Rattle.sci_commands.specs.Look.{IsRefusal};
+ghost use Rattle.sci_commands.specs.Save.{run_ended};
+ghost use Rattle.sci_commands.specs.Prepare.{IsAnswerOf, stop_answer, IsPrepared, LeavesBanks, MayLack, LooksAt};
+
+use crate::bulk::{BulkCounts, count_bulk};
+use crate::command::{Command, Report};
+use crate::dump::DumpRules;
+use crate::host::host;
+use crate::look::{LookStop, look, look_text, refused_by};
+use crate::rules::{CRules, ColumnRules, DiagramRules, PlanRules};
+use crate::run_files::{RunFiles, look_at_run};
+use crate::saved::{SavedRules, SavedRun};
+use crate::told::Told;
+use crate::words::parse;
+use c_ast::Program;
+use sci_agree::Verdict;
+use sci_bank::library::{Banks, Library};
+use sci_base::{NoMemory, Refusal, Rule, Stop};
+use sci_cgen::emit;
+use sci_io::Folder;
+use sci_judge::judge_trace;
+use sci_resume::{Reached, run_to};
+use sci_save::Image;
+use sci_sim::Ready;
+use sci_trace::inputs::Inputs;
+use sci_vcd::{Dump, VcdOut};
+use std::alloc::Global;
+
+/// A run of a net, before it begins.
+#[derive(Drop)]
+pub struct Simulation {
+    pub ready: Ready,
+    /// The columns of the input file.
+    pub inputs: Inputs,
+    /// The last date.
+    pub until: u64,
+    /// The most events.
+    pub limit: u64,
+}
+
+/// A run that goes on from what was saved, before it does.
+#[derive(Drop)]
+pub struct ResumedRun {
+    pub image: Image,
+    /// The run behind the reaction of which this was saved.
+    pub run: Simulation,
+}
+
+/// A command with all that it needs, before it writes.
+#[derive(Drop)]
+pub enum Prepared {
+    Usage,
+    Refused(Refusal),
+    ReadFault,
+    Memory,
+    /// A text to be printed.
+    Print(&'static str),
+    /// What is told of a diagram.
+    Report(Told),
+    Simulate(Simulation),
+    /// The verdict on a trace.
+    Judge(Verdict),
+    /// What is saved of a run.
+    Save(SavedRun),
+    /// A run that goes on from what was saved.
+    Resume(ResumedRun),
+    /// The C program of a diagram.
+    Code(Program),
+    /// A C program with the columns of its input file, the last date and the most events.
+    RunC(Program, Inputs, u64, u64),
+    /// What is counted of a bulk diagram.
+    Bulk(BulkCounts),
+    /// A simulation, of which the value change dump is written.
+    Dump(Simulation, VcdOut),
+    /// A value change dump, of which the values at this tick are told.
+    DumpAt(Dump, u64),
+}
+
+fn for_report<F: Folder>(
+    alloc: Global,
+    folder: &mut F,
+    report: Report,
+    file: &str,
+) -> Result<Prepared, LookStop>
+    ensures looks { (banks : List Meaning) → LooksAt (F.state folder.old) (F.state folder.new) banks (tell report file.now) result }
+    ensures kept { (F.state folder.new).files ≡ (F.state folder.old).files }
+{
+    let told = look(alloc, folder, file, 1, &DiagramRules { report })?;
+    Ok(Prepared::Report(told))
+}
+
+fn for_simulate<F: Folder>(
+    alloc: Global,
+    folder: &mut F,
+    file: &str,
+    inputs_file: &str,
+    until: u64,
+    limit: u64,
+    lib: &mut Library,
+) -> Result<Prepared, LookStop>
+    requires until { until ≤ 2 ^ 62 }
+    requires limit { limit ≤ 1000000 }
+    requires banks { AreAllBanks (⟦<Library as Banks>⟧.banks lib.old) }
+    ensures looks { LooksAt (F.state folder.old) (F.state folder.new) (⟦<Library as Banks>⟧.banks lib.new) (simulate file.now inputs_file.now until limit) result }
+    ensures kept { (F.state folder.new).files ≡ (F.state folder.old).files }
+    ensures banks { AreAllBanks (⟦<Library as Banks>⟧.banks lib.new) }
+{
+    let files = look_at_run(alloc, folder, file, inputs_file)?;
+    let ready = Ready::new(alloc, files.checked.net, files.checked.schedule, lib)?;
+    Ok(Prepared::Simulate(Simulation {
+        ready,
+        inputs: files.inputs,
+        until,
+        limit,
+    }))
+}
+
+fn for_judge<F: Folder>(
+    alloc: Global,
+    folder: &mut F,
+    file: &str,
+    inputs_file: &str,
+    trace_file: &str,
+    until: u64,
+    limit: u64,
+    lib: &mut Library,
+) -> Result<Prepared, LookStop>
+    requires until { until ≤ 2 ^ 62 }
+    requires limit { limit ≤ 1000000 }
+    requires banks { AreAllBanks (⟦<Library as Banks>⟧.banks lib.old) }
+    ensures looks { LooksAt (F.state folder.old) (F.state folder.new) (⟦<Library as Banks>⟧.banks lib.new) (judge file.now inputs_file.now trace_file.now until limit) result }
+    ensures kept { (F.state folder.new).files ≡ (F.state folder.old).files }
+    ensures banks { AreAllBanks (⟦<Library as Banks>⟧.banks lib.new) }
+{
+    let files = look_at_run(alloc, folder, file, inputs_file)?;
+    let trace = look_text(alloc, folder, trace_file)?;
+    let RunFiles { checked, inputs } = files;
+    let verdict = judge_trace(alloc, checked.net, lib, &inputs, until, limit, &trace)?;
+    Ok(Prepared::Judge(verdict))
+}
+
+// The refusal of a run that has no reaction behind this one: it has so many.
+fn ended_by(alloc: Global, reaction: u64, count: u64) -> LookStop
+    requires reaction { reaction ≤ 1000001 }
+    requires count { count ≤ 1000001 }
+    ensures { IsRefusal (run_ended reaction count) result }
+{
+    refused_by(alloc, Rule::RunEnded, &[reaction as i64, count as i64])
+}
+
+fn for_save<F: Folder>(
+    alloc: Global,
+    folder: &mut F,
+    file: &str,
+    inputs_file: &str,
+    until: u64,
+    limit: u64,
+    reaction: u64,
+    lib: &mut Library,
+) -> Result<Prepared, LookStop>
+    requires until { until ≤ 2 ^ 62 }
+    requires limit { limit ≤ 1000000 }
+    requires least { 1 ≤ reaction }
+    requires most { reaction ≤ 1000001 }
+    requires banks { AreAllBanks (⟦<Library as Banks>⟧.banks lib.old) }
+    ensures looks { LooksAt (F.state folder.old) (F.state folder.new) (⟦<Library as Banks>⟧.banks lib.new) (save file.now inputs_file.now until limit reaction) result }
+    ensures kept { (F.state folder.new).files ≡ (F.state folder.old).files }
+    ensures banks { AreAllBanks (⟦<Library as Banks>⟧.banks lib.new) }
+{
+    let files = look_at_run(alloc, folder, file, inputs_file)?;
+    let RunFiles { checked, inputs } = files;
+    let mut ready = Ready::new(alloc, checked.net, checked.schedule, lib)?;
+    match run_to(alloc, &mut ready, lib, &inputs, until, limit, reaction) {
+        Ok(Reached::Saved(image)) => Ok(Prepared::Save(SavedRun { ready, image })),
+        Ok(Reached::Ended(count)) => Err(ended_by(alloc, reaction, count)),
+        Err(NoMemory) => Err(LookStop::Memory),
+    }
+}
+
+fn for_resume<F: Folder>(
+    alloc: Global,
+    folder: &mut F,
+    file: &str,
+    inputs_file: &str,
+    saved_file: &str,
+    until: u64,
+    limit: u64,
+    lib: &mut Library,
+) -> Result<Prepared, LookStop>
+    requires until { until ≤ 2 ^ 62 }
+    requires limit { limit ≤ 1000000 }
+    requires banks { AreAllBanks (⟦<Library as Banks>⟧.banks lib.old) }
+    ensures looks { LooksAt (F.state folder.old) (F.state folder.new) (⟦<Library as Banks>⟧.banks lib.new) (resume file.now inputs_file.now saved_file.now until limit) result }
+    ensures kept { (F.state folder.new).files ≡ (F.state folder.old).files }
+    ensures banks { AreAllBanks (⟦<Library as Banks>⟧.banks lib.new) }
+{
+    let files = look_at_run(alloc, folder, file, inputs_file)?;
+    let RunFiles { checked, inputs } = files;
+    let rules = SavedRules {
+        net: checked.net,
+        inputs,
+    };
+    let image = look(alloc, folder, saved_file, 3, &rules)?;
+    let SavedRules { net, inputs } = rules;
+    let ready = Ready::restore(alloc, net, checked.schedule, lib, &image)?;
+    let run = Simulation {
+        ready,
+        inputs,
+        until,
+        limit,
+    };
+    Ok(Prepared::Resume(ResumedRun { image, run }))
+}
+
+fn for_code<F: Folder>(alloc: Global, folder: &mut F, file: &str) -> Result<Prepared, LookStop>
+    ensures looks { (banks : List Meaning) → LooksAt (F.state folder.old) (F.state folder.new) banks (code file.now) result }
+    ensures kept { (F.state folder.new).files ≡ (F.state folder.old).files }
+{
+    let checked = look(alloc, folder, file, 1, &PlanRules)?;
+    let program = emit(alloc, &checked.net, &checked.schedule)?;
+    Ok(Prepared::Code(program))
+}
+
+fn for_bulk(alloc: Global, seed: u32, size: u32, lib: &mut Library) -> Result<Prepared, LookStop>
+    requires least { 1 ≤ size }
+    requires most { size ≤ 2000 }
+    requires banks { AreAllBanks (⟦<Library as Banks>⟧.banks lib.old) }
+    ensures looks { (s : FolderState) → LooksAt s s (⟦<Library as Banks>⟧.banks lib.new) (bulk seed size) result }
+    ensures banks { AreAllBanks (⟦<Library as Banks>⟧.banks lib.new) }
+{
+    match count_bulk(alloc, seed, size, lib) {
+        Ok(counts) => Ok(Prepared::Bulk(counts)),
+        Err(Stop::Refused(refusal)) => Err(LookStop::Refused(refusal)),
+        Err(Stop::Memory) => Err(LookStop::Memory),
+    }
+}
+
+fn for_run_c<F: Folder>(
+    alloc: Global,
+    folder: &mut F,
+    file: &str,
+    inputs_file: &str,
+    until: u64,
+    limit: u64,
+) -> Result<Prepared, LookStop>
+    requires until { until ≤ 2 ^ 62 }
+    requires limit { limit ≤ 1000000 }
+    ensures looks { (banks : List Meaning) → LooksAt (F.state folder.old) (F.state folder.new) banks (run_c file.now inputs_file.now until limit) result }
+    ensures kept { (F.state folder.new).files ≡ (F.state folder.old).files }
+{
+    let program = look(alloc, folder, file, 1, &CRules)?;
+    let rules = ColumnRules {
+        needs: Vec::new(alloc),
+    };
+    let inputs = look(alloc, folder, inputs_file, 2, &rules)?;
+    Ok(Prepared::RunC(program, inputs, until, limit))
+}
+
+fn for_dump<F: Folder>(
+    alloc: Global,
+    folder: &mut F,
+    file: &str,
+    inputs_file: &str,
+    until: u64,
+    limit: u64,
+    lib: &mut Library,
+) -> Result<Prepared, LookStop>
+    requires until { until ≤ 2 ^ 62 }
+    requires limit { limit ≤ 1000000 }
+    requires banks { AreAllBanks (⟦<Library as Banks>⟧.banks lib.old) }
+    ensures looks { LooksAt (F.state folder.old) (F.state folder.new) (⟦<Library as Banks>⟧.banks lib.new) (dump file.now inputs_file.now until limit) result }
+    ensures kept { (F.state folder.new).files ≡ (F.state folder.old).files }
+    ensures banks { AreAllBanks (⟦<Library as Banks>⟧.banks lib.new) }
+{
+    let files = look_at_run(alloc, folder, file, inputs_file)?;
+    let dump = VcdOut::new(alloc, &files.checked.net)?;
+    let ready = Ready::new(alloc, files.checked.net, files.checked.schedule, lib)?;
+    let simulation = Simulation {
+        ready,
+        inputs: files.inputs,
+        until,
+        limit,
+    };
+    Ok(Prepared::Dump(simulation, dump))
+}
+
+fn for_dump_at<F: Folder>(
+    alloc: Global,
+    folder: &mut F,
+    file: &str,
+    tick: u64,
+) -> Result<Prepared, LookStop>
+    ensures looks { (banks : List Meaning) → LooksAt (F.state folder.old) (F.state folder.new) banks (dump_at file.now tick) result }
+    ensures kept { (F.state folder.new).files ≡ (F.state folder.old).files }
+{
+    let dump = look(alloc, folder, file, 1, &DumpRules)?;
+    Ok(Prepared::DumpAt(dump, tick))
+}
+
+#[tactic(auto, using(crate::proofs::Looking::host_looks))]
+fn for_command<F: Folder>(
+    alloc: Global,
+    folder: &mut F,
+    command: Command<'_>,
+    lib: &mut Library,
+) -> Result<Prepared, LookStop>
+    requires bounds { InBounds (asked_by command) }
+    requires banks { AreAllBanks (⟦<Library as Banks>⟧.banks lib.old) }
+    ensures looks { LooksAt (F.state folder.old) (F.state folder.new) (⟦<Library as Banks>⟧.banks lib.new) (asked_by command.entry) result }
+    ensures kept { (F.state folder.new).files ≡ (F.state folder.old).files }
+    ensures banks { AreAllBanks (⟦<Library as Banks>⟧.banks lib.new) }
+{
+    match command {
+        Command::Report(report, file) => for_report(alloc, folder, report, file),
+        Command::Host => Ok(Prepared::Print(host())),
+        Command::Code(file) => for_code(alloc, folder, file),
+        Command::Bulk(seed, size) => for_bulk(alloc, seed, size, lib),
+        Command::Simulate(file, inputs_file, until, limit) => {
+            for_simulate(alloc, folder, file, inputs_file, until, limit, lib)
+        }
+        Command::Judge(file, inputs_file, trace_file, until, limit) => {
+            for_judge(
+                alloc,
+                folder,
+                file,
+                inputs_file,
+                trace_file,
+                until,
+                limit,
+                lib,
+            )
+        }
+        Command::Save(file, inputs_file, until, limit, reaction) => {
+            for_save(
+                alloc,
+                folder,
+                file,
+                inputs_file,
+                until,
+                limit,
+                reaction,
+                lib,
+            )
+        }
+        Command::Resume(file, inputs_file, saved_file, until, limit) => {
+            for_resume(
+                alloc,
+                folder,
+                file,
+                inputs_file,
+                saved_file,
+                until,
+                limit,
+                lib,
+            )
+        }
+        Command::RunC(file, inputs_file, until, limit) => {
+            for_run_c(alloc, folder, file, inputs_file, until, limit)
+        }
+        Command::Dump(file, inputs_file, until, limit) => {
+            for_dump(alloc, folder, file, inputs_file, until, limit, lib)
+        }
+        Command::DumpAt(file, tick) => for_dump_at(alloc, folder, file, tick),
+    }
+}
+
+// What is told of a file that gives nothing.
+fn stopped(stop: LookStop) -> Prepared
+    ensures answer { (a : Answer) → IsAnswerOf result a → a ≡ stop_answer stop }
+    ensures prepared { (banks : List Meaning) → IsPrepared banks result }
+    ensures lacks { MayLack result → ⊥ }
+{
+    match stop {
+        LookStop::Refused(refusal) => Prepared::Refused(refusal),
+        LookStop::Fault => Prepared::ReadFault,
+        LookStop::Memory => Prepared::Memory,
+    }
+}
+
+/// Looks at the words and the files, and writes nothing.
+pub fn prepare<F: Folder>(
+    alloc: Global,
+    words: &[String],
+    folder: &mut F,
+    lib: &mut Library,
+) -> Prepared
+    requires { AreAllBanks (⟦<Library as Banks>⟧.banks lib.old) }
+    ensures reaches { (a : Answer) → IsAnswerOf result a → ReachesCounted (map string_bytes words.now) (F.state folder.old) (F.state folder.new) a (LeavesBanks result (⟦<Library as Banks>⟧.banks lib.new)) }
+    ensures prepared { IsPrepared (⟦<Library as Banks>⟧.banks lib.new) result }
+    ensures lacks { MayLack result → Reaches (map string_bytes words.now) (F.state folder.old) (F.state folder.new) no_memory }
+    ensures kept { (F.state folder.new).files ≡ (F.state folder.old).files }
+    ensures banks { AreAllBanks (⟦<Library as Banks>⟧.banks lib.new) }
+{
+    match parse(words) {
+        None => Prepared::Usage,
+        Some(command) => match for_command(alloc, folder, command, lib) {
+            Ok(prepared) => prepared,
+            Err(stop) => stopped(stop),
+        },
+    }
+}

@@ -1,0 +1,4 @@
+// The line that tells a refusal.
+mod line;
+
+pub use line::{put_place, put_refused};

@@ -1,0 +1,31 @@
+// The run that goes on from what was saved.
+ghost use Rattle.sci_commands.specs.Banks.{AreAllBanks};
+ghost use Rattle.sci_commands.specs.Deliver.{PrintsRest};
+ghost use Rattle.sci_commands.specs.Prepare.{IsReadyToGoOn};
+
+use crate::prepare::{ResumedRun, Simulation};
+use sci_bank::library::{Banks, Library};
+use sci_io::{Failed, Sink};
+use sci_sim::RunEnd;
+
+/// Runs on to the end and gives the last byte on.
+pub fn print_rest<O: Sink>(
+    resumed: ResumedRun,
+    lib: &mut Library,
+    out: &mut O,
+) -> Result<RunEnd, Failed>
+    requires { IsReadyToGoOn (⟦<Library as Banks>⟧.banks lib.old) resumed }
+    ensures printed { PrintsRest resumed (O.state out.old) (O.state out.new) result }
+    ensures banks { AreAllBanks (⟦<Library as Banks>⟧.banks lib.new) }
+{
+    let ResumedRun { image: _image, run } = resumed;
+    let Simulation {
+        mut ready,
+        inputs,
+        until,
+        limit,
+    } = run;
+    let end = ready.run_on(lib, &inputs, until, limit, out)?;
+    out.flush()?;
+    Ok(end)
+}

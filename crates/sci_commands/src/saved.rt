@@ -1,0 +1,74 @@
+// A run that is saved, and one that goes on from what was saved.
+ghost use Rattle.std.specs.Prelude.{◌≤◌, length};
+ghost use Rattle.sci_save.specs.Saved.{saved_of};
+ghost use Rattle.sci_save.specs.Text.{saved_text};
+ghost use Rattle.sci_save.specs.Valid.{IsShaped};
+ghost use Rattle.sci_commands.specs.Deliver.{Gives};
+ghost use Rattle.sci_commands.specs.Judged.{IsJudged};
+ghost use Rattle.sci_commands.specs.Save.{AcceptsImage, BreaksSaved};
+
+use crate::rules::{Rules, blame};
+use sci_base::{Rule, Stop};
+use sci_io::{Failed, Sink};
+use sci_net::Net;
+use sci_save::{Image, SaveStop, read_save, write_save};
+use sci_sim::Ready;
+use sci_trace::inputs::Inputs;
+use std::alloc::Global;
+
+/// What is saved of a run.
+#[derive(Drop)]
+pub struct SavedRun {
+    /// The net behind the reaction.
+    pub ready: Ready,
+    pub image: Image,
+}
+
+// What the bytes save of a run of the net on these columns.
+fn image_of(alloc: Global, net: &Net, inputs: &Inputs, bytes: &[u8]) -> Result<Image, Stop>
+    requires { length bytes.now ≤ 67108864 }
+    ensures { IsJudged (AcceptsImage net.now inputs.now) (BreaksSaved net.now inputs.now) bytes.now result }
+{
+    match read_save(alloc, net, inputs, bytes) {
+        Ok(image) => Ok(image),
+        Err(SaveStop::NotSave(line)) => Err(blame(alloc, Rule::NotSave, line as usize)),
+        Err(SaveStop::Memory) => Err(Stop::Memory),
+    }
+}
+
+/// The rules of a file of what was saved, of a run of this net on these columns.
+#[derive(Drop)]
+pub struct SavedRules {
+    pub net: Net,
+    pub inputs: Inputs,
+}
+
+impl Rules for SavedRules {
+    ghost use Rattle.std.proofs.Common.{rules};
+    ghost use Rattle.sci_commands.specs.Save.{AcceptsImage, BreaksSaved};
+
+    type Made = Image;
+
+    const LONGEST: usize = 67_108_864;
+
+    ghost LONGEST = { 67108864 };
+
+    ghost accepts = { λ s bytes image. AcceptsImage s.net s.inputs bytes image };
+
+    ghost breaks = { λ s bytes v. BreaksSaved s.net s.inputs bytes v };
+
+    fn judge(&self, alloc: Global, bytes: &[u8]) -> Result<Image, Stop> {
+        image_of(alloc, &self.net, &self.inputs, bytes)
+    }
+
+    ghost within = { Prim.search rules };
+}
+
+/// Writes what is saved and gives it on.
+pub fn give_saved<O: Sink>(saved: &SavedRun, out: &mut O) -> Result<(), Failed>
+    requires { IsShaped saved.now.ready.fixed.net (saved_of saved.now.image) }
+    ensures { Gives (O.state out.old) (O.state out.new) (saved_text saved.now.ready.fixed.net (saved_of saved.now.image)) result }
+{
+    write_save(saved.ready.net(), &saved.image, out)?;
+    out.flush()
+}

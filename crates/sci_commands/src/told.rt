@@ -1,0 +1,42 @@
+// What is told of a diagram's file.
+ghost use Rattle.std.specs.Prelude.{◌≤◌, length};
+ghost use Rattle.sci_verdict.specs.Verdict.{Breaks};
+ghost use Rattle.sci_commands.specs.Judged.{IsJudged, AcceptsTold};
+
+use crate::command::Report;
+use sci_base::Stop;
+use sci_net::Net;
+use sci_verdict::{Checked, Measured, check, measure};
+use std::alloc::Global;
+
+/// What is told of a diagram.
+#[derive(Drop)]
+pub enum Told {
+    /// How many blocks, sources, schedule entries and guards it has.
+    Check(Measured),
+    /// Its blocks.
+    Map(Net),
+    /// Its static schedules.
+    Schedule(Checked),
+}
+
+/// What is told of a diagram's bytes, or the first rule that they break. Schedules are built only where they are told.
+pub fn report_on(alloc: Global, report: Report, bytes: &[u8]) -> Result<Told, Stop>
+    requires { length bytes.now ≤ 16777216 }
+    ensures { IsJudged (AcceptsTold report) Breaks bytes.now result }
+{
+    match report {
+        Report::Check => {
+            let measured = measure(alloc, bytes)?;
+            Ok(Told::Check(measured))
+        }
+        Report::Map => {
+            let Measured { net, size: _ } = measure(alloc, bytes)?;
+            Ok(Told::Map(net))
+        }
+        Report::Schedule => {
+            let checked = check(alloc, bytes)?;
+            Ok(Told::Schedule(checked))
+        }
+    }
+}

@@ -1,0 +1,10 @@
+use Rattle.std.proofs.Common.{arith}
+use Rattle.sci_diagram.specs.Objects.{diagram_view}
+use Rattle.sci_blocks.proofs.Lawful.{read_law}
+use Rattle.sci_worked_checks.proofs.parts.judged.Goals as goal
+
+pub parts-requires : goal.parts-requires
+parts-requires g c = record { short = read_law c.args.bytes.now (diagram_view c.in-Ok.d) (omega arith) c.in-Ok.ensures }
+
+pub links-requires : goal.links-requires
+links-requires g c = record { short = read_law c.args.bytes.now (diagram_view c.in-Ok.d) (omega arith) c.in-Ok.ensures }
