@@ -127,14 +127,15 @@ def wrong_order(lines):
 
 
 def wrong_told(said):
-    """What is wrong with what is said from nothing: how many crates there are and what the README says of the time, and then how many are proved, each time
-    that it has changed, with the minutes gone."""
+    """What is wrong with what is said from nothing: how many crates there are and what the README says of the time, how many jobs there are at a time,
+    and then how many crates are proved, each time that it has changed, with the minutes gone."""
     with open(os.path.join(TOP, 'README.md')) as file:
         minutes = re.search(r'takes some\s+(\d+)\s+minutes on four processors', file.read()).group(1)
-    first, *others = said.splitlines() or ['']
-    found = [re.fullmatch(r'scicos: (\d) of 4 crates are proved, 0 minutes gone', line) for line in others]
+    lines = said.splitlines()
+    found = [re.fullmatch(r'scicos: (\d) of 4 crates are proved, 0 minutes gone', line) for line in lines[2:]]
     counts = [int(line.group(1)) if line else None for line in found]
-    same = first == 'scicos: proving and building the program, 4 crates; from nothing this takes some %s minutes on four processors' % minutes
+    same = lines[:2] == ['scicos: proving and building the program, 4 crates; from nothing this takes some %s minutes on four processors' % minutes,
+                         'scicos: 2 jobs at a time, by the processors and the free memory']
     return [] if same and counts in ([0, 1, 2, 3], [0, 1, 3]) else ['it is said: %r' % said]
 
 
@@ -203,14 +204,17 @@ def wrong_failure(top):
 
 
 def wrong_machine(top):
-    """Without rt, and without room on the disk, there is one line, and nothing is begun."""
+    """Without rt, without python3, and without room on the disk, there is one line, and nothing is begun."""
     with open(os.path.join(top, 'tools', 'prove')) as file:
         write(re.sub(r'^ROOM = .*$', 'ROOM = 1 << 60', file.read(), flags=re.M), top, 'tools', 'prove')
     full = answer(begin(top, 'x'))
     wrong = [] if full[0] == '' and full[1].count('\n') == 1 and 'make room' in full[1] and full[2] == 70 else ['without room: %r' % (full,)]
-    os.remove(os.path.join(top, 'bin', 'rt'))
-    bare = answer(begin(top, 'x'))
-    wrong += [] if bare[0] == '' and bare[1].count('\n') == 1 and 'README.md' in bare[1] and bare[2] == 70 else ['without rt: %r' % (bare,)]
+    for name, word in (('python3', 'install Python 3'), ('rt', 'README.md')):
+        os.rename(os.path.join(top, 'bin', name), os.path.join(top, name))
+        bare = answer(begin(top, 'x'))
+        one = bare[1].startswith("scicos: %s isn't on the path" % name) and bare[1].count('\n') == 1 and word in bare[1]
+        wrong += [] if one and bare[0] == '' and bare[2] == 70 else ['without %s: %r' % (name, bare)]
+        os.rename(os.path.join(top, name), os.path.join(top, 'bin', name))
     return wrong + ['%r' % noted(top)] * bool(noted(top))
 
 

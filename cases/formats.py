@@ -53,7 +53,8 @@ def wrong_traces(program, page):
 
 
 def wrong_printed(program, page):
-    """What a command prints of an example is what stands under its words; what was saved or dumped is what the next command reads."""
+    """What a command prints of an example, or without a file of the diagram above it, is what stands under its words; what was saved or dumped is what
+    the next command reads."""
     wrong, kept = [], ''
     for words, body in parts(page):
         if words[0] in ('map', 'schedule', 'check', 'save', 'resume', 'vcd', 'vcdat'):
@@ -61,9 +62,10 @@ def wrong_printed(program, page):
                 file.write(kept)
                 file.flush()
                 line = {'resume': words[:3] + [file.name] + words[3:], 'vcdat': words[:1] + [file.name] + words[1:]}.get(words[0], words)
+                line = line if len(line) > 1 else line + [file.name]
                 run = subprocess.run([program] + line, cwd=os.path.join(HERE, '..'), capture_output=True, timeout=120)
-            kept = body if words[0] in ('save', 'vcd') else kept
             wrong += [] if (run.stdout.decode(), run.returncode) == (body, 0) else ['%r in place of %r' % (run, body)]
+        kept = body if words[0] in ('diagram', 'save', 'vcd') else kept
     return wrong
 
 

@@ -1,5 +1,6 @@
 """The pages' command lines: each block of them is run, line by line, and each line gives the status that is due, and prints what the next block shows,
-if that shows something; each other block is one that another case reads; and the README's first diagram."""
+if that shows something, or what another line prints, if the page says so; each other block is one that another case reads; and the README's first
+diagram."""
 import glob
 import json
 import os
@@ -65,7 +66,8 @@ def trace_of(name):
 
 
 def furnish(program, work):
-    """A folder in which the lines can be run: the program where they call it, the examples, the tools, and the files that a reader has of his own."""
+    """A folder in which the lines can be run: the program where they call it, the examples, the tools, and the files that a reader has of his own, as
+    the two that the page on targets shows in C."""
     os.makedirs(os.path.join(work, 'crates', 'scicos', 'out'))
     os.mkdir(os.path.join(work, 'inputs'))
     for place in ('scicos', os.path.join('crates', 'scicos', 'out', 'scicos')):
@@ -74,6 +76,10 @@ def furnish(program, work):
         shutil.copytree(os.path.join(TOP, folder), os.path.join(work, folder))
     shutil.copy(os.path.join(EXAMPLES, 'first.json'), os.path.join(work, 'my-diagram.json'))
     shutil.copy(os.path.join(EXAMPLES, 'watchdog', 'diagram.json'), os.path.join(work, 'd.json'))
+    shown = ['\n'.join(lines) + '\n' for word, lines in blocks(text_of(TOP, 'docs', 'SHIPPING.md')) if word == 'c']
+    for name, content in zip(('host.c', 'board.c'), shown):
+        with open(os.path.join(work, name), 'w') as file:
+            file.write(content)
     for name, gaps in (('one', [20, 70, -1]), ('two', [49, 51, 50, -1])):
         with open(os.path.join(work, 'inputs', name + '.json'), 'w') as file:
             json.dump([gaps], file)
@@ -117,10 +123,20 @@ def wrong_blocks(name, page, work):
     return wrong
 
 
+def wrong_alike(name, page, work):
+    """What is wrong where a page says that a block of command lines prints what another line prints, as the README does."""
+    found = re.findall(r'((?:^    .*\n)+)\nThis prints what `(\./[^`]+)` prints\.$', page, re.M)
+    wrong = ['%s compares nothing' % name] if name == 'README.md' and not found else []
+    for block, line in found:
+        (told, given), (more, due) = (wrong_lines(name, lines, work) for lines in (next(blocks(block))[1], [line]))
+        wrong += told + more + ([] if None in (given, due) or given == due else ['%s: %r in place of what %s prints' % (name, given, line)])
+    return wrong
+
+
 def wrong_page(name, work):
     page = text_of(TOP, name)
     has_none = name in PAGES and not any(STARTS.match(lines[0]) for _, lines in blocks(page))
-    return wrong_blocks(name, page, work) + ['%s has no command lines' % name] * has_none
+    return wrong_blocks(name, page, work) + wrong_alike(name, page, work) + ['%s has no command lines' % name] * has_none
 
 
 def wrong_bulk(program, work):

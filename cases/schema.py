@@ -2,6 +2,7 @@
 import json
 import os
 import random
+import re
 import subprocess
 import tempfile
 
@@ -26,6 +27,25 @@ def validator():
         schema = json.load(file)
     Draft202012Validator.check_schema(schema)
     return Draft202012Validator(schema)
+
+
+def named(page):
+    """The first example with the field that names the schema, as the page on the files shows it."""
+    with open(os.path.join(EXAMPLES, 'first.json')) as file:
+        return json.loads('{%s, %s' % (re.search(r'`("\$schema": "[^"]+")`', page).group(1), file.read()[1:]))
+
+
+def schema_named(program):
+    """A diagram that names the schema, as the page on the files shows it, is taken as one that doesn't; and there is such a file."""
+    with open(os.path.join(DOCS, 'FORMAT.md')) as file:
+        diagram = named(file.read())
+    with tempfile.TemporaryDirectory() as work:
+        with open(os.path.join(work, 'd'), 'w') as file:
+            json.dump(diagram, file)
+        given, due = (subprocess.run([program, 'map', path], capture_output=True, timeout=120)
+                      for path in (os.path.join(work, 'd'), os.path.join(EXAMPLES, 'first.json')))
+    same = (given.stdout, given.stderr, given.returncode) == (due.stdout, b'', 0) and os.path.exists(os.path.join(HERE, '..', diagram['$schema']))
+    return '' if same else '%r in place of %r, of %r' % (given, due, diagram['$schema'])
 
 
 def refuses(program, diagram):
@@ -69,12 +89,14 @@ def example_files():
 
 
 def accepted():
-    """Diagrams that the program accepts: the examples, those of the page, and those at a limit that aren't large."""
+    """Diagrams that the program accepts: the examples, those of the page, one that names the schema, and those at a limit that aren't large."""
     for name in example_files():
         with open(name) as file:
             yield json.load(file)
     with open(os.path.join(DOCS, 'FORMAT.md')) as file:
-        yield from page_diagrams(file.read())
+        page = file.read()
+    yield from page_diagrams(page)
+    yield named(page)
     yield from ({'objs': objs} for _, objs, _ in LIMITS if len(json.dumps(objs)) < 5000)
 
 

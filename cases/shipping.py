@@ -1,7 +1,8 @@
-"""The page on targets: its host and examples/paced-host.c are C without a warning, a paced run has the trace and takes its time, sizes are told, and what
-is said of the names and warnings of generated programs, and of the rules that a checker names, holds of all designs."""
+"""The page on targets: its host and examples/paced-host.c are C without a warning, a paced run has the trace, takes its time and reads its sensors'
+values, sizes are told, and what is said of the names and warnings of generated programs, and of what a checker tells, holds of all designs."""
 import concurrent.futures
 import glob
+import json
 import os
 import re
 import shutil
@@ -16,6 +17,7 @@ TOP = os.path.join(HERE, '..')
 EXAMPLES = os.path.join(TOP, 'examples')
 FLAGS = ['-std=c99', '-Wall', '-Wextra', '-pedantic', '-Werror', '-O2']
 SPARE = ['-Wno-unused-function', '-Wno-unused-variable']
+QUADRATURE = os.path.join(EXAMPLES, 'quadrature', 'diagram.json')  # which has two sensors
 PROGRAMS = sorted(glob.glob(os.path.join(EXAMPLES, '*', 'program.c')))
 
 
@@ -54,13 +56,36 @@ def paced(program):
                 or wrong_run(program, work))
 
 
+def wrong_input(program, work, columns):
+    """What is wrong with a paced run whose sensors, of columns 1 and 2 by turns, take these values from standard input."""
+    with open(os.path.join(work, 'i'), 'w') as file:
+        json.dump(columns, file)
+    due = subprocess.run([program, 'simulate', QUADRATURE, 'i', '10', '100'], cwd=work, capture_output=True, timeout=120)
+    asked = [column[at] for at in range(len(columns[0])) for column in columns if at < len(column)]
+    run = subprocess.run([os.path.join(work, 'paced'), '1000', '10', '100'], input=' '.join(map(str, asked)).encode(), capture_output=True, timeout=120)
+    same = (run.stdout, run.returncode) == (due.stdout, due.returncode) and re.fullmatch(rb'at most \d+ ns late\n', run.stderr)
+    return [] if same else ['%r in place of %r' % (run, due)]
+
+
+def paced_inputs(program):
+    """Sensors of the paced host take what standard input has, in the order in which they ask; where that ends, the run stops."""
+    if lacks('a paced run with sensors', 'gcc'):
+        return ''
+    with open(os.path.join(os.path.dirname(QUADRATURE), 'inputs.json')) as file:
+        columns = json.load(file)
+    words = [os.path.join(EXAMPLES, 'paced-host.c'), os.path.join(os.path.dirname(QUADRATURE), 'program.c')]
+    with tempfile.TemporaryDirectory() as work:
+        told = compiled(FLAGS + SPARE + ['-D_POSIX_C_SOURCE=200809L', '-o', 'paced'] + words, work)
+        return told or '; '.join(wrong_input(program, work, columns) + wrong_input(program, work, [columns[0], columns[1][:-1]]))
+
+
 def outside(content):
     """The functions that a generated program declares."""
     return re.findall(r'^extern .*?(sci_\w+)\(', content, re.M)
 
 
 def targets(program):
-    """The host on the page is C, and the page tells of each function that a generated program declares."""
+    """The host on the page is C, as is the board beside it, and the page tells of each function that a generated program declares."""
     page = text(TOP, 'docs', 'SHIPPING.md')
     named = outside(text(EXAMPLES, 'primes.c'))
     wrong = ['%s is not on the page' % name for name in named if '| `%s(' % name not in page]
@@ -125,9 +150,20 @@ def rules_named(path):
     return {rule: str(named.count(rule)) for rule in named}
 
 
+def wrong_said(path):
+    """What is wrong with what cppcheck says of a C file beside its MISRA addon, without the system's headers and with them."""
+    words, given, lines = ['cppcheck', '--enable=all', '--std=c99', '-q', '--template={id} {line}', path], [], text(path).splitlines()
+    for more in ([], ['-I', '/usr/include']):
+        found = re.findall(r'^(\w+) (\d+)$', subprocess.run(words + more, capture_output=True, timeout=120).stderr.decode(), re.M)
+        given.append({(name, lines[int(line) - 1].strip()) for name, line in found if name != 'missingIncludeSystem'})
+    host = ('unusedFunction', 'void sci_main(void) {')
+    due = [{host}, {host, ('knownConditionTrueFalse', 'if ((int64_t)(e1 >= INT64_C(0))) {')}]
+    return [] if given == due or given[0] == due[0] and not os.path.exists('/usr/include/stdint.h') else ['%r in place of %r' % (given, due)]
+
+
 def checkers(program):
-    """On the C of the counter cppcheck's MISRA addon names the rules of the page, each as often, and on that of the designs no other, where the version is
-    the page's."""
+    """On the C of the counter cppcheck says what the page tells, and its MISRA addon names the rules of the page, each as often, and on the C of the
+    designs no other, where the version is the page's."""
     if lacks('the rules of MISRA', 'cppcheck'):
         return ''
     page = text(TOP, 'docs', 'SHIPPING.md')
@@ -141,6 +177,7 @@ def checkers(program):
         with open(counter, 'wb') as file:
             file.write(subprocess.run([program, 'ccode', os.path.join(EXAMPLES, 'counter.json')], capture_output=True, timeout=120).stdout)
         given, *others = pool.map(rules_named, [counter] + PROGRAMS)
-    wrong = [] if given == due and due else ['%r in place of %r' % (given, due)]
+        wrong = wrong_said(counter)
+    wrong += [] if given == due and due else ['%r in place of %r' % (given, due)]
     wrong += ['%s: %r' % (path, named) for path, named in zip(PROGRAMS, others) if not set(named) <= set(due) or named.get('8.4') != '1']
     return '; '.join(wrong)
