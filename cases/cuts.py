@@ -30,12 +30,15 @@ def wrong_cuts(program, content, words, due, others=(), sizes=None):
 
 
 def cut_diagrams(program):
-    """No front of a diagram is JSON, if its last byte is its last brace: for one command of each front, for all of some of the fronts of a longer one."""
-    short, long = (text(HERE, name, 'd').rstrip() for name in ('simulate-counter', 'simulate-meter'))
-    if short[-1:] + long[-1:] != b'}}':
+    """No front of a diagram is JSON, if its last byte is its last brace: for one command of each front of two, for all of some of the fronts of a longer
+    one. A front that lacks the last line end alone is the diagram."""
+    short, other, long = (text(HERE, name, 'd') for name in ('simulate-counter', 'simulate-counter-without-lists', 'simulate-meter'))
+    long, counts = long.rstrip(), text(HERE, 'check-counter', 'out')
+    if not (short[-1:] + long[-1:] == b'}}' and other[-2:] == b'}\n'):
         return 'another last byte'
     some = {0, 1, len(long) - 1, *range(2, len(long), 89)}
-    wrong = [wrong_cuts(program, short, ['check', 'cut'], lambda front: refused('1 NotJson at -'))]
+    wrong = [wrong_cuts(program, short, ['check', 'cut'], lambda front: refused('1 NotJson at -')),
+             wrong_cuts(program, other, ['check', 'cut'], lambda front: (counts, b'', 0) if front == other[:-1] else refused('1 NotJson at -'))]
     wrong += [wrong_cuts(program, long, [words[0], 'cut'] + words[2:], lambda front: refused('1 NotJson at -'), OTHERS.items(), some) for words in READERS]
     return '; '.join(filter(None, wrong))
 
@@ -53,7 +56,8 @@ def blamed(front):
 
 def cut_programs(program):
     """No front of a C program is one."""
-    return wrong_cuts(program, text(HERE, 'crun-stop', 'c'), ['crun', 'cut', 'i', '10', '10'], blamed, [('i', b'[]')])
+    return '; '.join(filter(None, (wrong_cuts(program, text(HERE, name, 'c'), ['crun', 'cut', 'i', '10', '10'], blamed, [('i', b'[]')])
+                                   for name in ('crun-stop', 'crun-quotient'))))
 
 
 def cut_code(program):

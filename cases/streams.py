@@ -319,23 +319,53 @@ def unreadable(program):
     return '; '.join(filter(None, wrong))
 
 
+def place_in(pid, path):
+    """How many bytes of a file a process has read, or None where it hasn't the file open."""
+    try:
+        for number in os.listdir('/proc/%d/fd' % pid):
+            if os.readlink('/proc/%d/fd/%s' % (pid, number)) == path:
+                return int(text('/proc/%d/fdinfo/%s' % (pid, number)).split()[1])
+    except OSError:  # it has ended, or closed the file
+        pass
+    return None
+
+
+def met_while_read(program, words, work, name, where):
+    """Whether a run was met behind some of a file's bytes and before the last one, and its answer. Where it was met, it stood still while the file was
+    cut to the length that `where` gives, by how many bytes were read."""
+    path, met, late = os.path.realpath(os.path.join(work, name)), False, time.monotonic() + 60
+    begun = subprocess.Popen([program] + words, cwd=work, stdin=subprocess.DEVNULL, stdout=subprocess.PIPE, stderr=subprocess.PIPE)
+    while begun.poll() is None and not place_in(begun.pid, path) and time.monotonic() < late:
+        pass
+    begun.send_signal(signal.SIGSTOP)
+    if begun.returncode is None:
+        os.waitid(os.P_PID, begun.pid, os.WSTOPPED | os.WEXITED | os.WNOWAIT)
+        place = place_in(begun.pid, path)
+        if place and place < os.path.getsize(path):
+            os.truncate(path, where(place))
+            met = True
+        begun.send_signal(signal.SIGCONT)
+    out, err = begun.communicate(timeout=60)
+    return met, (out, err, begun.returncode)
+
+
 def wrong_while_read(program, words, name, content, due, **files):
-    """What is wrong where a file of 16 MiB, whose last bytes are its content, is cut at some time while it is read: it is read whole, or as the front
-    that was there, which is refused; nothing else comes of it."""
+    """What is wrong where a file of 16 MiB, whose last bytes are its content, is cut while it is read: before, at or behind the place of the reader. The
+    front that is read then is refused."""
     wrong = []
     with tempfile.TemporaryDirectory() as work:
         for other, bytes_of_other in files.items():
             with open(os.path.join(work, other), 'wb') as file:
                 file.write(bytes_of_other)
-        for turn in range(12):
+        for where in (lambda at: 0, lambda at: at // 2, lambda at: at, lambda at: at + 1, lambda at: (at + 16777216) // 2, lambda at: 16777215):
             with open(os.path.join(work, name), 'wb') as file:
                 file.write(b' ' * (16777216 - len(content)) + content)
-            begun = subprocess.Popen([program] + words, cwd=work, stdin=subprocess.DEVNULL, stdout=subprocess.PIPE, stderr=subprocess.PIPE)
-            time.sleep(0.001 * turn)
-            os.truncate(os.path.join(work, name), turn * 1200000)
-            out, err = begun.communicate(timeout=60)
-            if (out, err, begun.returncode) not in ((due, b'', 0), CUT[name](b'')):
-                wrong.append('%s, cut to %d bytes: %r, %r, %d' % (words[0], turn * 1200000, out, err, begun.returncode))
+            for _ in range(50):
+                met, given = met_while_read(program, words, work, name, where)
+                if met or given != (due, b'', 0):
+                    break
+            length = os.path.getsize(os.path.join(work, name))
+            wrong += [] if met and given == CUT[name](b'') else ['%s, %s: %r' % (words[0], 'cut to %d bytes' % length if met else 'not met while it read', given)]
     return wrong
 
 

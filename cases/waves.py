@@ -1,13 +1,15 @@
-"""Value change dumps: of runs, with a mistake, at the limits, and read by GTKWave's own readers where these are installed.
+"""Value change dumps: of runs, with a mistake, at the limits, and read by GTKWave's own readers and by simavr's where these are installed.
 
 What is due comes from tools/plain_vcd.py; the first wrong line of the dump of the counter is also written here by hand.
 """
 import json
 import os
+import re
+import string
 import subprocess
 import tempfile
 
-from lacking import lacks
+from lacking import lacks, untried
 from plain import EXAMPLES, in_folder, plain, ring_of_delays, simulations
 from streams import HERE, READ_FAULT, run, text, without
 import plain_kinds as kinds
@@ -206,10 +208,9 @@ def far_events():
     return json.dumps(diagram).encode()
 
 
-def runs_with_signals(program):
-    """Of each run that has signals its name, the dump that the program writes, and the dump as it is meant."""
-    more = [('far events', far_events(), b'[]', str(2**62), '20'), ('65,536 signals', ring_of_delays(), b'[]', '100', '4')]
-    for name, diagram, inputs, until, limit in [*simulations(), *more]:
+def runs_with_signals(program, *more):
+    """Of each run that has signals, and of further ones, its name, the dump that the program writes, and the dump as it is meant."""
+    for name, diagram, inputs, until, limit in [*simulations(), ('far events', far_events(), b'[]', str(2**62), '20'), *more]:
         dump, _ = plain_vcd.of_run(*plain(diagram, inputs), int(until), int(limit))
         if dump.signals:
             yield name, in_folder(program, ['vcd', 'd', 'i', until, limit], d=diagram, i=inputs)[0], dump
@@ -227,7 +228,7 @@ def there_and_back(content, there, back):
 def gtkwave(program):
     """The readers of GTKWave's three formats take each dump that has signals, and give it back with the same values, where they are installed. Two of them
     don't take one without a later tick than 0."""
-    wrong, runs = [], list(runs_with_signals(program))
+    wrong, runs = [], list(runs_with_signals(program, ('65,536 signals', ring_of_delays(), b'[]', '100', '4')))
     for there, back in (('vcd2fst', 'fst2vcd'), ('vcd2lxt2', 'lxt2vcd'), ('vcd2vzt', 'vzt2vcd')):
         if lacks('dumps read by ' + there, there, back):
             continue
@@ -236,6 +237,48 @@ def gtkwave(program):
                 again, told = there_and_back(content, there, back)
                 wrong += [] if changes_of(values_of(again)) == changes_due(dump) else ['%s, %s: %r, %r' % (there, name, told, again[-300:])]
     return '; '.join(wrong)[:800] or ('' if len(runs) > 30 else 'too few runs: %d' % len(runs))
+
+
+LETTERS = string.ascii_letters.encode()
+
+
+def with_letters(content):
+    """A dump with letters for the codes of its signals."""
+    return re.sub(rb' v([0-9]+)(?= |$)', lambda code: b' ' + LETTERS[int(code.group(1)) - 1:][:1], content, flags=re.M)
+
+
+def simavr_reader(work):
+    """The command that has simavr read a dump, or None where its library isn't installed, which is told, and what is wrong."""
+    what, command = 'dumps read by simavr', os.path.join(work, 'reader')
+    if lacks(what, 'gcc'):
+        return None, ''
+    if subprocess.run(['gcc', '-E', '-xc', '-'], input=b'#include <simavr/sim_vcd_file.h>\n', capture_output=True).returncode:
+        untried(what, 'libsimavr-dev')
+        return None, ''
+    made = subprocess.run(['gcc', '-std=c99', '-Wall', '-Wextra', '-o', command, os.path.join(HERE, 'read_by_simavr.c'), '-lsimavr'], capture_output=True)
+    return (None, repr(made.stderr)) if made.returncode else (command, '')
+
+
+def simavr(program):
+    """The reader of simavr, a simulator of microcontrollers, takes each dump of at most 52 signals, with letters for their codes, which are single
+    characters there, and tells the names, sizes and values that are meant."""
+    with tempfile.TemporaryDirectory() as work:
+        command, told = simavr_reader(work)
+        if command is None:
+            return told
+        wrong, count = [], 0
+        for name, content, dump in runs_with_signals(program):
+            if len(dump.signals) > len(LETTERS):
+                continue
+            out, _, status = run(command, [text_file(work, with_letters(content))])
+            lines = [line.split() for line in out.decode().splitlines()]
+            values = {words[1]: {} for words in lines if words[0] == 'signal'}
+            for _, signal, tick, value in (words for words in lines if words[0] == 'value'):
+                values[signal][int(tick)] = int(value)
+            sizes = [int(words[2]) for words in lines if words[0] == 'signal']
+            same = changes_of(values) == changes_due(dump) and sizes == [kinds.WIDTH[kind] for kind, _ in dump.signals] and status == 0
+            wrong, count = wrong + ([] if same else ['%s: %r, %d' % (name, out[-300:], status)]), count + 1
+    return '; '.join(wrong)[:800] or ('' if count > 30 else 'too few runs: %d' % count)
 
 
 def waveforms(program):
@@ -265,4 +308,4 @@ def text_file(work, content):
     return file.name
 
 
-WAVES = [dumps_of_runs, wrong_dumps, changed_dumps, cut_dumps, long_dumps, dumps_at_the_limits, largest_dump, dumped_in_order, gtkwave, waveforms]
+WAVES = [dumps_of_runs, wrong_dumps, changed_dumps, cut_dumps, long_dumps, dumps_at_the_limits, largest_dump, dumped_in_order, gtkwave, simavr, waveforms]
