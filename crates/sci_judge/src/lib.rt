@@ -64,7 +64,7 @@ pub fn judge_trace(
     let mut store = Store::new(alloc, &frame)?;
     let mut events = Events::new(alloc, frame.net.source_count())?;
     program_first(&frame.net, &mut events);
-    let mut lines = Lines::new(alloc, store.len())?;
+    let mut lines = Lines::new(alloc)?;
     let mut out = Against::new(trace);
     let _whole = run(
         &frame,

@@ -24,7 +24,7 @@ use Rattle.sci_save.specs.Saved.{Saved, memory_of}
 use Rattle.sci_save.specs.Bounds.{of_type, IsWithin, AreWithin, AreByBlock, state_bound_of, state_bounds, port_bounds, held_bounds}
 use Rattle.sci_save.specs.Valid.{IsShaped}
 
-block_at : (f : Spec → List Bounds) (ss : List Spec) (rows : List (List ℤ)) (k : ℕ) → AreByBlock f ss rows → k < length ss → AreWithin (f (get_or ss k no_spec)) (get_or rows k [])
+pub block_at : (f : Spec → List Bounds) (ss : List Spec) (rows : List (List ℤ)) (k : ℕ) → AreByBlock f ss rows → k < length ss → AreWithin (f (get_or ss k no_spec)) (get_or rows k [])
 block_at f [] [] k w h = absurd (omega (arith, h))
 block_at f [] (row ∷ rows) k w h = absurd w
 block_at f (s ∷ ss) [] k w h = absurd w

@@ -13,4 +13,5 @@ pub mod NumberLoops
 pub mod Loops
 pub mod Lines
 pub mod Reached
+pub mod Rest
 pub mod Steps

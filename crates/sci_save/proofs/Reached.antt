@@ -27,7 +27,7 @@ use Rattle.sci_net.specs.declared.Source.TheVariants.{Start}
 use Rattle.sci_net.specs.Parts.{Parts, IsBlock, IsSensor, no_spec, numbered, spec_of, is_sensor, column_of}
 use Rattle.sci_net.specs.Net.{IsNet}
 use Rattle.sci_net.specs.Sources.{source_of}
-use Rattle.sci_reaction.specs.Memory.{Memory, Columns, AreColumns, first_memory, next_value}
+use Rattle.sci_reaction.specs.Memory.{Memory, Columns, AreColumns, IsMemory, first_memory, next_value}
 use Rattle.sci_reaction.specs.Equations.{Signals, sensed, answer, input_in, all_inputs}
 use Rattle.sci_reaction.specs.Result.{Whole, IsResult}
 use Rattle.sci_reaction.specs.Next.{IsNextMemory, IsUpdated, Stays}
@@ -49,7 +49,7 @@ use Rattle.sci_save.proofs.InRange.{ports_total, port_at_element}
 
 -- ---- counters count below their base
 
-abbrev IsCounter : Kind → Spec → List ℤ → Type 0
+abbrev pub IsCounter : Kind → Spec → List ℤ → Type 0
 IsCounter ModuloCount s x = IsWithin (from_to (pos 0) (param s 0 -ℤ pos 1)) (at x 0)
 IsCounter _ s x = Unit {0}
 
@@ -90,10 +90,10 @@ counter_next _ s x mask u e a = tt
 
 -- ---- and sensors stay within their columns
 
-record Goes (n : Parts) (i : Columns) (m : Memory) : Type 0 where
-  counters : (b : ℕ) → IsBlock n b → IsCounter (spec_of n b).kind (spec_of n b) (m.state b)
-  taken : (b : ℕ) → IsSensor n b → m.cursor b ≤ length (numbered [] i (column_of (spec_of n b)))
-  others : (b : ℕ) → IsBlock n b → is_sensor (spec_of n b).kind ≡ false → m.cursor b ≡ 0
+pub record Goes (n : Parts) (i : Columns) (m : Memory) : Type 0 where
+  pub counters : (b : ℕ) → IsBlock n b → IsCounter (spec_of n b).kind (spec_of n b) (m.state b)
+  pub taken : (b : ℕ) → IsSensor n b → m.cursor b ≤ length (numbered [] i (column_of (spec_of n b)))
+  pub others : (b : ℕ) → IsBlock n b → is_sensor (spec_of n b).kind ≡ false → m.cursor b ≡ 0
 
 goes_first : (n : Parts) (i : Columns) → IsNet n → Goes n i (first_memory n)
 goes_first n i net = record {
@@ -156,7 +156,7 @@ module _ (n : Parts) (i : Columns) (net : IsNet n) where
   reacts_goes date s st after seen g h =
       subst (λ (a : State). Goes n i a.memory) (sym h.leads) (goes_next n i net st.memory h.memory s h.values h.result h.next g)
 
-  reaches_goes : (until limit : ℕ) (from : State) → Goes n i from.memory → {st : State} → {seen : List Obs} → ReachableFrom n i until limit from st seen → Goes n i st.memory
+  pub reaches_goes : (until limit : ℕ) (from : State) → Goes n i from.memory → {st : State} → {seen : List Obs} → ReachableFrom n i until limit from st seen → Goes n i st.memory
   reaches_goes until limit from g here = g
   reaches_goes until limit from g (reacted st after e seen more before fires h) =
       reacts_goes e.date (source_of n e.source) (taken st e) after more (reaches_goes until limit from g before) h
@@ -324,17 +324,13 @@ block_of n k h = record { least = omega arith; most = omega arith }
 spec_there : (n : Parts) (k : ℕ) → spec_of n (1 + k) ≡ get_or n.specs k no_spec
 spec_there n k = let e : 1 + k ≡ suc k = omega arith in ap (spec_of n) e
 
-pub reached_is_saved : (n : Parts) (i : Columns) (until limit : ℕ) (st : State) (seen : List Obs) → IsNet n → AreLoopFree n → AreColumns n i → until ≤ 2 ^ 62 → limit ≤ 1000000
-    → Reachable n i until limit st seen → (m : Saved) × IsSavedOf n st m × IsValid n i m
-reached_is_saved n i until limit st seen net free columns early few stands =
-    let memory = stands_in_range n i net free columns until limit st seen stands in
-    let goes = stands_goes n i net until limit st seen stands in
-    let order = stands_ahead n net i until limit st seen stands in
-    let fired = fired_within n i until limit st seen stands in
-    let now = now_within n i until limit st seen stands in
+-- where the memory is in range, and so is all else
+pub stands_saved : (n : Parts) (i : Columns) (st : State) → IsMemory n st.memory → Goes n i st.memory → PendingInOrder n st.now st.pending → st.fired ≤ 1000000 → st.now ≤ 2 ^ 62
+    → (m : Saved) × IsSavedOf n st m × IsValid n i m
+stands_saved n i st memory goes order fired now =
     let shaped : IsShaped n (saved_from n st) = record {
-      fired = omega (arith, fired, few);
-      now = omega (arith, now, early);
+      fired = fired;
+      now = now;
       states = rows_are state_bounds 1 n.specs st.memory.state (λ k h.
           subst (λ (s : Spec). AreWithin (state_bounds s) (st.memory.state (1 + k))) (spec_there n k) (state_within (spec_of n (1 + k)) (st.memory.state (1 + k)) (memory.states (1 + k) (block_of n k h)) (goes.counters (1 + k) (block_of n k h))));
       held = rows_are held_bounds 1 n.specs st.memory.held (λ k h.
@@ -361,3 +357,11 @@ reached_is_saved n i until limit st seen net free columns early few stands =
             (goes.taken (1 + k) (record { block = block_of n k h; sensor = ap (λ (s : Spec). is_sensor s.kind) (spec_there n k) ∙ t })));
       },
     )
+
+pub reached_is_saved : (n : Parts) (i : Columns) (until limit : ℕ) (st : State) (seen : List Obs) → IsNet n → AreLoopFree n → AreColumns n i → until ≤ 2 ^ 62 → limit ≤ 1000000
+    → Reachable n i until limit st seen → (m : Saved) × IsSavedOf n st m × IsValid n i m
+reached_is_saved n i until limit st seen net free columns early few stands =
+    let fired = fired_within n i until limit st seen stands in
+    let now = now_within n i until limit st seen stands in
+    stands_saved n i st (stands_in_range n i net free columns until limit st seen stands) (stands_goes n i net until limit st seen stands) (stands_ahead n net i until limit st seen stands)
+    (omega (arith, fired, few)) (omega (arith, now, early))

@@ -9,7 +9,7 @@ use Rattle.sci_pending.specs.Pending.{Event}
 use Rattle.sci_run.specs.Anew.{numbered_anew}
 use Rattle.sci_run.specs.Alike.{SameMemory}
 use Rattle.sci_run.specs.Laws.{AreLoopFree}
-use Rattle.sci_run.specs.Run.{State, Fires, comes_next, Reachable, IsRest, IsRun}
+use Rattle.sci_run.specs.Run.{State, Fires, comes_next, ReachableFrom, Reachable, IsRest, IsRun}
 use Rattle.sci_save.specs.Saved.{Saved, memory_of}
 use Rattle.sci_save.specs.Valid.{IsShaped, IsValid}
 
@@ -32,6 +32,12 @@ abbrev pub ReachedIsSaved : Type 0
 ReachedIsSaved =
     (n : Parts) (i : Columns) (until limit : ℕ) (st : State) (seen : List Obs) → IsNet n → AreLoopFree n → AreColumns n i → until ≤ 2 ^ 62 → limit ≤ 1000000
     → Reachable n i until limit st seen → (m : Saved) × IsSavedOf n st m × IsValid n i m
+
+-- And so of each state that the run reaches which goes on from what was saved, by whatever bounds.
+abbrev pub RestIsSaved : Type 0
+RestIsSaved =
+    (n : Parts) (i : Columns) (until limit : ℕ) (m : Saved) (st : State) (seen : List Obs) → IsNet n → AreLoopFree n → AreColumns n i → until ≤ 2 ^ 62 → limit ≤ 1000000
+    → IsValid n i m → ReachableFrom n i until limit (state_of m) st seen → (o : Saved) × IsSavedOf n st o × IsValid n i o
 
 -- Where a run goes on behind a reaction, what was observed up to there, and then from what was saved there on, is the whole run.
 abbrev pub ResumedGoesOn : Type 0

@@ -6,7 +6,7 @@
 #![tactic(auto)]
 
 ghost use Rattle.sci_save.specs.Laws.{OneSaved, TextIsRead, OneBlamed, OneIsDue, SavedInRange, SavedIsShort};
-ghost use Rattle.sci_save.specs.Resumed.{ReachedIsSaved, ResumedGoesOn};
+ghost use Rattle.sci_save.specs.Resumed.{ReachedIsSaved, RestIsSaved, ResumedGoesOn};
 
 mod bounds;
 mod events;
@@ -40,9 +40,10 @@ pub fn is_short()
     ensures { SavedIsShort }
 {}
 
-/// Each state that a run reaches may be saved. Where the run goes on behind it, what was observed up to there, and then from what was saved
-/// on, is the whole run.
+/// Each state that a run reaches may be saved, and so each that a run reaches which goes on from what was saved. Where the run goes on behind
+/// it, what was observed up to there, and then from what was saved on, is the whole run.
 pub fn resumed_goes_on()
     ensures saved { ReachedIsSaved }
+    ensures rest { RestIsSaved }
     ensures goes_on { ResumedGoesOn }
 {}

@@ -11,7 +11,7 @@ use Rattle.sci_reaction.proofs.Rows.{Contains-has, has-Contains}
 use Rattle.sci_agenda.specs.Wheel.{Wheel}
 use Rattle.sci_agenda.specs.Firing.{Meaning as Waiting}
 use Rattle.sci_bank.specs.Bank.{Meaning}
-use Rattle.sci_run.specs.Activity.{Activity, halts}
+use Rattle.sci_run.specs.Activity.{Activity, is_halt, halts}
 use Rattle.sci_run.specs.Run.{State, ReactionOutcome, IsOutcome}
 use Rattle.sci_store.specs.Marks.{mark_at, idle}
 use Rattle.sci_store.specs.Tally.{lines_after}
@@ -22,6 +22,8 @@ use Rattle.sci_sim.specs.Rows.{Row, row_in}
 use Rattle.sci_sim.specs.At.{IsAt, IsReady, Running}
 use Rattle.sci_sim.specs.Reacting.{ShowsFiring, IsReacted, AreMarksOf, seen_in}
 use Rattle.sci_store.specs.Written.{AreAmong, sum_of}
+use Rattle.sci_store.specs.Chosen.{active_of_kinds, of_kinds}
+use Rattle.sci_sim.proofs.Choosing.{chosen_among}
 
 -- no block is marked: those of the last row are cleared, and no other was
 pub all_idle : (f : Fixed) (blocks : List ℕ) (s t : Standing) → ((b : ℕ) → Contains blocks b → mark_at t.marks b ≡ idle) → ((b : ℕ) → mark_at s.marks b ≡ idle → mark_at t.marks b ≡ idle)
@@ -56,15 +58,19 @@ module _ (r v : Running) (t : Standing) (is : v ≡ r) (cleared : t ≡ record v
       }))
 
 -- whether a HALT_f was active, as the view tells it
-pub halted_in : (r v : Running) → v ≡ r → (source : ℕ) (blocks : List ℕ) → blocks ≡ (row_in r.rows source).blocks → (new : Standing) (after : State) (result : Bool)
+pub halted_in : (r v : Running) → v ≡ r → (source : ℕ) (halting : List ℕ) → halting ≡ of_kinds r.fixed.net is_halt (row_in r.rows source).blocks
+    → (new : Standing) (after : State) (result : Bool)
     → AreMarksOf r.fixed source (row_in r.rows source) new after
-    → ((s : Source) (y : Signals) (active : Activity) → ShowsValues v.fixed s new y active → AreAmong v.fixed.net active blocks → result ≡ halts v.fixed.net active)
+    → ((s : Source) (y : Signals) (active : Activity) → ShowsValues v.fixed s new y active → AreAmong v.fixed.net (active_of_kinds v.fixed.net is_halt active) halting
+    → result ≡ halts v.fixed.net active)
     → result ≡ halts r.fixed.net after.active
-halted_in r v is source blocks same new after result marks h =
+halted_in r v is source halting same new after result marks h =
     let f : Fixed = v.fixed in
     let e : f ≡ r.fixed = ap (λ (x : Running). x.fixed) is in
     let shown = subst (λ (x : Fixed). ShowsValues x (source_of x.net source) new marks.y after.active) (sym e) marks.shown in
-    let among = subst (λ (x : Fixed). AreAmong x.net after.active blocks) (sym e) (subst (AreAmong r.fixed.net after.active) (sym same) marks.among) in
+    let chosen = chosen_among r.fixed.net is_halt (row_in r.rows source).blocks after.active marks.among in
+    let among = subst (λ (x : Fixed). AreAmong x.net (active_of_kinds x.net is_halt after.active) halting) (sym e)
+    (subst (AreAmong r.fixed.net (active_of_kinds r.fixed.net is_halt after.active)) (sym same) chosen) in
     subst (λ (x : Fixed). result ≡ halts x.net after.active) e (h (source_of f.net source) marks.y after.active shown among)
 
 -- behind a reaction what is kept holds again: only blocks of its source's row are marked
@@ -74,6 +80,7 @@ pub ready_behind : (v : Running) (source : ℕ) (row : Row) (t : Standing) (w : 
 ready_behind v source row t w halted h within kept store marked = record {
   frame = h.frame;
   rows = h.rows;
+  roles = h.roles;
   store = store;
   row = within;
   marked = subst (λ (x : Row). (b : ℕ) → IsBlock v.fixed.net b → (Contains x.blocks b → ⊥) → mark_at t.marks b ≡ idle) kept marked;

@@ -1,6 +1,7 @@
 pub mod Programs
 pub mod Steps
 pub mod Delays
+pub mod Choosing
 pub mod RowDelays
 pub mod Reacting
 pub mod Ordered

@@ -27,6 +27,7 @@ use Rattle.sci_store.specs.Blocks.{AreBlocksByNumber}
 use Rattle.sci_store.specs.Frame.{Fixed, seat_of, IsFrame}
 use Rattle.sci_store.specs.Store.{Standing, ShowsValues}
 use Rattle.sci_store.specs.Written.{AreAmong}
+use Rattle.sci_store.specs.Chosen.{active_of_kinds}
 use Rattle.sci_store.specs.Delays.{delays_in}
 use Rattle.sci_sim.proofs.Delays.{source_at, sources_to, same_blocks, Rises, one, over, over_more, over_all}
 
@@ -205,9 +206,10 @@ module _ (f : Fixed) (frame : IsFrame f) where
           ∙ ap (λ (u : List ℤ). if active q.block then delay spec q.port u else negsuc 0)
           (inputs_same f.net (values_at f.net s.values) y frame.net shown.values q.block block)
 
-      pub row_all : (blocks : List ℕ) (p : Pending) → AreBlocksByNumber f.net blocks → AreAmong f.net active blocks
+      pub row_all : (blocks : List ℕ) (p : Pending) → AreBlocksByNumber f.net blocks → AreAmong f.net (active_of_kinds f.net has_delay active) blocks
           → row_programmed f s date blocks p ≡ next_pending f.net date y active p
       row_all blocks p by_number among =
           over_all f.net date (delays_in f s) (programs f s) (first_of f) off placed blocks p (row_rises blocks by_number)
-          (λ c block is_on. among c block (sym (shown.active_are c block) ∙ (and_both (has_delay (spec_of f.net c).kind) (mark_at s.marks c).active is_on).1))
+          (λ c block is_on. let both = and_both (has_delay (spec_of f.net c).kind) (mark_at s.marks c).active is_on in
+          among c block (and_true (active c) (has_delay (spec_of f.net c).kind) (sym (shown.active_are c block) ∙ both.1) both.0))
           ∙ same_blocks f.net date (delays_in f s) (delay_of f.net y active) p shown_delays

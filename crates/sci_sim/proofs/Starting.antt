@@ -21,6 +21,7 @@ use Rattle.sci_bank.specs.Library.{AreInOrder, IsFull}
 use Rattle.sci_sim.specs.declared.rows.Row.{Row as Kept}
 use Rattle.sci_store.specs.declared.marks.Mark.{Mark}
 use Rattle.sci_sim.specs.Rows.{Row, row_of, no_row, AreRows, AreByNumber, AreRowsOf}
+use Rattle.sci_sim.specs.Roles.{Roles, AreRolesOf}
 use Rattle.sci_store.specs.Frame.{Fixed, IsFrame}
 use Rattle.sci_store.specs.Seating.{IsSeating}
 use Rattle.sci_store.specs.Store.{Standing, IsStore, AreIdle, cursor_at}
@@ -60,18 +61,18 @@ pub no_halt : (b : ℕ) (ss : List Spec) → false ≡ halts_from b ss (λ c. fa
 no_halt b [] = refl
 no_halt b (s ∷ ss) = no_halt (b + 1) ss
 
-abbrev pub at_rest : Fixed → List Row → Standing → Wheel → Running
-at_rest f rows s w = record { fixed = f; rows = rows; store = s; wheel = w; offset = 0; now = 0; fired = 0; row = 0; started = false; halted = false }
+abbrev pub at_rest : Fixed → List Row → List Roles → Standing → Wheel → Running
+at_rest f rows roles s w = record { fixed = f; rows = rows; roles = roles; store = s; wheel = w; offset = 0; now = 0; fired = 0; row = 0; started = false; halted = false }
 
-module _ (f : Fixed) (rows : List Row) (s : Standing) (w : Wheel) (frame : IsFrame f) (store : IsStore f s) (idle : AreIdle f s) where
-  pub ready_is : AreRowsOf f.net rows → IsReady (at_rest f rows s w)
-  ready_is are = record { frame = frame; rows = are; store = store; row = first_row_within f.net rows are; marked = λ b block out. idle b block }
+module _ (f : Fixed) (rows : List Row) (roles : List Roles) (s : Standing) (w : Wheel) (frame : IsFrame f) (store : IsStore f s) (idle : AreIdle f s) where
+  pub ready_is : AreRowsOf f.net rows → AreRolesOf f.net rows roles → IsReady (at_rest f rows roles s w)
+  ready_is are same = record { frame = frame; rows = are; roles = same; store = store; row = first_row_within f.net rows are; marked = λ b block out. idle b block }
 
   pub start_is : (n : Parts) → f.net ≡ n → (banks : List Meaning) → IsFull banks → AreInOrder banks → IsSeating f.net f.seats banks
       → ((b : ℕ) → IsBlock f.net b → values_at f.net s.values b ≡ (first_memory f.net).held b) → ((b : ℕ) → IsBlock f.net b → cursor_at s b ≡ 0)
       → s.lines ≡ 0 → s.sum ≡ 0
-      → Keeps n 0 0 w.meaning w.puts (first_pending n) → IsAtStart n (at_rest f rows s w) banks
-  start_is n same banks full order seated held cursors lines sum keeps = subst (λ (m : Parts). IsAtStart m (at_rest f rows s w) banks) same (record {
+      → Keeps n 0 0 w.meaning w.puts (first_pending n) → IsAtStart n (at_rest f rows roles s w) banks
+  start_is n same banks full order seated held cursors lines sum keeps = subst (λ (m : Parts). IsAtStart m (at_rest f rows roles s w) banks) same (record {
     net = refl;
     not_started = refl;
     at = record {

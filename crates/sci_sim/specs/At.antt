@@ -15,16 +15,18 @@ use Rattle.sci_store.specs.Marks.{mark_at, idle}
 use Rattle.sci_store.specs.Frame.{Fixed, IsFrame, AreSeated}
 use Rattle.sci_store.specs.Store.{Standing, IsStore, AreIdle, ShowsMemory}
 use Rattle.sci_sim.specs.Rows.{Row, AreRowsOf, row_in}
+use Rattle.sci_sim.specs.Roles.{Roles, AreRolesOf}
 use Rattle.sci_sim.specs.Programming.{Keeps}
 use Rattle.sci_store.specs.Written.{sum_of}
 use Rattle.sci_store.specs.Tally.{lines_after}
 
--- a net that is ready to run, or whose run is under way: what stays, the rows of its schedule, what changes, the wheel and how much less its dates are, the date
--- of the last reaction, how many events have fired, the source of the last reaction, whether the run has begun, and whether a HALT_f was
+-- a net that is ready to run, or whose run is under way: what stays, the rows of its schedule and which of their blocks do something behind the pass, what
+-- changes, the wheel and how much less its dates are, the date of the last reaction, how many events have fired, the source of the last reaction, whether the run has begun, and whether a HALT_f was
 -- active in the last reaction
 pub record Running : Type 0 where
   pub fixed : Fixed
   pub rows : List Row
+  pub roles : List Roles
   pub store : Standing
   pub wheel : Wheel
   pub offset : ℕ
@@ -37,6 +39,7 @@ pub record Running : Type 0 where
 pub record IsReady (r : Running) : Type 0 where
   pub frame : IsFrame r.fixed
   pub rows : AreRowsOf r.fixed.net r.rows
+  pub roles : AreRolesOf r.fixed.net r.rows r.roles
   pub store : IsStore r.fixed r.store
   pub row : r.row < length r.rows
   -- only blocks of the last source's row are marked

@@ -1,5 +1,6 @@
 pub mod Entries
 pub mod Rows
+pub mod Roles
 pub mod Passed
 pub mod Programming
 pub mod At

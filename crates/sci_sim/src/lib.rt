@@ -12,6 +12,7 @@ mod reaction;
 mod ready;
 mod rest;
 mod restore;
+mod roles;
 mod rows;
 mod sorted;
 

@@ -15,6 +15,7 @@ ghost use Rattle.sci_store.specs.Blocks.{AreBlocksByNumber};
 ghost use Rattle.sci_store.specs.Frame.{AreSeated, seat_of};
 ghost use Rattle.sci_store.specs.Store.{Standing, IsStore, ShowsValues};
 ghost use Rattle.sci_store.specs.Written.{AreAmong};
+ghost use Rattle.sci_store.specs.Chosen.{active_of_kinds};
 ghost use Rattle.sci_store.specs.Delays.{delays_in};
 ghost use Rattle.sci_sim.specs.Programming.{firing_at, Keeps};
 
@@ -97,7 +98,7 @@ fn program_block<A: Agenda>(
     }
 }
 
-/// The active ones of these blocks program their activation outputs, by block and port.
+/// The active ones of these blocks program their activation outputs, by block and port. Blocks without delays may be left out.
 pub fn program_all<A: Agenda>(
     store: &mut Store,
     frame: &Frame,
@@ -112,7 +113,7 @@ pub fn program_all<A: Agenda>(
     requires values { AreInRange frame.now.net (values_at frame.now.net store.old.values) }
     requires date { date < 2 ^ 63 }
     requires keeps { (offset : ℕ) × (p : Pending) × Keeps frame.now.net offset (date + offset) (A.meaning agenda.old) (A.puts agenda.old) p }
-    ensures programmed { (s : Source) (y : Signals) (active : Activity) (offset : ℕ) (p : Pending) → ShowsValues frame.now s store.old y active → AreAmong frame.now.net active blocks.now → Keeps frame.now.net offset (date + offset) (A.meaning agenda.old) (A.puts agenda.old) p → Keeps frame.now.net offset (date + offset) (A.meaning agenda.new) (A.puts agenda.new) (next_pending frame.now.net (date + offset) y active p) }
+    ensures programmed { (s : Source) (y : Signals) (active : Activity) (offset : ℕ) (p : Pending) → ShowsValues frame.now s store.old y active → AreAmong frame.now.net (active_of_kinds frame.now.net has_delay active) blocks.now → Keeps frame.now.net offset (date + offset) (A.meaning agenda.old) (A.puts agenda.old) p → Keeps frame.now.net offset (date + offset) (A.meaning agenda.new) (A.puts agenda.new) (next_pending frame.now.net (date + offset) y active p) }
     ensures same { store.new ≡ record store.old { room = store.new.room } }
     ensures room { length store.new.room ≡ length store.old.room }
 {

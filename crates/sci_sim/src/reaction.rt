@@ -21,11 +21,13 @@ ghost use Rattle.sci_net.specs.Parts.{IsBlock, spec_of, is_sensor};
 ghost use Rattle.sci_kinds.specs.Asks.{IsMask, IsState};
 ghost use Rattle.sci_store.specs.Written.{AreAmong, tallied};
 ghost use Rattle.sci_sim.specs.Rows.{row_of, IsRowOf};
+ghost use Rattle.sci_sim.specs.Roles.{roles_of, roles_among};
 ghost use Rattle.sci_sim.specs.Programming.{Keeps};
 ghost use Rattle.sci_sim.specs.Reacting.{ShowsFiring, IsReacted, seen_in};
 
 use crate::pass::pass;
 use crate::programming::program_all;
+use crate::roles::Roles;
 use crate::rows::Row;
 use sci_agenda::agenda::Agenda;
 use sci_bank::library::{Banks, Library};
@@ -45,7 +47,8 @@ pub struct Firing {
     pub offset: u64,
 }
 
-/// A reaction whose values are known: those of these blocks are written, then the active ones program their events and step their states.
+/// A reaction whose values are known: those of these blocks are written, then the active ones with such roles program their events and step their
+/// states.
 fn finish<A: Agenda, S: Sink>(
     frame: &Frame,
     store: &mut Store,
@@ -53,6 +56,7 @@ fn finish<A: Agenda, S: Sink>(
     lib: &mut Library,
     inputs: &Inputs,
     blocks: &[u32],
+    roles: &Roles,
     date: u64,
     lines: &mut Lines,
     out: &mut S,
@@ -60,6 +64,7 @@ fn finish<A: Agenda, S: Sink>(
     requires store { IsStore frame.now store.old }
     requires seated { AreSeated frame.now (⟦<Library as Banks>⟧.banks lib.old) }
     requires blocks { AreBlocksByNumber frame.now.net blocks.now }
+    requires roles { roles_of roles.now ≡ roles_among frame.now.net blocks.now }
     requires values { AreInRange frame.now.net (values_at frame.now.net store.old.values) }
     requires masks { (b : ℕ) → IsBlock frame.now.net b → (mark_at store.old.marks b).active ≡ true → IsMask (spec_of frame.now.net b) (mark_at store.old.marks b).mask }
     requires sensed { (b : ℕ) → IsBlock frame.now.net b → (mark_at store.old.marks b).active ≡ true → is_sensor (spec_of frame.now.net b).kind ≡ true → IsSome (next_value inputs.now (spec_of frame.now.net b) (cursor_at store.old b)) }
@@ -76,12 +81,12 @@ fn finish<A: Agenda, S: Sink>(
     ensures counts { AreAlikeCounts (⟦<Library as Banks>⟧.banks lib.old) (⟦<Library as Banks>⟧.banks lib.new) }
 {
     store.write_values(frame, blocks, lines, out)?;
-    program_all(store, frame, blocks, lib, date, agenda);
-    store.update_all(frame, blocks, lib, inputs);
+    program_all(store, frame, &roles.delays, lib, date, agenda);
+    store.update_all(frame, &roles.memories, lib, inputs);
     Ok(())
 }
 
-/// The source reacts, whose row this is: what is observed of it is written. The word of a stop, if there was one; no value is written then.
+/// The source reacts, whose row this is, with its blocks' roles: what is observed of it is written. The word of a stop, if there was one; no value is written then.
 pub fn react<A: Agenda, S: Sink>(
     frame: &Frame,
     store: &mut Store,
@@ -89,12 +94,14 @@ pub fn react<A: Agenda, S: Sink>(
     lib: &mut Library,
     inputs: &Inputs,
     row: &Row,
+    roles: &Roles,
     firing: Firing,
     lines: &mut Lines,
     out: &mut S,
 ) -> Result<Option<StopWord>, Failed>
     requires source { firing.source < length (sources_of frame.now.net) }
     requires row { IsRowOf frame.now.net (source_of frame.now.net firing.source) (row_of row.now) }
+    requires roles { roles_of roles.now ≡ roles_among frame.now.net (row_of row.now).blocks }
     requires date { firing.date ≤ 2 ^ 62 }
     requires offset { firing.offset ≤ firing.date }
     requires store { IsStore frame.now store.old }
@@ -122,6 +129,7 @@ pub fn react<A: Agenda, S: Sink>(
                 lib,
                 inputs,
                 &row.blocks,
+                roles,
                 firing.date - firing.offset,
                 lines,
                 out,

@@ -19,6 +19,7 @@ ghost use Rattle.sci_bank.specs.Bank.{Meaning};
 use crate::end::{RunEnd, Step};
 use crate::programming::program_first;
 use crate::reaction::{Firing, react};
+use crate::roles::{Roles, all_roles};
 use crate::rows::{Row, rows};
 use sci_agenda::agenda::Agenda;
 use sci_agenda::wheel::WheelAgenda;
@@ -38,6 +39,8 @@ pub struct Ready {
     pub(crate) frame: Frame,
     // one for each source of the net, in order
     pub(crate) rows: Vec<Row>,
+    // the same
+    pub(crate) roles: Vec<Roles>,
     pub(crate) store: Store,
     // its dates are less by `offset`
     pub(crate) wheel: WheelAgenda,
@@ -55,13 +58,14 @@ pub struct Ready {
 impl Model for Ready {
     ghost use Rattle.std.specs.Prelude.{map};
     ghost use Rattle.sci_sim.specs.Rows.{row_of};
+    ghost use Rattle.sci_sim.specs.Roles.{roles_of};
     ghost use Rattle.sci_sim.specs.At.{Running, IsReady};
 
     ghost Value = { Running };
 
-    ghost view = { λ r. record { fixed = r.frame; rows = map row_of r.rows.items; store = r.store; wheel = r.wheel; offset = r.offset; now = r.now; fired = r.fired; row = r.row; started = r.started; halted = r.halted } };
+    ghost view = { λ r. record { fixed = r.frame; rows = map row_of r.rows.items; roles = map roles_of r.roles.items; store = r.store; wheel = r.wheel; offset = r.offset; now = r.now; fired = r.fired; row = r.row; started = r.started; halted = r.halted } };
 
-    ghost invariant = { λ r. IsReady (record { fixed = r.frame; rows = map row_of r.rows.items; store = r.store; wheel = r.wheel; offset = r.offset; now = r.now; fired = r.fired; row = r.row; started = r.started; halted = r.halted }) };
+    ghost invariant = { λ r. IsReady (record { fixed = r.frame; rows = map row_of r.rows.items; roles = map roles_of r.roles.items; store = r.store; wheel = r.wheel; offset = r.offset; now = r.now; fired = r.fired; row = r.row; started = r.started; halted = r.halted }) };
 }
 
 impl Ready {
@@ -85,15 +89,17 @@ impl Ready {
         ensures in_order { AreInOrder (⟦<Library as Banks>⟧.banks lib.new) }
     {
         let rows = rows(alloc, p)?;
+        let roles = all_roles(alloc, &n, &rows)?;
         let mut wheel = WheelAgenda::new(alloc, n.source_count() - 1)?;
         program_first(&n, &mut wheel);
         let frame = Frame::new(alloc, n, lib)?;
         frame.well_formed();
         let store = Store::new(alloc, &frame)?;
-        let lines = Lines::new(alloc, store.len())?;
+        let lines = Lines::new(alloc)?;
         Ok(Ready {
             frame,
             rows,
+            roles,
             store,
             wheel,
             offset: 0,
@@ -127,6 +133,7 @@ impl Ready {
         self.store.clear(&self.frame, &last.blocks);
         self.row = source;
         let row = &self.rows[source as usize];
+        let roles = &self.roles[source as usize];
         let firing = Firing {
             source,
             date: self.now,
@@ -139,12 +146,13 @@ impl Ready {
             lib,
             ins,
             row,
+            roles,
             firing,
             &mut self.lines,
             out,
         )?;
         if stop.is_none() {
-            self.halted = self.store.halts(&self.frame, &row.blocks);
+            self.halted = self.store.halts(&self.frame, &roles.halts);
         }
         Ok(stop)
     }

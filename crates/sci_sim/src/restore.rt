@@ -13,6 +13,7 @@ ghost use Rattle.sci_sim.specs.Programming.{Keeps};
 
 use crate::programming::program;
 use crate::ready::Ready;
+use crate::roles::all_roles;
 use crate::rows::rows;
 use sci_agenda::wheel::WheelAgenda;
 use sci_bank::library::{Banks, Library};
@@ -100,13 +101,15 @@ impl Ready {
     {
         n.well_formed();
         let rows = rows(alloc, p)?;
+        let roles = all_roles(alloc, &n, &rows)?;
         let wheel = saved_wheel(alloc, &n, &image.pending, image.now)?;
         let frame = Frame::in_states(alloc, n, &image.states, lib)?;
         let store = saved_store(alloc, &frame, image)?;
-        let lines = Lines::new(alloc, store.len())?;
+        let lines = Lines::new(alloc)?;
         Ok(Ready {
             frame,
             rows,
+            roles,
             store,
             wheel,
             offset: image.now,

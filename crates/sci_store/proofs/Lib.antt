@@ -1,6 +1,7 @@
 pub mod Evaluating
 pub mod Digits
 pub mod Paging
+pub mod LineStarts
 pub mod Writing
 pub mod Counting
 pub mod Updating

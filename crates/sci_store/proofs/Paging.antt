@@ -1,26 +1,26 @@
 -- Lines that wait before a sink, and the pieces of a line.
 use Rattle.std.proofs.Common.{◌≡◌, ℕ, ◌+◌, ◌≤◌, Bool, false, ◌||◌, ℤ, List, [], ◌∷◌, ◌++◌, take, drop, length, refl, sym, ap, subst, ◌∙◌, append_assoc, arith, Ok, Err, codes}
 use Rattle.std.specs.Prelude.{Result, OnOk, OnErr}
-use Rattle.std.specs.Fmt.{signed_decimal}
+use Rattle.std.specs.Fmt.{decimal, signed_decimal}
 use Rattle.std.proofs.lemmas.List.{append-nil, take-append-drop, take-append-le, length-take-le}
 use Rattle.std.proofs.Math.Seq.{take-append_seam, take-append-add}
-use Rattle.sci_base.specs.declared.observation.Obs.TheVariants.{Val}
 use Rattle.sci_io.specs.Taken.{SinkState, is_some_text, Writes, UnderWay}
 use Rattle.sci_io.proofs.Advance.{begins, next_front, cut_off, finished, stays, due_is, front_is, or-nil, begun-append}
 use Rattle.sci_trace.specs.Lines.{line}
-use Rattle.sci_store.specs.Paged.{Named, start_text, paged}
+use Rattle.sci_store.specs.Heads.{Named, start_text, value_of}
+use Rattle.sci_store.specs.Paged.{paged}
 
 -- ---- the line of a value
 
-pub line_is : (n : Named) (v : ℤ) → line (Val n.block n.port n.element v) ≡ start_text n ++ (signed_decimal v ++ codes "\n")
+pub line_is : (n : Named) (v : ℤ) → line (value_of n v) ≡ start_text n ++ (signed_decimal v ++ codes "\n")
 unfolding line
 line_is n v =
     let tail = signed_decimal v ++ codes "\n" in
-    let third = append_assoc (signed_decimal n.element) (codes " ") tail in
-    let second = append_assoc (signed_decimal n.port) (codes " " ++ (signed_decimal n.element ++ codes " ")) tail
-    ∙ ap (λ (l : List ℕ). signed_decimal n.port ++ (codes " " ++ l)) third in
-    let first = append_assoc (signed_decimal n.block) (codes " " ++ (signed_decimal n.port ++ (codes " " ++ (signed_decimal n.element ++ codes " ")))) tail
-    ∙ ap (λ (l : List ℕ). signed_decimal n.block ++ (codes " " ++ l)) second in
+    let third = append_assoc (decimal n.element) (codes " ") tail in
+    let second = append_assoc (decimal n.port) (codes " " ++ (decimal n.element ++ codes " ")) tail
+    ∙ ap (λ (l : List ℕ). decimal n.port ++ (codes " " ++ l)) third in
+    let first = append_assoc (decimal n.block) (codes " " ++ (decimal n.port ++ (codes " " ++ (decimal n.element ++ codes " ")))) tail
+    ∙ ap (λ (l : List ℕ). decimal n.block ++ (codes " " ++ l)) second in
     sym (ap (λ (l : List ℕ). codes "val" ++ (codes " " ++ l)) first)
 
 -- ---- a piece behind what stands before it
@@ -62,11 +62,8 @@ waits s bytes l x = record {
   later = omega arith;
 }
 
-pub line_waits : {T E : Type 0} (s : SinkState) (bytes new : List ℕ) (n : Named) (v : ℤ) (x : T) → new ≡ bytes ++ (start_text n ++ (signed_decimal v ++ codes "\n"))
-    → Writes {T = T} {E = E} (paged s bytes) (paged s new) (line (Val n.block n.port n.element v)) (Ok x)
-line_waits {T} {E} s bytes new n v x h =
-    let l = line (Val n.block n.port n.element v) in
-    subst (λ (b : List ℕ). Writes {T = T} {E = E} (paged s bytes) (paged s b) l (Ok x)) (sym (h ∙ ap (λ (k : List ℕ). bytes ++ k) (sym (line_is n v)))) (waits s bytes l x)
+pub line_waits : {T E : Type 0} (s : SinkState) (bytes new l : List ℕ) (x : T) → new ≡ bytes ++ l → Writes {T = T} {E = E} (paged s bytes) (paged s new) l (Ok x)
+line_waits {T} {E} s bytes new l x h = subst (λ (b : List ℕ). Writes {T = T} {E = E} (paged s bytes) (paged s b) l (Ok x)) (sym h) (waits s bytes l x)
 
 -- what waits is given on
 pub gives : {T E : Type 0} (s t : SinkState) (bytes : List ℕ) (r : Result T E) → Writes s t bytes r → Writes (paged s bytes) (paged t []) [] r

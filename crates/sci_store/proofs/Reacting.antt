@@ -2,6 +2,7 @@
 use Rattle.std.proofs.Common.{◌≡◌, ℕ, zero, suc, ◌+◌, ◌<◌, ◌≤◌, ℤ, Bool, true, false, ◌&&◌, ◌||◌, inl, inr, ⊎_elim, List, [], ◌∷◌, length, get_or, refl, sym, ap, subst, ◌∙◌, arith, Contains, true≢false}
 use Rattle.std.specs.Prelude.{min, if◌then◌else◌, Option, Some, None, IsSome, Ok}
 use Rattle.std.proofs.lemmas.Bool.{cases_Bool}
+use Rattle.sci_forms.specs.declared.Kind.{Kind}
 use Rattle.sci_forms.specs.declared.spec.Spec.{Spec}
 use Rattle.sci_net.specs.declared.Source.{Source}
 use Rattle.sci_forms.specs.Ports.{Fills}
@@ -13,7 +14,7 @@ use Rattle.sci_reaction.proofs.Masks.{mask_in_range}
 use Rattle.sci_reaction.specs.Equations.{Signals, AreInRange, IsMaskOf, Meets, Active, answer, sensed, values_or_word, input_in, all_inputs}
 use Rattle.sci_reaction.specs.Result.{Whole, IsResult}
 use Rattle.sci_kinds.specs.Table.{out}
-use Rattle.sci_reaction.proofs.Lists.{and_true, or_left, or_right}
+use Rattle.sci_reaction.proofs.Lists.{and_true, and_both, or_left, or_right}
 use Rattle.sci_run.specs.Activity.{Activity, is_halt, halts, halts_from}
 use Rattle.sci_run.specs.Counts.{activations_from}
 use Rattle.sci_run.specs.Observed.{values_seen}
@@ -26,6 +27,7 @@ use Rattle.sci_store.specs.Marks.{mark_at}
 use Rattle.sci_store.specs.Frame.{Fixed, IsFrame}
 use Rattle.sci_store.specs.Store.{Standing, IsStore, cursor_at, state_of, ShowsMemory, ShowsValues}
 use Rattle.sci_store.specs.Written.{AreAmong}
+use Rattle.sci_store.specs.Chosen.{active_of_kinds}
 
 -- ---- a block that ends the run
 
@@ -68,15 +70,20 @@ halts_here f source s y active b block shown h on = halts_at_block f.net active 
 
 -- none is
 pub never_halts : (f : Fixed) (source : Source) (s : Standing) (y : Signals) (active : Activity) (xs : List ℕ) → ShowsValues f source s y active
-    → AreAmong f.net active xs → ((b : ℕ) → Contains xs b → is_halt (spec_of f.net b).kind ≡ true → (mark_at s.marks b).active ≡ true → ⊥)
+    → AreAmong f.net (active_of_kinds f.net is_halt active) xs → ((b : ℕ) → Contains xs b → is_halt (spec_of f.net b).kind ≡ true → (mark_at s.marks b).active ≡ true → ⊥)
     → halts f.net active ≡ false
 never_halts f source s y active xs shown among none =
     no_halt active f.net.specs 1
     (λ j l a. let e : 1 + j ≡ suc j = omega arith in
     let on = ap active (sym e) ∙ a in
     let block : IsBlock f.net (suc j) = record { least = omega arith; most = omega (arith, l) } in
-    ⊎_elim (λ h. absurd (none (suc j) (among (suc j) block on) h (shown.active_are (suc j) block ∙ on))) (λ off. off)
+    ⊎_elim (λ h. absurd (none (suc j) (among (suc j) block (and_true (active (suc j)) (is_halt (spec_of f.net (suc j)).kind) on h)) h (shown.active_are (suc j) block ∙ on)))
+    (λ off. off)
     (cases_Bool (is_halt (get_or f.net.specs j no_spec).kind)))
+
+-- blocks among which all active ones stand serve for each kind
+pub among_kinds : (n : Parts) (is : Kind → Bool) (active : Activity) (xs : List ℕ) → AreAmong n active xs → AreAmong n (active_of_kinds n is active) xs
+among_kinds n is active xs among b block on = among b block (and_both (active b) (is (spec_of n b).kind) on).0
 
 -- ---- counts
 

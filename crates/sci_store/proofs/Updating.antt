@@ -35,6 +35,7 @@ use Rattle.sci_store.specs.Frame.{Fixed, IsFrame, seat_of, instance_of, AreSeate
 use Rattle.sci_store.specs.Store.{Standing, IsStore, cursor_at, state_of, ShowsValues}
 use Rattle.sci_store.specs.Passed.{IsStateStepped, IsBlockStepped, IsStepped, ShowsBefore, AreAlikeCounts, KeepsValues}
 use Rattle.sci_store.specs.Written.{AreAmong}
+use Rattle.sci_store.specs.Chosen.{active_of_kinds, remembers}
 use Rattle.sci_reaction.proofs.Lists.{Has, Has-push, and_true}
 use Rattle.sci_reaction.proofs.Rows.{Contains-has, has-Contains}
 use Rattle.sci_store.proofs.Writing.{seen_if, seen_unless}
@@ -354,18 +355,46 @@ stepped_idle f done s t banks _ x before off = record {
   counts = before.counts;
 }
 
--- all blocks of the row are done
+-- all blocks of the row are done that remember more than their outputs
+either : {A : Type 0} (t : Bool) (x y : A) → y ≡ x → (if t then x else y) ≡ x
+either true x y same = refl
+either false x y same = same
+
+neither : (a b : Bool) → (a || b) ≡ false → (a ≡ false) × (b ≡ false)
+neither true b h = absurd (true≢false h)
+neither false b h = (refl, h)
+
 module _ (f : Fixed) (source : Source) (m : Memory) (y : Signals) (active : Activity) (xs : List ℕ) (s t : Standing) (banks after : List Meaning)
-    (net : IsNet f.net) (is : IsActivity f.net source y active) (shown : ShowsValues f source s y active) (among : AreAmong f.net active xs)
-    (before : ShowsBefore f s banks m) (done : AreStepped f xs s t banks after) where
+    (net : IsNet f.net) (is : IsActivity f.net source y active) (shown : ShowsValues f source s y active) (among : AreAmong f.net (active_of_kinds f.net remembers active) xs)
+    (before : ShowsBefore f s banks m) (done : AreStepped f xs s t banks after) (is_memory : IsMemory f.net m) where
   abbrev memory_now : Memory
   memory_now = record { state = λ b. state_of f after b; held = λ b. values_at f.net t.values b; cursor = λ b. cursor_at t b }
 
   values_stay : t.values ≡ s.values
   values_stay = ap (λ (v : Standing). v.values) done.same
 
-  on_now : (b : ℕ) → IsBlock f.net b → active b ≡ true → is_stepped xs s b ≡ true
-  on_now b block on = and_true (mark_at s.marks b).active (list_any (eqb b) xs) (shown.active_are b block ∙ on) (Contains-has xs b (among b block on))
+  on_now : (b : ℕ) → IsBlock f.net b → active b ≡ true → remembers (spec_of f.net b).kind ≡ true → is_stepped xs s b ≡ true
+  on_now b block on some =
+      and_true (mark_at s.marks b).active (list_any (eqb b) xs) (shown.active_are b block ∙ on)
+      (Contains-has xs b (among b block (and_true (active b) (remembers (spec_of f.net b).kind) on some)))
+
+  -- a block that isn't stepped has nothing to remember
+  state_now : (b : ℕ) → IsBlock f.net b → active b ≡ true → (if is_stepped xs s b then next_state f s banks b else state_of f banks b) ≡ next_state f s banks b
+  state_now b block on = ⊎_elim
+      (λ some. seen_if (is_stepped xs s b) (next_state f s banks b) (state_of f banks b) (on_now b block on some))
+      (λ none. let ins = all_inputs (spec_of f.net b) (input_in f.net (values_at f.net s.values) b) in
+      let is = subst (IsState (spec_of f.net b)) (sym (before.state b block)) (is_memory.states b block) in
+      either (is_stepped xs s b) (next_state f s banks b) (state_of f banks b)
+      (sym (state_stays (spec_of f.net b) (state_of f banks b) (mark_at s.marks b).mask ins (neither (is_sensor (spec_of f.net b).kind) (has_state (spec_of f.net b).kind) none).1 is)))
+      (cases_Bool (remembers (spec_of f.net b).kind))
+
+  cursor_now : (b : ℕ) → IsBlock f.net b → active b ≡ true → (if is_stepped xs s b then next_cursor f s b else cursor_at s b) ≡ next_cursor f s b
+  cursor_now b block on = ⊎_elim
+      (λ some. seen_if (is_stepped xs s b) (next_cursor f s b) (cursor_at s b) (on_now b block on some))
+      (λ none. either (is_stepped xs s b) (next_cursor f s b) (cursor_at s b)
+      (sym (seen_unless (is_sensor (spec_of f.net b).kind) (cursor_at s b + 1) (cursor_at s b)
+      (neither (is_sensor (spec_of f.net b).kind) (has_state (spec_of f.net b).kind) none).0)))
+      (cases_Bool (remembers (spec_of f.net b).kind))
 
   off_now : (b : ℕ) → IsBlock f.net b → active b ≡ false → is_stepped xs s b ≡ false
   off_now b block off = ap (λ (t : Bool). t && list_any (eqb b) xs) (shown.active_are b block ∙ off)
@@ -378,11 +407,11 @@ module _ (f : Fixed) (source : Source) (m : Memory) (y : Signals) (active : Acti
         active = (is b block).0 on;
         mask = mask;
         mask_is = shown.masks b block on;
-        state = done.states b block ∙ (seen_if (is_stepped xs s b) (next_state f s banks b) (state_of f banks b) (on_now b block on)
+        state = done.states b block ∙ (state_now b block on
             ∙ (ap (λ (st : List ℤ). next (spec_of f.net b) st mask ins) (before.state b block)
             ∙ ap (λ (u : List ℤ). next (spec_of f.net b) (m.state b) mask u) (same_inputs f.net (values_at f.net s.values) y b net block shown.values)));
         held = ap (λ (vs : List ℤ). values_at f.net vs b) values_stay ∙ shown.values b block;
-        cursor = done.cursors b block ∙ (seen_if (is_stepped xs s b) (next_cursor f s b) (cursor_at s b) (on_now b block on)
+        cursor = done.cursors b block ∙ (cursor_now b block on
             ∙ ap (λ (c : ℕ). if is_sensor (spec_of f.net b).kind then c + 1 else c) (before.cursor b block));
       }
 
@@ -400,8 +429,8 @@ module _ (f : Fixed) (source : Source) (m : Memory) (y : Signals) (active : Acti
   values_in_range : AreInRange f.net (values_at f.net s.values) → AreInRange f.net y
   values_in_range range b block = subst (Fills (spec_of f.net b).outs) (shown.values b block) (range b block)
 
-  pub stepped_all : IsMemory f.net m → AreInRange f.net (values_at f.net s.values) → IsStepped f source m y t after
-  stepped_all is_memory range = record {
+  pub stepped_all : AreInRange f.net (values_at f.net s.values) → IsStepped f source m y t after
+  stepped_all range = record {
     memory = memory_now;
     next = next_now;
     in_range = memory_in_range f.net m source y memory_now net is_memory (values_in_range range) next_now;

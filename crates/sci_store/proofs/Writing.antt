@@ -2,36 +2,26 @@
 use Rattle.std.proofs.Common.{◌≡◌, ℕ, zero, suc, ◌+◌, ◌<◌, ◌≤◌, Bool, true, false, ⊎_elim, ℤ, pos, List, [], ◌∷◌, ◌++◌, length, get_or, take, drop, refl, sym, ap, subst, ◌∙◌, append_assoc, arith, Contains, Ok, Err, true≢false}
 use Rattle.std.specs.Prelude.{Result, flat_map, AllPairs, min, if◌then◌else◌}
 use Rattle.std.proofs.lemmas.Bool.{cases_Bool, cases_lt}
-use Rattle.std.proofs.lemmas.List.{drop_more, drop-drop, length-append, get_or-take, get_or-drop, get_or_default}
+use Rattle.std.proofs.lemmas.List.{drop_more, length-append, get_or-take, get_or-drop, get_or_default}
 use Rattle.sci_base.specs.declared.observation.Obs.{Obs}
 use Rattle.sci_base.specs.declared.observation.Obs.TheVariants.{Start, Event, Val, End, Stop}
 use Rattle.sci_io.specs.Taken.{SinkState, Writes, UnderWay}
 use Rattle.sci_io.proofs.Advance.{begins, next_front, cut_off, finished}
 use Rattle.sci_trace.specs.Lines.{line, text}
-use Rattle.sci_forms.specs.declared.ports.Port.{Port}
 use Rattle.sci_forms.specs.declared.spec.Spec.{Spec}
-use Rattle.sci_forms.specs.Ports.{port_at, no_port, elements, total, before}
 use Rattle.sci_net.specs.Parts.{Parts, IsBlock, spec_of, no_spec}
 use Rattle.sci_net.specs.declared.Source.{Source}
 use Rattle.sci_reaction.specs.Equations.{Signals}
 use Rattle.sci_reaction.proofs.Lists.{Contains-cons, cons-Contains}
 use Rattle.sci_run.specs.Activity.{Activity}
-use Rattle.sci_run.specs.Observed.{elements_seen, outputs_seen, blocks_seen}
+use Rattle.sci_run.specs.Observed.{outputs_seen, blocks_seen}
 use Rattle.sci_places.specs.Flat.{values_at}
-use Rattle.sci_places.proofs.Lists.{before_next, up_to, read_within}
 use Rattle.sci_store.specs.Tally.{lines_after, sum_after}
 use Rattle.sci_store.specs.Marks.{mark_at}
 use Rattle.sci_store.specs.Blocks.{AreBlocksByNumber}
 use Rattle.sci_store.specs.Frame.{Fixed}
 use Rattle.sci_store.specs.Store.{Standing, ShowsValues}
 use Rattle.sci_store.specs.Written.{AreAmong, sum_of, tallied}
-
--- the only output has all elements
-pub only_output : (outs : List Port) (k all : ℕ) → length outs ≡ 1 → k < length outs → all ≡ total outs → all ≡ elements (port_at outs k)
-only_output [] k all one h is = absurd (omega arith)
-only_output (p ∷ []) zero all one h is = omega arith
-only_output (p ∷ []) (suc k) all one h is = absurd (omega arith)
-only_output (p ∷ q ∷ ps) k all one h is = absurd (omega arith)
 
 -- ---- a list of observations behind another
 
@@ -116,31 +106,14 @@ left_same {t = t} h = ap (λ (v : Standing). record v { lines = t.lines; sum = t
 pub same_then : (s t u : Standing) → t ≡ record s { lines = t.lines; sum = t.sum } → u ≡ record t { lines = u.lines; sum = u.sum } → u ≡ record s { lines = u.lines; sum = u.sum }
 same_then s t u e h = h ∙ ap (λ (v : Standing). record v { lines = u.lines; sum = u.sum }) e
 
--- ---- the elements of an output
-
-pub elements_next : (b p k : ℕ) (vs : List ℤ) → k < length vs
-    → elements_seen b p (k + 1) (drop k vs) ≡ Val (pos b) (pos p) (pos (k + 1)) (get_or vs k (pos 0)) ∷ elements_seen b p (k + 1 + 1) (drop (k + 1) vs)
-elements_next b p k vs h = ap (elements_seen b p (k + 1)) (drop_more vs k (pos 0) h)
+-- ---- the values of a block
 
 pub element_at : (values : List ℤ) (start count k : ℕ) → k < count → get_or (take count (drop start values)) k (pos 0) ≡ get_or values (start + k) (pos 0)
 element_at values start count k h = get_or-take count (drop start values) k (pos 0) h ∙ get_or-drop start values k (pos 0)
 
--- ---- the outputs of a block
-
-pub outputs_next : (b k : ℕ) (outs : List Port) (vs : List ℤ) → k < length outs
-    → outputs_seen b (k + 1) (drop k outs) (drop (before outs k) vs)
-    ≡ elements_seen b (k + 1) 1 (take (elements (port_at outs k)) (drop (before outs k) vs)) ++ outputs_seen b (k + 1 + 1) (drop (k + 1) outs) (drop (before outs (k + 1)) vs)
-outputs_next b k outs vs h =
-    let o = port_at outs k in
-    let rest = drop-drop (elements o) (before outs k) vs ∙ ap (λ (n : ℕ). drop n vs) (sym (before_next outs k h)) in
-    ap (λ (os : List Port). outputs_seen b (k + 1) os (drop (before outs k) vs)) (drop_more outs k no_port h)
-    ∙ ap
-    (λ (us : List ℤ). elements_seen b (k + 1) 1 (take (elements o) (drop (before outs k) vs)) ++ outputs_seen b (k + 1 + 1) (drop (k + 1) outs) us) rest
-
-pub output_at : (values : List ℤ) (start k : ℕ) (outs : List Port) → k < length outs
-    → take (elements (port_at outs k)) (drop (before outs k) (take (total outs) (drop start values)))
-    ≡ take (elements (port_at outs k)) (drop (start + before outs k) values)
-output_at values start k outs h = read_within values start (total outs) (before outs k) (elements (port_at outs k)) (up_to outs k h)
+-- the observations from k on
+pub seen_next : (os : List Obs) (k : ℕ) → k < length os → drop k os ≡ get_or os k Start ∷ drop (k + 1) os
+seen_next os k h = drop_more os k Start h
 
 -- ---- blocks by number
 

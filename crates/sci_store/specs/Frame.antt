@@ -1,4 +1,4 @@
--- What stays as it is through a run: the net, where its values lie, and where its blocks are kept.
+-- What stays as it is through a run: the net, where its values lie, how their lines start, and where its blocks are kept.
 use Rattle.std.specs.Prelude.{◌≡◌, ℕ, ◌+◌, ◌-◌, ◌<◌, ◌≤◌, false, List, length}
 use Rattle.sci_forms.specs.declared.Kind.TheVariants.{Const}
 use Rattle.sci_forms.specs.Forms.{is_sync}
@@ -14,6 +14,7 @@ use Rattle.sci_bank.specs.declared.rows.Row.{Row as Instance}
 use Rattle.sci_bank.specs.Bank.{Meaning, row_at}
 use Rattle.sci_bank.specs.Library.{bank_of, AreInOrder, IsFull}
 use Rattle.sci_store.specs.declared.seats.Seat.{Seat}
+use Rattle.sci_store.specs.Heads.{heads_of}
 
 abbrev pub no_seat : Seat
 no_seat = record { kind = Const; slot = 0; first_source = 0 }
@@ -22,6 +23,7 @@ pub record Fixed : Type 0 where
   pub net : Parts
   pub layout : Layout
   pub seats : List Seat
+  pub heads : List (List ℕ)
 
 abbrev pub seat_of : Fixed → ℕ → Seat
 seat_of f b = numbered no_seat f.seats b
@@ -39,6 +41,7 @@ pub record IsFrame (f : Fixed) : Type 0 where
   pub net : IsNet f.net
   pub free : AreLoopFree f.net
   pub layout : IsLayout f.net f.layout
+  pub heads : f.heads ≡ heads_of f.net
   pub one_seat_each : length f.seats ≡ length f.net.specs
   pub seated : (b : ℕ) → IsBlock f.net b → IsSeat f.net b (seat_of f b)
 

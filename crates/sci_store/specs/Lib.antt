@@ -1,11 +1,13 @@
 pub mod Marks
 pub mod Tally
 pub mod Blocks
+pub mod Heads
 pub mod Frame
 pub mod Seating
 pub mod Store
 pub mod Entering
 pub mod Passed
 pub mod Written
+pub mod Chosen
 pub mod Delays
 pub mod Paged

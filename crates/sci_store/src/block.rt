@@ -19,6 +19,7 @@ use sci_bank::library::{Banks, Library};
 use sci_places::Span;
 
 /// Where the values of a block lie among those of all.
+#[inline(always)]
 pub fn place(frame: &Frame, block: u32) -> Span
     requires { IsBlock frame.now.net block }
     ensures place { result ≡ block_span frame.now.net block }
@@ -30,6 +31,7 @@ pub fn place(frame: &Frame, block: u32) -> Span
 }
 
 /// Computes the values of a block on what goes into it, and writes them at the block's place among those of all.
+#[inline(always)]
 pub fn compute(
     frame: &Frame,
     lib: &mut Library,
@@ -57,6 +59,7 @@ pub fn compute(
 }
 
 /// The branch that a block takes on what goes into it; 0 for a block that isn't synchronous.
+#[inline(always)]
 pub fn take_branch(frame: &Frame, lib: &Library, block: u32, ins: &[i64]) -> u32
     requires seated { AreSeated frame.now (⟦<Library as Banks>⟧.banks lib.now) }
     requires block { IsBlock frame.now.net block }

@@ -1,6 +1,7 @@
 // What stays as it is through a run.
-ghost use Rattle.std.specs.Prelude.{◌≡◌, ℕ, ◌<◌, ◌≤◌, ◌^◌, length, true, IfOk, unsigned_abs};
+ghost use Rattle.std.specs.Prelude.{◌≡◌, ℕ, ◌<◌, ◌≤◌, ◌^◌, [], length, slice_index_or, true, IfOk, unsigned_abs};
 ghost use Rattle.sci_forms.specs.Typed.{typed};
+ghost use Rattle.sci_net.specs.Net.{all_elements};
 ghost use Rattle.sci_net.specs.Parts.{IsBlock, spec_of, column_of, rows_of};
 ghost use Rattle.sci_net.specs.Sources.{sources_of, source_of};
 ghost use Rattle.sci_bank.specs.Library.{AreInOrder, IsFull};
@@ -9,6 +10,8 @@ ghost use Rattle.sci_run.specs.Laws.{AreLoopFree};
 ghost use Rattle.sci_run.specs.Observed.{header};
 ghost use Rattle.sci_store.specs.Seating.{IsSeating, IsSeatingBy, begun};
 
+use crate::head::Head;
+use crate::heads::heads;
 use crate::seats::{Seat, seat_all, seat_in_states};
 use sci_bank::library::{Banks, Library};
 use sci_base::{NoMemory, Obs};
@@ -18,13 +21,15 @@ use sci_places::Places;
 use std::alloc::Global;
 use std::marker::Model;
 
-/// A net none of whose sources has a loop, with the places of its values and the instances of its blocks.
+/// A net none of whose sources has a loop, with the places of its values, the starts of their lines and the instances of its blocks.
 #[derive(Drop)]
 pub struct Frame {
     pub net: Net,
     pub places: Places,
     /// One for each block.
     pub seats: Vec<Seat>,
+    // one for each value, by its place
+    heads: Vec<Head>,
 }
 
 impl Model for Frame {
@@ -32,9 +37,9 @@ impl Model for Frame {
 
     ghost Value = { Fixed };
 
-    ghost view = { λ f. record { net = f.net; layout = f.places; seats = f.seats.items } };
+    ghost view = { λ f. record { net = f.net; layout = f.places; seats = f.seats.items; heads = f.heads.items } };
 
-    ghost invariant = { λ f. IsFrame (record { net = f.net; layout = f.places; seats = f.seats.items }) };
+    ghost invariant = { λ f. IsFrame (record { net = f.net; layout = f.places; seats = f.seats.items; heads = f.heads.items }) };
 }
 
 impl Frame {
@@ -53,8 +58,14 @@ impl Frame {
     {
         net.well_formed();
         let places = Places::new(alloc, &net)?;
+        let heads = heads(alloc, &net)?;
         let seats = seat_all(alloc, &net, lib)?;
-        Ok(Frame { net, places, seats })
+        Ok(Frame {
+            net,
+            places,
+            seats,
+            heads,
+        })
     }
 
     /// The same, with an instance of each block in its state among these, with which its spec is typed still.
@@ -76,8 +87,14 @@ impl Frame {
     {
         net.well_formed();
         let places = Places::new(alloc, &net)?;
+        let heads = heads(alloc, &net)?;
         let seats = seat_in_states(alloc, &net, states, lib)?;
-        Ok(Frame { net, places, seats })
+        Ok(Frame {
+            net,
+            places,
+            seats,
+            heads,
+        })
     }
 
     /// What holds of every frame.
@@ -88,12 +105,22 @@ impl Frame {
     }
 
     /// Where a block's instance is kept.
+    #[inline(always)]
     pub fn seat(&self, block: u32) -> Seat
         requires least { 1 ≤ block }
         requires most { block ≤ length self.now.net.specs }
         ensures { result ≡ seat_of self.now block }
     {
         self.seats[block as usize - 1]
+    }
+
+    /// The start of the line of a value, by its place among those of all.
+    #[inline(always)]
+    pub(crate) fn head(&self, place: usize) -> &Head
+        requires { place < all_elements self.now.net.specs }
+        ensures { result.now ≡ slice_index_or self.now.heads place [] }
+    {
+        &self.heads[place]
     }
 
     /// The column that a sensor reads, counted from 1.

@@ -1,32 +1,30 @@
-// The starts of the lines of values.
-ghost use Rattle.std.specs.Prelude.{◌≡◌, ◌+◌, ◌≤◌, ◌++◌, codes, length, take};
-ghost use Rattle.sci_store.specs.Paged.{start_text};
+// The start of the line of a value.
+ghost use Rattle.std.specs.Prelude.{◌≡◌, ◌+◌, ◌<◌, ◌≤◌, ◌++◌, codes, length, take};
+ghost use Rattle.std.specs.Fmt.{decimal};
+ghost use Rattle.sci_store.specs.Heads.{start_text};
 
-use crate::pieces::{byte_at, spaced_number_at};
+use crate::pieces::{byte_at, digits_at};
 use std::marker::Model;
 
-/// The room for the start of a line: a word, three numbers of at most 21 characters behind a space each, and a space.
-const ROOM: usize = 72;
+/// The room for the start of a line: a word, a block of at most four digits, a port of at most two and an element of at most five, each
+/// behind a space, and a space.
+const ROOM: usize = 24;
 
 /// The start of the line of a value, up to the value.
 #[derive(Drop)]
 pub struct Head {
-    block: i64,
-    port: i64,
-    element: i64,
     text: [u8; ROOM],
     len: usize,
 }
 
 impl Model for Head {
-    ghost use Rattle.std.specs.Prelude.{◌≡◌, ◌≤◌, take};
-    ghost use Rattle.sci_store.specs.Paged.{Named, start_text};
+    ghost use Rattle.std.specs.Prelude.{ℕ, List, ◌≤◌, take};
 
-    ghost Value = { Named };
+    ghost Value = { List ℕ };
 
-    ghost view = { λ h. record { block = h.block; port = h.port; element = h.element } };
+    ghost view = { λ h. take h.len h.text };
 
-    ghost invariant = { λ h. (h.len ≤ 72) × (take h.len h.text ≡ start_text (record { block = h.block; port = h.port; element = h.element })) };
+    ghost invariant = { λ h. h.len ≤ 24 };
 }
 
 /// Writes the word of a value's line.
@@ -39,10 +37,23 @@ fn word(text: &mut [u8; ROOM]) -> usize
     byte_at(text, at, b'l')
 }
 
+/// A space, and a number behind it.
+fn spaced_number_at(text: &mut [u8; ROOM], at: usize, n: u32) -> usize
+    requires { at + 1 + length (decimal n) ≤ 24 }
+    ensures text { take result text.new ≡ take at text.old ++ (codes " " ++ decimal n) }
+    ensures end { result ≡ at + 1 + length (decimal n) }
+{
+    let first = byte_at(text, at, b' ');
+    digits_at(text, first, u64::from(n))
+}
+
 impl Head {
-    /// The start of the line of a value: of `block`, `port` and `element`.
-    pub fn new(block: i64, port: i64, element: i64) -> Head
-        ensures { result ≡ record { block = block; port = port; element = element } }
+    /// The start of the line of an element of an output of a block, each counted from 1.
+    pub fn new(block: u32, port: u32, element: u32) -> Head
+        requires block { block < 10000 }
+        requires port { port < 100 }
+        requires element { element < 100000 }
+        ensures { result ≡ start_text (record { block = block; port = port; element = element }) }
     {
         let mut text = [0; ROOM];
         let at = word(&mut text);
@@ -50,31 +61,16 @@ impl Head {
         let at = spaced_number_at(&mut text, at, port);
         let at = spaced_number_at(&mut text, at, element);
         let len = byte_at(&mut text, at, b' ');
-        Head {
-            block,
-            port,
-            element,
-            text,
-            len,
-        }
+        Head { text, len }
     }
 
-    /// Lays down the start of the line of another value, if this is of another.
-    pub fn set(&mut self, block: i64, port: i64, element: i64)
-        ensures { self.new ≡ record { block = block; port = port; element = element } }
-    {
-        if self.block == block && self.port == port && self.element == element {
-            return;
-        }
-        *self = Head::new(block, port, element);
-    }
-
-    /// Puts the start of the line behind what stands before it, in a text with room for 72 bytes more. The answer is where it ends.
+    /// Puts the start of the line behind what stands before it, in a text with room for 24 bytes more. The answer is where it ends.
+    #[inline(always)]
     pub fn put_at(&self, text: &mut [u8], at: usize) -> usize
-        requires { at + 72 ≤ length text.old }
-        ensures text { take result text.new ≡ take at text.old ++ start_text self.now }
+        requires { at + 24 ≤ length text.old }
+        ensures text { take result text.new ≡ take at text.old ++ self.now }
         ensures start { at ≤ result }
-        ensures end { result ≤ at + 72 }
+        ensures end { result ≤ at + 24 }
     {
         text[at..at + ROOM].copy_from_slice(&self.text);
         at + self.len

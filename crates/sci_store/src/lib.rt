@@ -5,9 +5,9 @@
 mod block;
 mod frame;
 mod head;
+mod heads;
 mod lines;
 mod marks;
-mod page;
 mod pieces;
 mod seats;
 mod store;

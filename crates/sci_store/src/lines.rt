@@ -1,55 +1,53 @@
-// The lines of values, whose starts are kept.
-ghost use Rattle.std.specs.Prelude.{◌≡◌, [], IfOk};
-ghost use Rattle.sci_base.specs.declared.observation.Obs.TheVariants.{Val};
+// Lines of values that wait before a sink.
+ghost use Rattle.std.specs.Prelude.{◌≡◌, ◌≤◌, ◌++◌, [], codes, length, IfOk};
+ghost use Rattle.std.specs.Fmt.{signed_decimal};
 ghost use Rattle.sci_io.specs.Taken.{Writes};
-ghost use Rattle.sci_trace.specs.Lines.{line};
 ghost use Rattle.sci_store.specs.Paged.{paged};
 
 use crate::head::Head;
-use crate::page::Page;
+use crate::pieces::{byte_at, number_at};
 use sci_base::NoMemory;
 use sci_io::{Failed, Sink};
 use std::alloc::Global;
 use std::marker::Model;
 
-/// How many starts of lines are kept at most.
-const KEPT: usize = 16384;
+/// How many bytes there is room for.
+const ROOM: usize = 4096;
 
-/// Lines of values that wait before a sink, and the starts of the lines of the first 16,384 values, each laid down when it is first needed.
+/// Up to so many bytes there is room for one line more: a start of 24 bytes, a number of 21 and the end of the line.
+const ONE_MORE: usize = 4050;
+
+/// Lines of values that wait before a sink.
 #[derive(Drop)]
 pub struct Lines {
-    // by the place of the value among those of all
-    heads: Vec<Head>,
-    page: Page,
+    text: Vec<u8>,
+    len: usize,
 }
 
 impl Model for Lines {
-    ghost use Rattle.std.specs.Prelude.{ℕ, List};
+    ghost use Rattle.std.specs.Prelude.{ℕ, List, ◌≡◌, ◌≤◌, take, length};
 
     ghost Value = { List ℕ };
 
-    ghost view = { λ l. l.page };
+    ghost view = { λ l. take l.len l.text.items };
+
+    ghost invariant = { λ l. (length l.text.items ≡ 4096) × (l.len ≤ 4096) };
 }
 
 impl Lines {
-    /// No line waits; starts are kept for so many values.
-    pub fn new(alloc: Global, places: usize) -> Result<Lines, NoMemory>
+    /// No line waits.
+    pub fn new(alloc: Global) -> Result<Lines, NoMemory>
         ensures { IfOk result (λ l. l ≡ []) }
     {
-        let page = Page::new(alloc)?;
-        let kept = places.min(KEPT);
-        let mut heads = Vec::with_capacity(alloc, kept)?;
-        for _place in 0..kept {
-            heads.push(Head::new(0, 0, 0))?;
-        }
-        Ok(Lines { heads, page })
+        let text = vec![in alloc; 0; ROOM]?;
+        Ok(Lines { text, len: 0 })
     }
 
     /// Forgets what waits.
     pub fn clear(&mut self)
         ensures { self.new ≡ [] }
     {
-        self.page.clear();
+        self.len = 0;
     }
 
     /// Gives what waits to the sink.
@@ -57,28 +55,34 @@ impl Lines {
         ensures given { Writes (paged (S.state out.old) self.old) (paged (S.state out.new) self.new) [] result }
         ensures empty { self.new ≡ [] }
     {
-        self.page.give(out)
+        if self.len == 0 {
+            return Ok(());
+        }
+        let given = out.put(&self.text[..self.len]);
+        self.len = 0;
+        given
     }
 
-    /// Writes the line of a value: of `block`, `port` and `element`. The place is that of the value among those of all; with another it would
-    /// take longer.
-    pub fn put<S: Sink>(
-        &mut self,
-        place: usize,
-        block: i64,
-        port: i64,
-        element: i64,
-        value: i64,
-        out: &mut S,
-    ) -> Result<(), Failed>
-        ensures { Writes (paged (S.state out.old) self.old) (paged (S.state out.new) self.new) (line (Val block port element value)) result }
+    // Adds a line, for which there is room.
+    #[inline(always)]
+    fn add(&mut self, head: &Head, value: i64)
+        requires { length self.old ≤ 4050 }
+        ensures { self.new ≡ self.old ++ (head.now ++ (signed_decimal value ++ codes "\n")) }
     {
-        if place >= self.heads.len() {
-            let head = Head::new(block, port, element);
-            return self.page.put(&head, value, out);
+        let at = head.put_at(&mut self.text, self.len);
+        let at = number_at(&mut self.text, at, value);
+        self.len = byte_at(&mut self.text, at, b'\n');
+    }
+
+    /// Writes the line of a value behind its start; where there is no room for it, what waits is given to the sink first.
+    #[inline(always)]
+    pub fn put<S: Sink>(&mut self, head: &Head, value: i64, out: &mut S) -> Result<(), Failed>
+        ensures { Writes (paged (S.state out.old) self.old) (paged (S.state out.new) self.new) (head.now ++ (signed_decimal value ++ codes "\n")) result }
+    {
+        if self.len > ONE_MORE {
+            self.give(out)?;
         }
-        let head = &mut self.heads[place];
-        head.set(block, port, element);
-        self.page.put(head, value, out)
+        self.add(head, value);
+        Ok(())
     }
 }

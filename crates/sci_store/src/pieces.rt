@@ -5,6 +5,7 @@ ghost use Rattle.std.specs.Fmt.{decimal, signed_decimal};
 use itoa::write_digits;
 
 /// How many digits a number has that has at most four.
+#[inline(always)]
 fn few_digits(n: u64) -> usize
     requires { n < 10000 }
     ensures { result ≡ length (decimal n) }
@@ -21,6 +22,7 @@ fn few_digits(n: u64) -> usize
 }
 
 /// How many digits a number has.
+#[inline(always)]
 fn digits(n: u64) -> usize
     ensures { result ≡ length (decimal n) }
 {
@@ -34,6 +36,7 @@ fn digits(n: u64) -> usize
 }
 
 /// A byte.
+#[inline(always)]
 pub fn byte_at(text: &mut [u8], at: usize, byte: u8) -> usize
     requires { at < length text.old }
     ensures text { take result text.new ≡ take at text.old ++ byte ∷ [] }
@@ -43,12 +46,12 @@ pub fn byte_at(text: &mut [u8], at: usize, byte: u8) -> usize
     at + 1
 }
 
-/// The digits of a number, at most 20.
-fn digits_at(text: &mut [u8], at: usize, n: u64) -> usize
-    requires { at + 20 ≤ length text.old }
+/// The digits of a number.
+#[inline(always)]
+pub fn digits_at(text: &mut [u8], at: usize, n: u64) -> usize
+    requires { at + length (decimal n) ≤ length text.old }
     ensures text { take result text.new ≡ take at text.old ++ decimal n }
-    ensures start { at ≤ result }
-    ensures end { result ≤ at + 20 }
+    ensures end { result ≡ at + length (decimal n) }
 {
     let end = at + digits(n);
     write_digits(n, text, end);
@@ -56,6 +59,7 @@ fn digits_at(text: &mut [u8], at: usize, n: u64) -> usize
 }
 
 /// A number with its sign, at most 21 bytes.
+#[inline(always)]
 pub fn number_at(text: &mut [u8], at: usize, n: i64) -> usize
     requires { at + 21 ≤ length text.old }
     ensures text { take result text.new ≡ take at text.old ++ signed_decimal n }
@@ -67,15 +71,4 @@ pub fn number_at(text: &mut [u8], at: usize, n: i64) -> usize
         return digits_at(text, first, n.unsigned_abs());
     }
     digits_at(text, at, n.unsigned_abs())
-}
-
-/// A space, and a number behind it, at most 22 bytes.
-pub fn spaced_number_at(text: &mut [u8], at: usize, n: i64) -> usize
-    requires { at + 22 ≤ length text.old }
-    ensures text { take result text.new ≡ take at text.old ++ (codes " " ++ signed_decimal n) }
-    ensures start { at ≤ result }
-    ensures end { result ≤ at + 22 }
-{
-    let first = byte_at(text, at, b' ');
-    number_at(text, first, n)
 }

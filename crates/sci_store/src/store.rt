@@ -3,7 +3,7 @@ ghost use Rattle.std.specs.Prelude.{◌≡◌, ℕ, ◌+◌, ◌-◌, ◌<◌, �
 ghost use Rattle.sci_base.specs.Lists.{at, listed};
 ghost use Rattle.sci_io.specs.Taken.{Writes};
 ghost use Rattle.sci_trace.specs.Lines.{line, text};
-ghost use Rattle.sci_forms.specs.Ports.{total, elements, port_at};
+ghost use Rattle.sci_forms.specs.Ports.{total};
 ghost use Rattle.sci_forms.specs.Forms.{has_delay};
 ghost use Rattle.sci_kinds.specs.Asks.{IsMask, IsState};
 ghost use Rattle.sci_kinds.specs.Table.{held_of};
@@ -11,8 +11,8 @@ ghost use Rattle.sci_net.specs.declared.Source.{Source};
 ghost use Rattle.sci_net.specs.Parts.{IsBlock, spec_of, is_sensor};
 ghost use Rattle.sci_reaction.specs.Memory.{Memory, IsMemory, AreColumns, next_value, first_memory};
 ghost use Rattle.sci_reaction.specs.Equations.{Signals, AreInRange, input_in, all_inputs};
-ghost use Rattle.sci_run.specs.Activity.{Activity, IsActivity, halts};
-ghost use Rattle.sci_run.specs.Observed.{elements_seen, outputs_seen, blocks_seen};
+ghost use Rattle.sci_run.specs.Activity.{Activity, IsActivity, is_halt, halts};
+ghost use Rattle.sci_run.specs.Observed.{outputs_seen, blocks_seen};
 ghost use Rattle.sci_places.specs.Flat.{values_at, IsWhole};
 
 use crate::block::{compute, place, take_branch};
@@ -24,7 +24,7 @@ use sci_bank::Fate;
 use sci_bank::library::{Banks, Library};
 use sci_base::{NoMemory, Obs, StopWord};
 use sci_io::{Failed, Sink};
-use sci_kinds::{Kind, Ports, Spec};
+use sci_kinds::{Kind, Spec};
 use sci_trace::inputs::Inputs;
 use sci_trace::write_obs;
 use std::alloc::Global;
@@ -90,18 +90,6 @@ fn all_held(alloc: Global, frame: &Frame) -> Result<Vec<i64>, NoMemory>
     Ok(values)
 }
 
-/// How many elements an output has, of a block whose outputs have `all`. Most blocks have one output, whose sizes need not be multiplied.
-fn output_elements(outs: &Ports, port: usize, all: usize) -> usize
-    requires port { port < length outs.now }
-    requires all { all ≡ total outs.now }
-    ensures { result ≡ elements (port_at outs.now port) }
-{
-    if outs.len() == 1 {
-        return all;
-    }
-    outs.get(port).elements() as usize
-}
-
 impl Store {
     ghost use Rattle.sci_store.specs.Marks.{idle, mark_at};
     ghost use Rattle.sci_store.specs.Blocks.{AreBlocksByNumber};
@@ -109,6 +97,7 @@ impl Store {
     ghost use Rattle.sci_store.specs.Store.{Standing, IsStore, AreIdle, cursor_at, state_of, ShowsValues};
     ghost use Rattle.sci_store.specs.Passed.{given, IsEvaluated, IsStepped, IsStateStepped, IsBlockStepped, ShowsBefore, AreAlikeCounts, KeepsValues};
     ghost use Rattle.sci_store.specs.Written.{AreAmong, IsPlain, tallied};
+    ghost use Rattle.sci_store.specs.Chosen.{active_of_kinds, remembers};
     ghost use Rattle.sci_store.specs.Delays.{delays_in};
     ghost use Rattle.sci_store.specs.Paged.{paged};
     ghost use Rattle.sci_store.specs.Entering.{IsEntered};
@@ -251,6 +240,7 @@ impl Store {
     }
 
     // What goes into a block: the next value of a sensor's column, or the values on all inputs. None at the end of the column.
+    #[inline(always)]
     fn enter(&mut self, frame: &Frame, inputs: &Inputs, block: u32) -> Option<usize>
         requires store { IsStore frame.now self.old }
         requires block { IsBlock frame.now.net block }
@@ -269,6 +259,7 @@ impl Store {
     }
 
     // The values on all inputs of a block.
+    #[inline(always)]
     fn gather(&mut self, frame: &Frame, block: u32) -> usize
         requires store { IsStore frame.now self.old }
         requires block { IsBlock frame.now.net block }
@@ -282,6 +273,7 @@ impl Store {
     }
 
     /// Gives an active block its values; or the word that says why it has none.
+    #[inline(always)]
     pub fn evaluate(
         &mut self,
         frame: &Frame,
@@ -320,38 +312,8 @@ impl Store {
         None
     }
 
-    // Writes the lines of the values of an output.
-    fn write_port<S: Sink>(
-        &mut self,
-        block: u32,
-        port: usize,
-        start: usize,
-        count: usize,
-        lines: &mut Lines,
-        out: &mut S,
-    ) -> Result<(), Failed>
-        requires within { start + count ≤ length self.old.values }
-        requires port { port < 2 ^ 63 }
-        ensures written { Writes (paged (S.state out.old) lines.old) (paged (S.state out.new) lines.new) (text (elements_seen block port 1 (take count (drop start self.old.values)))) result }
-        ensures counted { OnOk result (self.new ≡ tallied self.old (elements_seen block port 1 (take count (drop start self.old.values)))) }
-        ensures same { self.new ≡ record self.old { lines = self.new.lines; sum = self.new.sum } }
-    {
-        for at in 0..count {
-            let value = self.values[start + at];
-            lines.put(
-                start + at,
-                i64::from(block),
-                port as i64,
-                at as i64 + 1,
-                value,
-                out,
-            )?;
-            self.tally.count_value(value);
-        }
-        Ok(())
-    }
-
     // Writes the lines of the values of a block.
+    #[inline(always)]
     fn write_block<S: Sink>(
         &mut self,
         frame: &Frame,
@@ -365,13 +327,13 @@ impl Store {
         ensures counted { OnOk result (self.new ≡ tallied self.old (outputs_seen block 1 (spec_of frame.now.net block).outs (values_at frame.now.net self.old.values block))) }
         ensures same { self.new ≡ record self.old { lines = self.new.lines; sum = self.new.sum } }
     {
-        let outs = &frame.net.spec(block).outs;
-        let place = frame.places.outs(block);
-        let mut start = place.start;
-        for port in 0..outs.len() {
-            let count = output_elements(outs, port, place.len);
-            self.write_port(block, port + 1, start, count, lines, out)?;
-            start += count;
+        frame.well_formed();
+        let place = place(frame, block);
+        for element in 0..place.len {
+            let at = place.start + element;
+            let value = self.values[at];
+            lines.put(frame.head(at), value, out)?;
+            self.tally.count_value(value);
         }
         Ok(())
     }
@@ -419,6 +381,7 @@ impl Store {
     }
 
     // An active block steps its state, where its kind has one.
+    #[inline(always)]
     fn update_state(&mut self, frame: &Frame, lib: &mut Library, block: u32)
         requires store { IsStore frame.now self.old }
         requires seated { AreSeated frame.now (⟦<Library as Banks>⟧.banks lib.old) }
@@ -451,6 +414,7 @@ impl Store {
     }
 
     // An active block steps its state; a sensor goes on in its column.
+    #[inline(always)]
     fn update(&mut self, frame: &Frame, lib: &mut Library, inputs: &Inputs, block: u32)
         requires store { IsStore frame.now self.old }
         requires seated { AreSeated frame.now (⟦<Library as Banks>⟧.banks lib.old) }
@@ -469,7 +433,7 @@ impl Store {
         }
     }
 
-    /// The active ones of these blocks step their states, and sensors go on in their columns.
+    /// The active ones of these blocks step their states, and sensors go on in their columns. Blocks that have neither may be left out.
     pub fn update_all(&mut self, frame: &Frame, blocks: &[u32], lib: &mut Library, inputs: &Inputs)
         requires store { IsStore frame.now self.old }
         requires seated { AreSeated frame.now (⟦<Library as Banks>⟧.banks lib.old) }
@@ -478,7 +442,7 @@ impl Store {
         requires masks { (b : ℕ) → IsBlock frame.now.net b → (mark_at self.old.marks b).active ≡ true → IsMask (spec_of frame.now.net b) (mark_at self.old.marks b).mask }
         requires sensed { (b : ℕ) → IsBlock frame.now.net b → (mark_at self.old.marks b).active ≡ true → is_sensor (spec_of frame.now.net b).kind ≡ true → IsSome (next_value inputs.now (spec_of frame.now.net b) (cursor_at self.old b)) }
         requires states { (b : ℕ) → IsBlock frame.now.net b → IsState (spec_of frame.now.net b) (state_of frame.now (⟦<Library as Banks>⟧.banks lib.old) b) }
-        ensures stepped { (s : Source) (m : Memory) (y : Signals) (active : Activity) → IsActivity frame.now.net s y active → ShowsValues frame.now s self.old y active → AreAmong frame.now.net active blocks.now → ShowsBefore frame.now self.old (⟦<Library as Banks>⟧.banks lib.old) m → IsMemory frame.now.net m → IsStepped frame.now s m y self.new (⟦<Library as Banks>⟧.banks lib.new) }
+        ensures stepped { (s : Source) (m : Memory) (y : Signals) (active : Activity) → IsActivity frame.now.net s y active → ShowsValues frame.now s self.old y active → AreAmong frame.now.net (active_of_kinds frame.now.net remembers active) blocks.now → ShowsBefore frame.now self.old (⟦<Library as Banks>⟧.banks lib.old) m → IsMemory frame.now.net m → IsStepped frame.now s m y self.new (⟦<Library as Banks>⟧.banks lib.new) }
         ensures values { KeepsValues self.old self.new }
         ensures store { IsStore frame.now self.new }
         ensures seated { AreSeated frame.now (⟦<Library as Banks>⟧.banks lib.new) }
@@ -492,11 +456,11 @@ impl Store {
         }
     }
 
-    /// Whether one of these blocks ends the run and is active.
+    /// Whether one of these blocks ends the run and is active. Blocks that never end it may be left out.
     pub fn halts(&self, frame: &Frame, blocks: &[u32]) -> bool
         requires store { IsStore frame.now self.now }
         requires blocks { AreBlocksByNumber frame.now.net blocks.now }
-        ensures { (s : Source) (y : Signals) (active : Activity) → ShowsValues frame.now s self.now y active → AreAmong frame.now.net active blocks.now → result ≡ halts frame.now.net active }
+        ensures { (s : Source) (y : Signals) (active : Activity) → ShowsValues frame.now s self.now y active → AreAmong frame.now.net (active_of_kinds frame.now.net is_halt active) blocks.now → result ≡ halts frame.now.net active }
     {
         for block in blocks {
             if frame.is_halt(*block) && self.is_active(*block) {

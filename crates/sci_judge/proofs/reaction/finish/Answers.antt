@@ -4,11 +4,12 @@ use Rattle.sci_run.specs.Activity.{Activity}
 use Rattle.sci_run.specs.Observed.{blocks_seen}
 use Rattle.sci_events.specs.Events.{Waiting}
 use Rattle.sci_store.specs.Written.{AreAmong}
+use Rattle.sci_store.specs.Chosen.{remembers}
 use Rattle.sci_store.specs.Delays.{delays_in}
 use Rattle.sci_judge.specs.Programming.{IsDelayed, with_sources}
 use Rattle.sci_judge.proofs.Sinking.{err_of, err_writes, ok_writes}
 use Rattle.sci_judge.proofs.Reacting.{programmed_is}
-use Rattle.sci_store.proofs.Reacting.{AreKept, kept_counts, kept_room, kept_then, store_alike, range_alike, masks_alike, sensed_alike, shown_alike, before_alike}
+use Rattle.sci_store.proofs.Reacting.{among_kinds, AreKept, kept_counts, kept_room, kept_then, store_alike, range_alike, masks_alike, sensed_alike, shown_alike, before_alike}
 use Rattle.sci_judge.proofs.reaction.finish.Given.{Over}
 use Rattle.sci_judge.proofs.reaction.finish.Goals as goal
 use Rattle.sci_judge.proofs.reaction.finish.Goals.{After-write_values, After-program_all}
@@ -92,7 +93,7 @@ pub returns-clause-stepped : goal.returns-clause-stepped
 returns-clause-stepped g c source m y active is shown among before memory =
     let kept = programmed g (goal.at.returns-clause-stepped g c).After-program_all in
     c.update_all.ensures.stepped source m y active is (shown_alike c.args.frame.now c.args.store.now c.program_all.new.store kept source y active shown)
-    (subst (AreAmong c.args.frame.now.net active) (sym c.deref-3.ensures.value) among)
+    (among_kinds c.args.frame.now.net remembers active c.deref-3.result.now (subst (AreAmong c.args.frame.now.net active) (sym c.deref-3.ensures.value) among))
     (before_alike c.args.frame.now c.args.store.now c.program_all.new.store kept _ m before) memory
 
 pub returns-clause-marks : goal.returns-clause-marks

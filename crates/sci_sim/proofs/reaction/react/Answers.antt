@@ -29,6 +29,7 @@ use Rattle.sci_store.specs.Written.{AreAmong, sum_of, tallied}
 use Rattle.sci_store.proofs.Writing.{tallied_twice}
 use Rattle.sci_store.proofs.Reacting.{range_here, masks_here, states_here, sensed_here, AreKept, kept_counts, shown_alike, before_alike, before_here, outcome_here, shown_marks}
 use Rattle.sci_sim.specs.Rows.{row_of}
+use Rattle.sci_sim.specs.Roles.{roles_among}
 use Rattle.sci_sim.specs.Programming.{Keeps}
 use Rattle.sci_sim.proofs.Reacting.{row_blocks, outside_row, among_row, some_outcome, shows_after}
 use Rattle.sci_sim.proofs.reaction.react.Given.{Over}
@@ -217,6 +218,10 @@ header_kept g c counted =
 
 in_blocks : (g : Over) (c : After-deref g) (active : Activity) → AreAmong c.args.frame.now.net active (row_of c.args.row.now).blocks → AreAmong c.args.frame.now.net active c.deref.result.now
 in_blocks g c active = subst (AreAmong c.args.frame.now.net active) (sym c.deref.ensures.value)
+
+pub finish-requires-clause-roles : goal.finish-requires-clause-roles
+finish-requires-clause-roles g c =
+    c.requires.roles ∙ ap (λ (bs : List ℕ). roles_among c.args.frame.now.net bs) (sym c.deref.ensures.value)
 
 pub returns-in_err-finish-in-None-clause-reacted : goal.returns-in_err-finish-in-None-clause-reacted
 returns-in_err-finish-in-None-clause-reacted g c st shows =

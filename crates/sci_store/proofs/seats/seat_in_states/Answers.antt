@@ -1,7 +1,7 @@
-use Rattle.std.proofs.Common.{◌≡◌, ◌<◌, ◌≤◌, ◌+◌, length, true, refl, ap, sym, subst, ◌∙◌, arith}
+use Rattle.std.proofs.Common.{◌≡◌, ◌<◌, ◌+◌, length, true, refl, ap, sym, subst, ◌∙◌, arith}
 use Rattle.sci_forms.specs.declared.spec.Spec.{Spec}
 use Rattle.sci_forms.specs.Typed.{typed}
-use Rattle.sci_net.specs.Parts.{spec_of, rows_of}
+use Rattle.sci_net.specs.Parts.{rows_of}
 use Rattle.sci_store.specs.declared.seats.Seat.{Seat}
 use Rattle.sci_store.specs.Seating.{begun}
 use Rattle.sci_store.proofs.Seated.{seating_next, sources_next, sources_small, begun_is}

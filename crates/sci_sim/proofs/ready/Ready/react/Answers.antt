@@ -1,15 +1,21 @@
-use Rattle.std.proofs.Common.{◌≡◌, ◌<◌, ℕ, List, Contains, map, length, ap, rules, sym, subst, ◌∙◌}
+use Rattle.std.proofs.Common.{◌≡◌, ◌<◌, ℕ, List, Contains, map, length, ap, rules, refl, sym, subst, ◌∙◌}
 use Rattle.sci_net.specs.Parts.{IsBlock}
 use Rattle.sci_net.specs.Sources.{source_of}
 use Rattle.sci_reaction.specs.Memory.{AreColumns}
+use Rattle.sci_run.specs.Activity.{is_halt}
+use Rattle.sci_bank.proofs.LibraryLemmas.{view_of}
+use Rattle.sci_store.specs.Blocks.{AreBlocksByNumber}
+use Rattle.sci_store.specs.Chosen.{of_kinds}
 use Rattle.sci_store.specs.Marks.{mark_at, idle}
 use Rattle.sci_sim.specs.Rows.{Row, row_of, row_in, IsRowOf}
+use Rattle.sci_sim.specs.Roles.{Roles, roles_of, roles_among, no_roles}
 use Rattle.sci_sim.specs.At.{Running}
 use Rattle.sci_sim.proofs.Steps.{err_as, no_ok}
-use Rattle.sci_sim.proofs.Reacting.{row_here, row_kept, blocks_kept}
+use Rattle.sci_sim.proofs.Choosing.{chosen_by_number, roles_here, roles_long}
+use Rattle.sci_sim.proofs.Reacting.{row_here, row_blocks, row_kept, blocks_kept}
 use Rattle.sci_sim.proofs.Cleared.{all_idle, shown_cleared, outcome_in, reacted_cleared, halted_in, ready_behind}
 use Rattle.sci_sim.proofs.ready.Ready.react.Given.{Over}
-use Rattle.sci_sim.proofs.ready.Ready.react.Goals.{After-index-row}
+use Rattle.sci_sim.proofs.ready.Ready.react.Goals.{After-index-row, After-index-roles}
 use Rattle.sci_sim.proofs.ready.Ready.react.Goals as goal
 
 module _ (g : Over) (c : After-index-row g) where
@@ -23,6 +29,18 @@ module _ (g : Over) (c : After-index-row g) where
   row_now : row_of c.index-row.result.now ≡ row_in c.args.self.now.rows c.args.source
   row_now = row_is ∙ ap (λ (x : Running). row_in x.rows c.args.source) c.self.view_is
 
+-- the roles of its blocks
+module _ (g : Over) (c : After-index-roles g) where
+  has_row : c.args.source < length (map row_of c.self.inside.rows.items)
+  has_row = subst (λ (x : Running). c.args.source < length x.rows) (sym c.self.view_is) c.requires.source
+
+  roles_is : roles_of c.index-roles.result.now ≡ roles_among c.self.inside.frame.net (row_in (map row_of c.self.inside.rows.items) c.args.source).blocks
+  roles_is =
+      view_of roles_of c.self.inside.roles.items c.args.source c.args.source c.index-roles.result.now no_roles refl
+      (roles_long c.self.inside.frame.net (map row_of c.self.inside.rows.items) (map roles_of c.self.inside.roles.items) c.args.source c.self.invariant.roles has_row)
+      c.index-roles.ensures
+      ∙ roles_here c.self.inside.frame.net (map row_of c.self.inside.rows.items) (map roles_of c.self.inside.roles.items) c.args.source c.self.invariant.roles has_row
+
 pub clear-requires-clause-blocks : goal.clear-requires-clause-blocks
 clear-requires-clause-blocks g c =
     blocks_kept c.self.inside.frame.net c.self.inside.rows.items c.self.inside.row c.index-last.result.now _ c.self.invariant.rows c.self.invariant.row c.index-last.ensures
@@ -33,6 +51,11 @@ react-requires-clause-row g c =
     let at = (goal.at.react-requires-clause-row g c).After-index-row in
     let n = c.self.inside.frame.net in
     subst (IsRowOf n (source_of n c.args.source)) (sym (row_is g at)) (row_here n (map row_of c.self.inside.rows.items) c.args.source c.self.invariant.rows (within g at))
+
+pub react-requires-clause-roles : goal.react-requires-clause-roles
+react-requires-clause-roles g c =
+    let at = goal.at.react-requires-clause-roles g c in
+    roles_is g at.After-index-roles ∙ ap (λ (r : Row). roles_among c.self.inside.frame.net r.blocks) (sym (row_is g at.After-index-row))
 
 pub react-requires-clause-idle : goal.react-requires-clause-idle
 react-requires-clause-idle g c =
@@ -77,16 +100,25 @@ returns-else-is_none-clause-reacted g c st h =
       reacted_cleared c.args.self.now _ c.clear.new.self c.self.view_is c.clear.ensures.rest _ c.args.source _ (row_now g (goal.at.returns-else-is_none-clause-reacted g c).After-index-row) c.react.new.store _ c.react.new.agenda.meaning c.react.new.agenda.puts q.0 c.in_ok-stop.stop q.3,
     )
 
+-- the blocks that end the run, among those of the row
+halting : (g : Over) (c : After-index-roles g) → c.index-roles.result.now.halts.items ≡ of_kinds c.self.inside.frame.net is_halt (row_in (map row_of c.self.inside.rows.items) c.args.source).blocks
+halting g c = ap (λ (r : Roles). r.halts) (roles_is g c)
+
 pub returns-then-is_none-clause-halted : goal.returns-then-is_none-clause-halted
 returns-then-is_none-clause-halted g c none after marks =
-    let row = row_now g (goal.at.returns-then-is_none-clause-halted g c).After-index-row in
-    halted_in c.args.self.now _ c.self.view_is c.args.source c.deref-then-is_none.result.now (c.deref-then-is_none.ensures.value ∙ ap (λ (r : Row). r.blocks) row)
+    let roles = halting g (goal.at.returns-then-is_none-clause-halted g c).After-index-roles in
+    halted_in c.args.self.now _ c.self.view_is c.args.source c.deref-then-is_none.result.now
+    (c.deref-then-is_none.ensures.value ∙ (roles ∙ ap (λ (x : Running). of_kinds x.fixed.net is_halt (row_in x.rows c.args.source).blocks) c.self.view_is))
     c.react.new.store after c.halts-self-inside.result marks c.halts-self-inside.ensures
 
 pub halts-self-inside-requires-clause-blocks : goal.halts-self-inside-requires-clause-blocks
 halts-self-inside-requires-clause-blocks g c =
-    blocks_kept c.self.inside.frame.net c.self.inside.rows.items c.args.source c.index-row.result.now _ c.self.invariant.rows
-    (within g (goal.at.halts-self-inside-requires-clause-blocks g c).After-index-row) c.index-row.ensures c.deref-then-is_none.ensures.value
+    let at = goal.at.halts-self-inside-requires-clause-blocks g c in
+    let n = c.self.inside.frame.net in
+    let rows = map row_of c.self.inside.rows.items in
+    let k = c.args.source in
+    subst (AreBlocksByNumber n) (sym (c.deref-then-is_none.ensures.value ∙ halting g at.After-index-roles))
+    (chosen_by_number n is_halt (row_in rows k).blocks (row_blocks n (source_of n k) (row_in rows k) (row_here n rows k c.self.invariant.rows (within g at.After-index-row))))
 
 pub invariant_of-self : goal.invariant_of-self
 invariant_of-self g c =

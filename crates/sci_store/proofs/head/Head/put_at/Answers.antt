@@ -1,5 +1,4 @@
 use Rattle.std.proofs.Common.{◌≤◌, List, ℕ, ◌++◌, length, take, ap, ◌∙◌, rules, arith}
-use Rattle.sci_store.specs.Paged.{Named, start_text}
 use Rattle.sci_store.proofs.Paging.{front_put}
 use Rattle.sci_store.proofs.head.Head.put_at.Goals as goal
 
@@ -10,4 +9,4 @@ returns-clause-text c =
     let long : c.self.inside.len ≤ length copied = search rules in
     front_put old copied _ c.args.at c.self.inside.len (omega (arith, c.requires)) long
     ∙ ap (λ (l : List ℕ). take c.args.at old ++ l)
-    (ap (λ (l : List ℕ). take c.self.inside.len l) c.copy_from_slice.ensures.after ∙ (c.self.invariant.1 ∙ ap (λ (n : Named). start_text n) c.self.view_is))
+    (ap (λ (l : List ℕ). take c.self.inside.len l) c.copy_from_slice.ensures.after ∙ c.self.view_is)
