@@ -120,6 +120,8 @@ impl<R: Rule> Bank for KindBank<R> {
         Ok(slot)
     }
 
+    // a call of its own: what the banks of all kinds keep together then jumps here without a frame
+    #[inline(never)]
     fn out(&mut self, slot: usize, mask: u64, ins: &[i64], outs: &mut [i64]) -> Fate {
         let row = &self.rows[slot];
         let fate = fill(&self.rule, &row.spec, &row.state, mask, ins, outs);

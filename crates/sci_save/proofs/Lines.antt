@@ -1,22 +1,20 @@
 -- What functions that read lines return.
-use Rattle.std.proofs.Common.{◌≡◌, ℕ, ◌+◌, ◌-◌, ◌<◌, ◌≤◌, ℤ, pos, List, [], ◌∷◌, ◌++◌, length, get_or, Option, Some, None, Result, Ok, Err, refl, sym, ap, ap₂, ◌∙◌, subst, arith, Vec, Bool, true, false, cond, not, ◌&&◌}
-use Rattle.std.specs.Prelude.{IfOk, unsigned_abs, nat_eq, codes, decimal}
+use Rattle.std.proofs.Common.{◌≡◌, ℕ, ◌+◌, ◌-◌, ◌<◌, ◌≤◌, ℤ, List, [], ◌∷◌, ◌++◌, length, get_or, Option, Some, None, Result, Ok, Err, refl, sym, ap, ap₂, ◌∙◌, subst, arith, Vec, Bool, true, false, cond, not, ◌&&◌}
+use Rattle.std.specs.Prelude.{IfOk, nat_eq, codes, decimal}
 use Rattle.std.specs.declared.alloc.Global.{Global}
 use denote.Bor.{Bor}
-use Rattle.sci_base.specs.Lists.{at}
 use Rattle.std.proofs.lemmas.Bool.{and_from}
 use Rattle.sci_net.specs.Parts.{Parts}
 use Rattle.sci_net.specs.Sources.{source_of}
 use Rattle.sci_text.specs.Reading.{◌>>=◌, after}
 use Rattle.sci_save.specs.declared.bounds.Bounds.{Bounds}
 use Rattle.sci_save.specs.declared.stop.LineStop.{LineStop}
-use Rattle.sci_save.specs.Bounds.{from_to, AreWithin}
+use Rattle.sci_save.specs.Bounds.{AreWithin}
 use Rattle.sci_save.specs.Numbers.{numbers_at, start_text, behind_start}
-use Rattle.sci_save.specs.Reading.{Gives, told, line_at, row_at, befores, place_of, is_port, is_free, free_place, event_bounds}
+use Rattle.sci_save.specs.Reading.{Gives, told, line_at, row_at, befores, place_of, is_port, is_free, free_place}
 use Rattle.sci_save.proofs.Numbers.{numbers_take}
 use Rattle.sci_save.proofs.BlockLines.{told_ok}
 use Rattle.sci_save.proofs.Sources.{befores_length, befores_read}
-use Rattle.sci_save.proofs.PendingLines.{three, natural}
 
 -- the same is read
 pub given_same : {X Y : Type 0} (view : X → Y) (r : Result X LineStop) (a b : Result Y ℕ) → a ≡ b → Gives view r a → Gives view r b

@@ -90,17 +90,21 @@ counter_next _ s x mask u e a = tt
 
 -- ---- and sensors stay within their columns
 
-pub record Goes (n : Parts) (i : Columns) (m : Memory) : Type 0 where
+pub record Goes (n : Parts) (m : Memory) : Type 0 where
   pub counters : (b : ℕ) → IsBlock n b → IsCounter (spec_of n b).kind (spec_of n b) (m.state b)
-  pub taken : (b : ℕ) → IsSensor n b → m.cursor b ≤ length (numbered [] i (column_of (spec_of n b)))
   pub others : (b : ℕ) → IsBlock n b → is_sensor (spec_of n b).kind ≡ false → m.cursor b ≡ 0
 
-goes_first : (n : Parts) (i : Columns) → IsNet n → Goes n i (first_memory n)
-goes_first n i net = record {
+abbrev pub Takes : Parts → Columns → Memory → Type 0
+Takes n i m = (b : ℕ) → IsSensor n b → m.cursor b ≤ length (numbered [] i (column_of (spec_of n b)))
+
+goes_first : (n : Parts) → IsNet n → Goes n (first_memory n)
+goes_first n net = record {
   counters = λ b block. counter_first (spec_of n b).kind (spec_of n b) refl (asks (spec_of n b) (net.typed_specs b block));
-  taken = λ b s. omega arith;
   others = λ b block e. refl;
 }
+
+takes_first : (n : Parts) (i : Columns) → Takes n i (first_memory n)
+takes_first n i b s = omega arith
 
 -- a sensor that has a value has one more in its column
 sensed_some : (s : Spec) (x : List ℤ) (mask : ℕ) (o : Option ℤ) (vs : List ℤ) → sensed s x mask o ≡ Ok vs → (v : ℤ) × (o ≡ Some v)
@@ -127,43 +131,58 @@ kept : (t : Bool) (c : ℕ) → t ≡ false → (if t then c + 1 else c) ≡ c
 kept true c e = absurd cc
 kept false c e = refl
 
-module _ (n : Parts) (i : Columns) (net : IsNet n) (m after : Memory) (s : Source) (y : Signals) (whole : IsResult n m i s (Whole y)) (next_is : IsNextMemory n m s y after) (g : Goes n i m) where
-  counter_goes : (b : ℕ) → IsBlock n b → IsUpdated n m s y after b ⊎ Stays n m s y after b → IsCounter (spec_of n b).kind (spec_of n b) (after.state b)
-  counter_goes b block (inl u) =
+module _ (n : Parts) (i : Columns) (net : IsNet n) (m after : Memory) (s : Source) (y : Signals) (whole : IsResult n m i s (Whole y)) (next_is : IsNextMemory n m s y after) where
+  counter_goes : Goes n m → (b : ℕ) → IsBlock n b → IsUpdated n m s y after b ⊎ Stays n m s y after b → IsCounter (spec_of n b).kind (spec_of n b) (after.state b)
+  counter_goes g b block (inl u) =
       subst (IsCounter (spec_of n b).kind (spec_of n b)) (sym u.state)
       (counter_next (spec_of n b).kind (spec_of n b) (m.state b) u.mask (all_inputs (spec_of n b) (input_in n y b)) refl (asks (spec_of n b) (net.typed_specs b block)))
-  counter_goes b block (inr u) = subst (IsCounter (spec_of n b).kind (spec_of n b)) (sym u.state) (g.counters b block)
+  counter_goes g b block (inr u) = subst (IsCounter (spec_of n b).kind (spec_of n b)) (sym u.state) (g.counters b block)
 
-  cursor_goes : (b : ℕ) → IsSensor n b → IsUpdated n m s y after b ⊎ Stays n m s y after b → after.cursor b ≤ length (numbered [] i (column_of (spec_of n b)))
-  cursor_goes b k (inl u) =
+  cursor_goes : Takes n i m → (b : ℕ) → IsSensor n b → IsUpdated n m s y after b ⊎ Stays n m s y after b → after.cursor b ≤ length (numbered [] i (column_of (spec_of n b)))
+  cursor_goes t b k (inl u) =
       let is : after.cursor b ≡ m.cursor b + 1 = u.cursor ∙ stepped (is_sensor (spec_of n b).kind) (m.cursor b) k.sensor in
       ⊎_elim (λ on. let left = column_left n m i b on.mask (input_in n y b) (y b) k.sensor on.answer_is in omega (arith, is, left)) (λ off. absurd (off.idle u.active)) (whole b k.block)
-  cursor_goes b k (inr u) = let old = g.taken b k in omega (arith, u.cursor, old)
+  cursor_goes t b k (inr u) = let old = t b k in omega (arith, u.cursor, old)
 
-  other_goes : (b : ℕ) → IsBlock n b → is_sensor (spec_of n b).kind ≡ false → IsUpdated n m s y after b ⊎ Stays n m s y after b → after.cursor b ≡ 0
-  other_goes b block e (inl u) = u.cursor ∙ kept (is_sensor (spec_of n b).kind) (m.cursor b) e ∙ g.others b block e
-  other_goes b block e (inr u) = u.cursor ∙ g.others b block e
+  other_goes : Goes n m → (b : ℕ) → IsBlock n b → is_sensor (spec_of n b).kind ≡ false → IsUpdated n m s y after b ⊎ Stays n m s y after b → after.cursor b ≡ 0
+  other_goes g b block e (inl u) = u.cursor ∙ kept (is_sensor (spec_of n b).kind) (m.cursor b) e ∙ g.others b block e
+  other_goes g b block e (inr u) = u.cursor ∙ g.others b block e
 
-  goes_next : Goes n i after
-  goes_next = record {
-    counters = λ b block. counter_goes b block (next_is b block);
-    taken = λ b k. cursor_goes b k (next_is b k.block);
-    others = λ b block e. other_goes b block e (next_is b block);
+  goes_next : Goes n m → Goes n after
+  goes_next g = record {
+    counters = λ b block. counter_goes g b block (next_is b block);
+    others = λ b block e. other_goes g b block e (next_is b block);
   }
 
-module _ (n : Parts) (i : Columns) (net : IsNet n) where
-  reacts_goes : (date : ℕ) (s : Source) (st after : State) (seen : List Obs) → Goes n i st.memory → Reacts n i date s st after seen → Goes n i after.memory
-  reacts_goes date s st after seen g h =
-      subst (λ (a : State). Goes n i a.memory) (sym h.leads) (goes_next n i net st.memory h.memory s h.values h.result h.next g)
+  takes_next : Takes n i m → Takes n i after
+  takes_next t b k = cursor_goes t b k (next_is b k.block)
 
-  pub reaches_goes : (until limit : ℕ) (from : State) → Goes n i from.memory → {st : State} → {seen : List Obs} → ReachableFrom n i until limit from st seen → Goes n i st.memory
+module _ (n : Parts) (i : Columns) (net : IsNet n) where
+  reacts_goes : (date : ℕ) (s : Source) (st after : State) (seen : List Obs) → Goes n st.memory → Reacts n i date s st after seen → Goes n after.memory
+  reacts_goes date s st after seen g h =
+      subst (λ (a : State). Goes n a.memory) (sym h.leads) (goes_next n i net st.memory h.memory s h.values h.result h.next g)
+
+  reacts_takes : (date : ℕ) (s : Source) (st after : State) (seen : List Obs) → Takes n i st.memory → Reacts n i date s st after seen → Takes n i after.memory
+  reacts_takes date s st after seen t h =
+      subst (λ (a : State). Takes n i a.memory) (sym h.leads) (takes_next n i net st.memory h.memory s h.values h.result h.next t)
+
+  pub reaches_goes : (until limit : ℕ) (from : State) → Goes n from.memory → {st : State} → {seen : List Obs} → ReachableFrom n i until limit from st seen → Goes n st.memory
   reaches_goes until limit from g here = g
   reaches_goes until limit from g (reacted st after e seen more before fires h) =
       reacts_goes e.date (source_of n e.source) (taken st e) after more (reaches_goes until limit from g before) h
 
-  stands_goes : (until limit : ℕ) (st : State) (seen : List Obs) → Reachable n i until limit st seen → Goes n i st.memory
+  pub reaches_takes : (until limit : ℕ) (from : State) → Takes n i from.memory → {st : State} → {seen : List Obs} → ReachableFrom n i until limit from st seen → Takes n i st.memory
+  reaches_takes until limit from t here = t
+  reaches_takes until limit from t (reacted st after e seen more before fires h) =
+      reacts_takes e.date (source_of n e.source) (taken st e) after more (reaches_takes until limit from t before) h
+
+  stands_goes : (until limit : ℕ) (st : State) (seen : List Obs) → Reachable n i until limit st seen → Goes n st.memory
   stands_goes until limit st seen stands =
-      reaches_goes until limit stands.first (reacts_goes 0 Start (first_state n) stands.first stands.at_start (goes_first n i net) stands.started) stands.reaches
+      reaches_goes until limit stands.first (reacts_goes 0 Start (first_state n) stands.first stands.at_start (goes_first n net) stands.started) stands.reaches
+
+  stands_takes : (until limit : ℕ) (st : State) (seen : List Obs) → Reachable n i until limit st seen → Takes n i st.memory
+  stands_takes until limit st seen stands =
+      reaches_takes until limit stands.first (reacts_takes 0 Start (first_state n) stands.first stands.at_start (takes_first n i) stands.started) stands.reaches
 
 -- ---- lists by block
 
@@ -324,9 +343,9 @@ block_of n k h = record { least = omega arith; most = omega arith }
 spec_there : (n : Parts) (k : ℕ) → spec_of n (1 + k) ≡ get_or n.specs k no_spec
 spec_there n k = let e : 1 + k ≡ suc k = omega arith in ap (spec_of n) e
 
--- where the memory is in range, and so is all else
-pub stands_saved : (n : Parts) (i : Columns) (st : State) → IsMemory n st.memory → Goes n i st.memory → PendingInOrder n st.now st.pending → st.fired ≤ 1000000 → st.now ≤ 2 ^ 62
-    → (m : Saved) × IsSavedOf n st m × IsValid n i m
+-- where the memory is in range, and so is all else; and as the columns do, where the cursors do
+pub stands_saved : (n : Parts) (i : Columns) (st : State) → IsMemory n st.memory → Goes n st.memory → PendingInOrder n st.now st.pending → st.fired ≤ 1000000 → st.now ≤ 2 ^ 62
+    → (m : Saved) × IsSavedOf n st m × (Takes n i st.memory → IsValid n i m)
 stands_saved n i st memory goes order fired now =
     let shaped : IsShaped n (saved_from n st) = record {
       fired = fired;
@@ -350,11 +369,11 @@ stands_saved n i st memory goes order fired now =
         };
         pending = refl;
       },
-      record {
+      λ takes. record {
         shaped = shaped;
         taken = cursors_within i 1 n.specs st.memory.cursor (λ k h t.
             subst (λ (s : Spec). st.memory.cursor (1 + k) ≤ length (numbered [] i (column_of s))) (spec_there n k)
-            (goes.taken (1 + k) (record { block = block_of n k h; sensor = ap (λ (s : Spec). is_sensor s.kind) (spec_there n k) ∙ t })));
+            (takes (1 + k) (record { block = block_of n k h; sensor = ap (λ (s : Spec). is_sensor s.kind) (spec_there n k) ∙ t })));
       },
     )
 
@@ -363,5 +382,6 @@ pub reached_is_saved : (n : Parts) (i : Columns) (until limit : ℕ) (st : State
 reached_is_saved n i until limit st seen net free columns early few stands =
     let fired = fired_within n i until limit st seen stands in
     let now = now_within n i until limit st seen stands in
-    stands_saved n i st (stands_in_range n i net free columns until limit st seen stands) (stands_goes n i net until limit st seen stands) (stands_ahead n net i until limit st seen stands)
-    (omega (arith, fired, few)) (omega (arith, now, early))
+    let saved = stands_saved n i st (stands_in_range n i net free columns until limit st seen stands) (stands_goes n i net until limit st seen stands) (stands_ahead n net i until limit st seen stands)
+    (omega (arith, fired, few)) (omega (arith, now, early)) in
+    (saved.0, saved.1, saved.2 (stands_takes n i net until limit st seen stands))

@@ -22,10 +22,10 @@ use Rattle.sci_run.proofs.Ranges.{reaches_in_range, fires_within}
 use Rattle.sci_save.specs.Saved.{Saved, memory_of}
 use Rattle.sci_save.specs.Bounds.{from_to, AreWithin, AreByBlock, state_bound_of, state_bounds, cursor_bounds}
 use Rattle.sci_save.specs.Text.{cursor_rows}
-use Rattle.sci_save.specs.Valid.{AreCursors, IsNear, AreOnce, ArePending, IsValid}
+use Rattle.sci_save.specs.Valid.{AreCursors, IsNear, AreOnce, ArePending, IsShaped, IsValid}
 use Rattle.sci_save.specs.Resumed.{state_of, IsSavedOf}
 use Rattle.sci_save.proofs.InRange.{block_at, saved_in_range}
-use Rattle.sci_save.proofs.Reached.{IsCounter, Goes, reaches_goes, stands_saved}
+use Rattle.sci_save.proofs.Reached.{IsCounter, Goes, Takes, reaches_goes, reaches_takes, stands_saved}
 
 -- ---- counters and cursors
 
@@ -51,23 +51,27 @@ no_cursor (s ∷ ss) [] k w h t = absurd w
 no_cursor (s ∷ ss) (c ∷ cs) zero w h t = w.0 t
 no_cursor (s ∷ ss) (c ∷ cs) (suc k) w h t = no_cursor ss cs k w.1 (omega (arith, h)) t
 
-module _ (n : Parts) (i : Columns) (m : Saved) (valid : IsValid n i m) where
+module _ (n : Parts) (m : Saved) (shaped : IsShaped n m) where
   counters : (b : ℕ) → IsBlock n b → IsCounter (spec_of n b).kind (spec_of n b) (numbered [] m.states b)
   counters zero block = absurd (let l = block.least in omega arith)
   counters (suc k) block =
       let h : k < length n.specs = let l = block.most in omega arith in
-      counter_saved (spec_of n (suc k)).kind (spec_of n (suc k)) (numbered [] m.states (suc k)) (block_at state_bounds n.specs m.states k valid.shaped.states h)
+      counter_saved (spec_of n (suc k)).kind (spec_of n (suc k)) (numbered [] m.states (suc k)) (block_at state_bounds n.specs m.states k shaped.states h)
 
+  others : (b : ℕ) → IsBlock n b → is_sensor (spec_of n b).kind ≡ false → numbered 0 m.cursors b ≡ 0
+  others zero block t = absurd (let l = block.least in omega arith)
+  others (suc k) block t = let h : k < length n.specs = let l = block.most in omega arith in no_cursor n.specs m.cursors k shaped.cursors h t
+
+  saved_goes : Goes n (memory_of m)
+  saved_goes = record { counters = counters; others = others }
+
+module _ (n : Parts) (i : Columns) (m : Saved) (valid : IsValid n i m) where
   taken : (b : ℕ) → IsBlock n b → is_sensor (spec_of n b).kind ≡ true → numbered 0 m.cursors b ≤ length (numbered [] i (column_of (spec_of n b)))
   taken zero block t = absurd (let l = block.least in omega arith)
   taken (suc k) block t = let h : k < length n.specs = let l = block.most in omega arith in cursor_taken i n.specs m.cursors k valid.taken h t
 
-  others : (b : ℕ) → IsBlock n b → is_sensor (spec_of n b).kind ≡ false → numbered 0 m.cursors b ≡ 0
-  others zero block t = absurd (let l = block.least in omega arith)
-  others (suc k) block t = let h : k < length n.specs = let l = block.most in omega arith in no_cursor n.specs m.cursors k valid.shaped.cursors h t
-
-  saved_goes : Goes n i (memory_of m)
-  saved_goes = record { counters = counters; taken = λ b s. taken b s.block s.sensor; others = others }
+  saved_takes : Takes n i (memory_of m)
+  saved_takes b s = taken b s.block s.sensor
 
 -- ---- what is pending
 
@@ -126,9 +130,10 @@ reaches_few n i until limit early few from f t (reacted st after e seen more bef
 -- ---- what is saved
 
 pub rest_is_saved : (n : Parts) (i : Columns) (until limit : ℕ) (m : Saved) (st : State) (seen : List Obs) → IsNet n → AreLoopFree n → AreColumns n i → until ≤ 2 ^ 62 → limit ≤ 1000000
-    → IsValid n i m → ReachableFrom n i until limit (state_of m) st seen → (o : Saved) × IsSavedOf n st o × IsValid n i o
-rest_is_saved n i until limit m st seen net free columns early few valid stands =
-    let bounds = reaches_few n i until limit early few (state_of m) valid.shaped.fired valid.shaped.now stands in
-    stands_saved n i st (reaches_in_range n i net free columns until limit (state_of m) (saved_in_range n m net valid.shaped) stands)
-    (reaches_goes n i net until limit (state_of m) (saved_goes n i m valid) stands)
-    (reaches_ahead n net i until limit (state_of m) (anew_ahead n m.now m.pending valid.shaped.pending) stands) bounds.0 bounds.1
+    → IsShaped n m → ReachableFrom n i until limit (state_of m) st seen → (o : Saved) × IsSavedOf n st o × (IsValid n i m → IsValid n i o)
+rest_is_saved n i until limit m st seen net free columns early few shaped stands =
+    let bounds = reaches_few n i until limit early few (state_of m) shaped.fired shaped.now stands in
+    let saved = stands_saved n i st (reaches_in_range n i net free columns until limit (state_of m) (saved_in_range n m net shaped) stands)
+    (reaches_goes n i net until limit (state_of m) (saved_goes n m shaped) stands)
+    (reaches_ahead n net i until limit (state_of m) (anew_ahead n m.now m.pending shaped.pending) stands) bounds.0 bounds.1 in
+    (saved.0, saved.1, λ valid. saved.2 (reaches_takes n i net until limit (state_of m) (saved_takes n i m valid) stands))

@@ -33,11 +33,11 @@ ReachedIsSaved =
     (n : Parts) (i : Columns) (until limit : ℕ) (st : State) (seen : List Obs) → IsNet n → AreLoopFree n → AreColumns n i → until ≤ 2 ^ 62 → limit ≤ 1000000
     → Reachable n i until limit st seen → (m : Saved) × IsSavedOf n st m × IsValid n i m
 
--- And so of each state that the run reaches which goes on from what was saved, by whatever bounds.
+-- And so of each state that the run reaches which goes on from what was saved, by whatever bounds; valid where that was.
 abbrev pub RestIsSaved : Type 0
 RestIsSaved =
     (n : Parts) (i : Columns) (until limit : ℕ) (m : Saved) (st : State) (seen : List Obs) → IsNet n → AreLoopFree n → AreColumns n i → until ≤ 2 ^ 62 → limit ≤ 1000000
-    → IsValid n i m → ReachableFrom n i until limit (state_of m) st seen → (o : Saved) × IsSavedOf n st o × IsValid n i o
+    → IsShaped n m → ReachableFrom n i until limit (state_of m) st seen → (o : Saved) × IsSavedOf n st o × (IsValid n i m → IsValid n i o)
 
 -- Where a run goes on behind a reaction, what was observed up to there, and then from what was saved there on, is the whole run.
 abbrev pub ResumedGoesOn : Type 0

@@ -26,10 +26,10 @@ use Rattle.sci_store.specs.Chosen.{active_of_kinds, of_kinds}
 use Rattle.sci_sim.proofs.Choosing.{chosen_among}
 
 -- no block is marked: those of the last row are cleared, and no other was
-pub all_idle : (f : Fixed) (blocks : List ℕ) (s t : Standing) → ((b : ℕ) → Contains blocks b → mark_at t.marks b ≡ idle) → ((b : ℕ) → mark_at s.marks b ≡ idle → mark_at t.marks b ≡ idle)
+pub all_idle : (f : Fixed) (blocks : List ℕ) (s t : Standing) → ((b : ℕ) → Contains blocks b → mark_at t.marks b ≡ idle) → ((b : ℕ) → (Contains blocks b → ⊥) → mark_at t.marks b ≡ mark_at s.marks b)
     → ((b : ℕ) → IsBlock f.net b → (Contains blocks b → ⊥) → mark_at s.marks b ≡ idle) → AreIdle f t
 all_idle f blocks s t cleared others marked b block =
-    ⊎_elim (λ h. cleared b (has-Contains blocks b h)) (λ h. others b (marked b block (λ c. h (Contains-has blocks b c)))) (Has-cases blocks b)
+    ⊎_elim (λ h. cleared b (has-Contains blocks b h)) (λ h. let out : Contains blocks b → ⊥ = λ c. h (Contains-has blocks b c) in others b out ∙ marked b block out) (Has-cases blocks b)
 
 -- what a reaction comes to, by the view
 pub outcome_in : (r v : Running) → v ≡ r → (i : Columns) (source : ℕ) (st : State) (o : ReactionOutcome) → IsOutcome v.fixed.net i v.now (source_of v.fixed.net source) st o

@@ -1,21 +1,18 @@
 -- The reaction of a source, by its row.
-use Rattle.std.proofs.Common.{◌≡◌, ℕ, zero, suc, ◌<◌, ◌+◌, List, [], ◌∷◌, length, map, get_or, pos, refl, sym, ap, subst, ◌∙◌, arith, Contains}
-use Rattle.std.specs.Prelude.{if◌then◌else◌, Option, Some, None}
+use Rattle.std.proofs.Common.{◌≡◌, ℕ, zero, suc, ◌<◌, ◌+◌, List, [], ◌∷◌, length, map, get_or, refl, sym, ap, subst, ◌∙◌, arith, Contains}
+use Rattle.std.specs.Prelude.{if◌then◌else◌}
 use Rattle.std.proofs.lemmas.List.{length-map}
-use Rattle.sci_base.specs.declared.observation.Obs.{Obs}
-use Rattle.sci_base.specs.declared.observation.Obs.TheVariants.{Stop}
-use Rattle.sci_base.specs.declared.observation.StopWord.{StopWord}
 use Rattle.sci_net.specs.declared.Source.{Source}
+use Rattle.sci_net.specs.declared.Source.TheVariants.{Start, Port}
 use Rattle.sci_net.specs.Parts.{Parts}
 use Rattle.sci_net.specs.Sources.{sources_of, source_of}
 use Rattle.sci_reaction.specs.Memory.{Columns}
 use Rattle.sci_reaction.specs.Schedule.{IsRow, blocks_of}
-use Rattle.sci_reaction.proofs.Next.{some_next}
 use Rattle.sci_reaction.proofs.Spreading.{Spread-block, possible}
 use Rattle.sci_run.specs.Counts.{activations_from}
-use Rattle.sci_run.specs.Observed.{header, blocks_seen, values_seen, stop_seen}
+use Rattle.sci_run.specs.Observed.{header}
 use Rattle.sci_run.specs.Programs.{next_pending}
-use Rattle.sci_run.specs.Run.{State, ReactionOutcome, Leads, StopsWith, IsOutcome, after_reaction}
+use Rattle.sci_run.specs.Run.{State, after_reaction}
 use Rattle.sci_bank.specs.Bank.{Meaning}
 use Rattle.sci_bank.specs.Library.{bank_of}
 use Rattle.sci_bank.proofs.LibraryLemmas.{view_of}
@@ -23,14 +20,13 @@ use Rattle.sci_agenda.specs.Firing.{Meaning as Waiting}
 use Rattle.sci_store.specs.Blocks.{AreBlocksByNumber}
 use Rattle.sci_store.specs.Frame.{Fixed, AreSeated}
 use Rattle.sci_store.specs.Store.{Standing, is_kind, active_of}
-use Rattle.sci_store.specs.Passed.{IsValued, IsPassed, IsStepped, AreAlikeCounts}
-use Rattle.sci_store.specs.Written.{AreAmong}
-use Rattle.sci_store.proofs.Reacting.{outcome_here, counts_more, activations_more}
+use Rattle.sci_store.specs.Passed.{IsValued, IsStepped, AreAlikeCounts}
+use Rattle.sci_store.specs.Written.{AreAmong, IsHeader}
+use Rattle.sci_store.proofs.Reacting.{counts_more, activations_more}
 use Rattle.sci_sim.specs.declared.rows.Row.{Row as Kept}
 use Rattle.sci_sim.specs.Rows.{Row, row_of, no_row, row_in, IsRowOf, AreRowsOf}
 use Rattle.sci_sim.specs.Programming.{Keeps}
 use Rattle.sci_sim.specs.At.{Shows}
-use Rattle.sci_sim.specs.Reacting.{seen_in}
 
 -- ---- rows
 
@@ -79,21 +75,9 @@ among_row f source row is i st s t banks mid v b block on =
 
 -- ---- what a reaction comes to
 
--- whatever the pass came to, there is an outcome, which begins with its header
-pub some_outcome : (f : Fixed) (source : Source) (i : Columns) (st : State) (s t : Standing) (banks mid : List Meaning) (date : ℕ) (stop : Option (ℕ × StopWord))
-    → IsPassed f i source st.memory s t banks mid stop
-    → (o : ReactionOutcome) × IsOutcome f.net i date source st o × ((rest : List Obs) × (seen_in o ≡ header date source ∷ rest))
-some_outcome f source i st s t banks mid date None v =
-    let next = some_next f.net st.memory source v.y in (
-      Leads (values_seen f.net date source v.y v.active) (after_reaction f.net date st v.y v.active next.0),
-      outcome_here f source i st s t banks mid v date next.0 next.1,
-      (blocks_seen 1 f.net.specs v.y v.active, refl),
-    )
-some_outcome f source i st s t banks mid date (Some stop) v = (
-  StopsWith (stop_seen date source stop.0 stop.1),
-  record { block = stop.0; word = stop.1; result = v.0; observed = refl },
-  (Stop stop.1 (pos stop.0) (pos 0) ∷ [], refl),
-)
+pub header_is : (date : ℕ) (source : Source) → IsHeader (header date source)
+header_is date Start = tt
+header_is date (Port q) = tt
 
 -- the state behind a reaction with values
 pub shows_after : (f : Fixed) (source : Source) (i : Columns) (st : State) (s t last : Standing) (banks mid after : List Meaning) (old waiting : Waiting)

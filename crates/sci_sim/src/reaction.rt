@@ -20,6 +20,7 @@ ghost use Rattle.sci_places.specs.Flat.{values_at};
 ghost use Rattle.sci_net.specs.Parts.{IsBlock, spec_of, is_sensor};
 ghost use Rattle.sci_kinds.specs.Asks.{IsMask, IsState};
 ghost use Rattle.sci_store.specs.Written.{AreAmong, tallied};
+ghost use Rattle.sci_store.specs.Paged.{paged};
 ghost use Rattle.sci_sim.specs.Rows.{row_of, IsRowOf};
 ghost use Rattle.sci_sim.specs.Roles.{roles_of, roles_among};
 ghost use Rattle.sci_sim.specs.Programming.{Keeps};
@@ -47,8 +48,8 @@ pub struct Firing {
     pub offset: u64,
 }
 
-/// A reaction whose values are known: those of these blocks are written, then the active ones with such roles program their events and step their
-/// states.
+/// A reaction whose values are known: those of these blocks are written behind what waits among the lines, then the active ones with such roles
+/// program their events and step their states.
 fn finish<A: Agenda, S: Sink>(
     frame: &Frame,
     store: &mut Store,
@@ -71,7 +72,7 @@ fn finish<A: Agenda, S: Sink>(
     requires states { (b : ℕ) → IsBlock frame.now.net b → IsState (spec_of frame.now.net b) (state_of frame.now (⟦<Library as Banks>⟧.banks lib.old) b) }
     requires date { date < 2 ^ 63 }
     requires keeps { (offset : ℕ) × (p : Pending) × Keeps frame.now.net offset (date + offset) (A.meaning agenda.old) (A.puts agenda.old) p }
-    ensures written { (s : Source) (y : Signals) (active : Activity) → ShowsValues frame.now s store.old y active → AreAmong frame.now.net active blocks.now → Writes (S.state out.old) (S.state out.new) (text (blocks_seen 1 frame.now.net.specs y active)) result }
+    ensures written { (s : Source) (y : Signals) (active : Activity) → ShowsValues frame.now s store.old y active → AreAmong frame.now.net active blocks.now → Writes (paged (S.state out.old) lines.old) (S.state out.new) (text (blocks_seen 1 frame.now.net.specs y active)) result }
     ensures counted { OnOk result ((s : Source) (y : Signals) (active : Activity) → ShowsValues frame.now s store.old y active → AreAmong frame.now.net active blocks.now → (store.new.lines ≡ (tallied store.old (blocks_seen 1 frame.now.net.specs y active)).lines) × (store.new.sum ≡ (tallied store.old (blocks_seen 1 frame.now.net.specs y active)).sum)) }
     ensures programmed { OnOk result ((s : Source) (y : Signals) (active : Activity) (offset : ℕ) (p : Pending) → ShowsValues frame.now s store.old y active → AreAmong frame.now.net active blocks.now → Keeps frame.now.net offset (date + offset) (A.meaning agenda.old) (A.puts agenda.old) p → Keeps frame.now.net offset (date + offset) (A.meaning agenda.new) (A.puts agenda.new) (next_pending frame.now.net (date + offset) y active p)) }
     ensures stepped { OnOk result ((s : Source) (m : Memory) (y : Signals) (active : Activity) → IsActivity frame.now.net s y active → ShowsValues frame.now s store.old y active → AreAmong frame.now.net active blocks.now → ShowsBefore frame.now store.old (⟦<Library as Banks>⟧.banks lib.old) m → IsMemory frame.now.net m → IsStepped frame.now s m y store.new (⟦<Library as Banks>⟧.banks lib.new)) }
@@ -80,7 +81,7 @@ fn finish<A: Agenda, S: Sink>(
     ensures seated { AreSeated frame.now (⟦<Library as Banks>⟧.banks lib.new) }
     ensures counts { AreAlikeCounts (⟦<Library as Banks>⟧.banks lib.old) (⟦<Library as Banks>⟧.banks lib.new) }
 {
-    store.write_values(frame, blocks, lines, out)?;
+    store.write_values_behind(frame, blocks, lines, out)?;
     program_all(store, frame, &roles.delays, lib, date, agenda);
     store.update_all(frame, &roles.memories, lib, inputs);
     Ok(())
@@ -115,13 +116,15 @@ pub fn react<A: Agenda, S: Sink>(
 {
     frame.well_formed();
     let stop = pass(store, frame, lib, inputs, row);
-    store.observe(&frame.header(firing.source, firing.date), out)?;
+    let header = frame.header(firing.source, firing.date);
     match stop {
         Some((block, word)) => {
+            store.observe(&header, out)?;
             store.observe(&Obs::Stop(word, i64::from(block), 0), out)?;
             Ok(Some(word))
         }
         None => {
+            store.begin(&header, lines);
             finish(
                 frame,
                 store,

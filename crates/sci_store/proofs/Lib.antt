@@ -1,5 +1,6 @@
 pub mod Evaluating
 pub mod Digits
+pub mod Threes
 pub mod Paging
 pub mod LineStarts
 pub mod Writing

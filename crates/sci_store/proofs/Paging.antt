@@ -4,6 +4,7 @@ use Rattle.std.specs.Prelude.{Result, OnOk, OnErr}
 use Rattle.std.specs.Fmt.{decimal, signed_decimal}
 use Rattle.std.proofs.lemmas.List.{append-nil, take-append-drop, take-append-le, length-take-le}
 use Rattle.std.proofs.Math.Seq.{take-append_seam, take-append-add}
+use Rattle.sci_base.specs.declared.observation.Obs.TheVariants.{Event}
 use Rattle.sci_io.specs.Taken.{SinkState, is_some_text, Writes, UnderWay}
 use Rattle.sci_io.proofs.Advance.{begins, next_front, cut_off, finished, stays, due_is, front_is, or-nil, begun-append}
 use Rattle.sci_trace.specs.Lines.{line}
@@ -22,6 +23,26 @@ line_is n v =
     let first = append_assoc (decimal n.block) (codes " " ++ (decimal n.port ++ (codes " " ++ (decimal n.element ++ codes " ")))) tail
     ∙ ap (λ (l : List ℕ). decimal n.block ++ (codes " " ++ l)) second in
     sym (ap (λ (l : List ℕ). codes "val" ++ (codes " " ++ l)) first)
+
+-- ---- the line of an event
+
+spaced_then : (x y z : List ℕ) → (x ++ (codes " " ++ y)) ++ z ≡ x ++ (codes " " ++ (y ++ z))
+spaced_then x y z = append_assoc x (codes " " ++ y) z
+
+pub event_is : (date block port : ℤ) (a b c d e : List ℕ) → a ≡ codes "event" → b ≡ a ++ (codes " " ++ signed_decimal date)
+    → c ≡ b ++ (codes " " ++ signed_decimal block) → d ≡ c ++ (codes " " ++ signed_decimal port) → e ≡ d ++ codes "\n" → e ≡ line (Event date block port)
+unfolding line
+event_is date block port a b c d e word first second third end =
+    let last = signed_decimal port ++ codes "\n" in
+    let middle = signed_decimal block ++ (codes " " ++ last) in
+    end
+    ∙ (ap (λ (l : List ℕ). l ++ codes "\n") third
+    ∙ (spaced_then c (signed_decimal port) (codes "\n")
+    ∙ (ap (λ (l : List ℕ). l ++ (codes " " ++ last)) second
+    ∙ (spaced_then b (signed_decimal block) (codes " " ++ last)
+    ∙ (ap (λ (l : List ℕ). l ++ (codes " " ++ middle)) first
+    ∙ (spaced_then a (signed_decimal date) (codes " " ++ middle)
+    ∙ ap (λ (l : List ℕ). l ++ (codes " " ++ (signed_decimal date ++ (codes " " ++ middle)))) word))))))
 
 -- ---- a piece behind what stands before it
 
@@ -127,10 +148,9 @@ none_kept {old = old} s bytes text r e is h =
     let held : s.held ++ bytes ≡ [] = subst (λ q. OnErr q (s.held ++ bytes ≡ [])) is h.dropped in
     subst (λ (u : SinkState). Writes old u text r) (none_left s bytes (empty_behind s.held bytes held)) h
 
--- from a page without lines to one without lines
-pub as_written : {T E : Type 0} (s t : SinkState) (bytes text : List ℕ) (r : Result T E) → bytes ≡ [] → Writes (paged s []) (paged t bytes) text r → Writes s t text r
-as_written s t bytes text r none h =
-    subst (λ (u : SinkState). Writes u t text r) (none_waits s) (subst (λ (u : SinkState). Writes (paged s []) u text r) (none_left t bytes none) h)
+-- to a page without lines, and from one
+pub none_left_behind : {T E : Type 0} {old : SinkState} (t : SinkState) (bytes text : List ℕ) (r : Result T E) → bytes ≡ [] → Writes old (paged t bytes) text r → Writes old t text r
+none_left_behind {old = old} t bytes text r none h = subst (λ (u : SinkState). Writes old u text r) (none_left t bytes none) h
 
 pub from_none : {T E : Type 0} (s t : SinkState) (text : List ℕ) (r : Result T E) → Writes (paged s []) t text r → Writes s t text r
 from_none s t text r h = subst (λ (u : SinkState). Writes u t text r) (none_waits s) h

@@ -2,6 +2,7 @@ pub mod Marks
 pub mod Tally
 pub mod Blocks
 pub mod Heads
+pub mod Threes
 pub mod Frame
 pub mod Seating
 pub mod Store

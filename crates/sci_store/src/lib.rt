@@ -12,6 +12,7 @@ mod pieces;
 mod seats;
 mod store;
 mod tally;
+mod thousand;
 
 pub use frame::Frame;
 pub use lines::Lines;

@@ -1,12 +1,16 @@
 // Lines of values that wait before a sink.
-ghost use Rattle.std.specs.Prelude.{◌≡◌, ◌≤◌, ◌++◌, [], codes, length, IfOk};
+ghost use Rattle.std.specs.Prelude.{◌≡◌, ◌≤◌, ◌++◌, [], codes, length, take, IfOk};
 ghost use Rattle.std.specs.Fmt.{signed_decimal};
 ghost use Rattle.sci_io.specs.Taken.{Writes};
+ghost use Rattle.sci_trace.specs.Lines.{line};
+ghost use Rattle.sci_base.specs.declared.observation.Obs.TheVariants.{Start, Event};
 ghost use Rattle.sci_store.specs.Paged.{paged};
+ghost use Rattle.sci_store.specs.Written.{IsHeader};
 
 use crate::head::Head;
-use crate::pieces::{byte_at, number_at};
-use sci_base::NoMemory;
+use crate::pieces::byte_at;
+use crate::thousand::Thousand;
+use sci_base::{NoMemory, Obs};
 use sci_io::{Failed, Sink};
 use std::alloc::Global;
 use std::marker::Model;
@@ -17,11 +21,45 @@ const ROOM: usize = 4096;
 /// Up to so many bytes there is room for one line more: a start of 24 bytes, a number of 21 and the end of the line.
 const ONE_MORE: usize = 4050;
 
+/// The line of the start of a run.
+fn start_line(text: &mut [u8]) -> usize
+    requires { 6 ≤ length text.old }
+    ensures text { take result text.new ≡ line Start }
+    ensures end { result ≡ 6 }
+{
+    text[..6].copy_from_slice("start\n".as_bytes());
+    6
+}
+
+/// The word of the line of an event.
+fn event_word(text: &mut [u8]) -> usize
+    requires { 5 ≤ length text.old }
+    ensures text { take result text.new ≡ codes "event" }
+    ensures end { result ≡ 5 }
+{
+    text[..5].copy_from_slice("event".as_bytes());
+    5
+}
+
+/// The line of an event.
+fn event_line(digits: &Thousand, text: &mut [u8], date: i64, block: i64, port: i64) -> usize
+    requires { 72 ≤ length text.old }
+    ensures text { take result text.new ≡ line (Event date block port) }
+    ensures end { result ≤ 72 }
+{
+    let at = event_word(text);
+    let at = digits.spaced_at(text, at, date);
+    let at = digits.spaced_at(text, at, block);
+    let at = digits.spaced_at(text, at, port);
+    byte_at(text, at, b'\n')
+}
+
 /// Lines of values that wait before a sink.
 #[derive(Drop)]
 pub struct Lines {
     text: Vec<u8>,
     len: usize,
+    digits: Thousand,
 }
 
 impl Model for Lines {
@@ -40,7 +78,12 @@ impl Lines {
         ensures { IfOk result (λ l. l ≡ []) }
     {
         let text = vec![in alloc; 0; ROOM]?;
-        Ok(Lines { text, len: 0 })
+        let digits = Thousand::new(alloc)?;
+        Ok(Lines {
+            text,
+            len: 0,
+            digits,
+        })
     }
 
     /// Forgets what waits.
@@ -48,6 +91,24 @@ impl Lines {
         ensures { self.new ≡ [] }
     {
         self.len = 0;
+    }
+
+    /// The line of a start or of an event waits, alone: what waited before is forgotten.
+    pub fn begin(&mut self, o: &Obs)
+        requires { IsHeader o.now }
+        ensures { self.new ≡ line o.now }
+    {
+        self.len = match *o {
+            Obs::Start => start_line(&mut self.text),
+            Obs::Event(date, block, port) => event_line(
+                &self.digits,
+                &mut self.text,
+                date,
+                block,
+                port,
+            ),
+            _ => unreachable!(),
+        };
     }
 
     /// Gives what waits to the sink.
@@ -70,7 +131,7 @@ impl Lines {
         ensures { self.new ≡ self.old ++ (head.now ++ (signed_decimal value ++ codes "\n")) }
     {
         let at = head.put_at(&mut self.text, self.len);
-        let at = number_at(&mut self.text, at, value);
+        let at = self.digits.number_at(&mut self.text, at, value);
         self.len = byte_at(&mut self.text, at, b'\n');
     }
 

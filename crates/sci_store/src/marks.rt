@@ -24,7 +24,7 @@ pub const IDLE: Mark = Mark {
 pub fn clear(marks: &mut [Mark], blocks: &[u32])
     requires { All (λ b. (1 ≤ b) × (b ≤ length marks.old)) blocks.now }
     ensures cleared { (b : ℕ) → Contains blocks.now b → mark_at marks.new b ≡ idle }
-    ensures others { (b : ℕ) → mark_at marks.old b ≡ idle → mark_at marks.new b ≡ idle }
+    ensures others { (b : ℕ) → (Contains blocks.now b → ⊥) → mark_at marks.new b ≡ mark_at marks.old b }
 {
     for block in blocks {
         marks[*block as usize - 1] = IDLE;

@@ -57,18 +57,3 @@ pub fn digits_at(text: &mut [u8], at: usize, n: u64) -> usize
     write_digits(n, text, end);
     end
 }
-
-/// A number with its sign, at most 21 bytes.
-#[inline(always)]
-pub fn number_at(text: &mut [u8], at: usize, n: i64) -> usize
-    requires { at + 21 ≤ length text.old }
-    ensures text { take result text.new ≡ take at text.old ++ signed_decimal n }
-    ensures start { at ≤ result }
-    ensures end { result ≤ at + 21 }
-{
-    if n < 0 {
-        let first = byte_at(text, at, b'-');
-        return digits_at(text, first, n.unsigned_abs());
-    }
-    digits_at(text, at, n.unsigned_abs())
-}

@@ -96,7 +96,7 @@ impl Store {
     ghost use Rattle.sci_store.specs.Frame.{AreSeated};
     ghost use Rattle.sci_store.specs.Store.{Standing, IsStore, AreIdle, cursor_at, state_of, ShowsValues};
     ghost use Rattle.sci_store.specs.Passed.{given, IsEvaluated, IsStepped, IsStateStepped, IsBlockStepped, ShowsBefore, AreAlikeCounts, KeepsValues};
-    ghost use Rattle.sci_store.specs.Written.{AreAmong, IsPlain, tallied};
+    ghost use Rattle.sci_store.specs.Written.{AreAmong, IsPlain, IsHeader, tallied};
     ghost use Rattle.sci_store.specs.Chosen.{active_of_kinds, remembers};
     ghost use Rattle.sci_store.specs.Delays.{delays_in};
     ghost use Rattle.sci_store.specs.Paged.{paged};
@@ -187,6 +187,16 @@ impl Store {
         Ok(())
     }
 
+    /// Begins the lines of a reaction with that of its source, which is counted. What waited among them before is forgotten.
+    pub fn begin(&mut self, header: &Obs, lines: &mut Lines)
+        requires { IsHeader header.now }
+        ensures begun { lines.new ≡ line header.now }
+        ensures counted { self.new ≡ tallied self.old (header.now ∷ []) }
+    {
+        lines.begin(header);
+        self.tally.count();
+    }
+
     /// A value of a block's outputs, the elements of all of them counted from 1.
     pub fn value(&self, frame: &Frame, block: u32, element: u32) -> i64
         requires store { IsStore frame.now self.now }
@@ -219,7 +229,7 @@ impl Store {
         requires store { IsStore frame.now self.old }
         requires blocks { AreBlocksByNumber frame.now.net blocks.now }
         ensures cleared { (b : ℕ) → Contains blocks.now b → mark_at self.new.marks b ≡ idle }
-        ensures others { (b : ℕ) → mark_at self.old.marks b ≡ idle → mark_at self.new.marks b ≡ idle }
+        ensures others { (b : ℕ) → (Contains blocks.now b → ⊥) → mark_at self.new.marks b ≡ mark_at self.old.marks b }
         ensures rest { self.new ≡ record self.old { marks = self.new.marks } }
         ensures store { IsStore frame.now self.new }
     {
@@ -338,7 +348,29 @@ impl Store {
         Ok(())
     }
 
-    /// Writes the values of the active ones of these blocks, by block, port and element. What waited among the lines before is forgotten.
+    /// Writes the values of the active ones of these blocks, by block, port and element, behind what waits among the lines.
+    pub fn write_values_behind<S: Sink>(
+        &mut self,
+        frame: &Frame,
+        blocks: &[u32],
+        lines: &mut Lines,
+        out: &mut S,
+    ) -> Result<(), Failed>
+        requires store { IsStore frame.now self.old }
+        requires blocks { AreBlocksByNumber frame.now.net blocks.now }
+        ensures written { (s : Source) (y : Signals) (active : Activity) → ShowsValues frame.now s self.old y active → AreAmong frame.now.net active blocks.now → Writes (paged (S.state out.old) lines.old) (S.state out.new) (text (blocks_seen 1 frame.now.net.specs y active)) result }
+        ensures counted { OnOk result ((s : Source) (y : Signals) (active : Activity) → ShowsValues frame.now s self.old y active → AreAmong frame.now.net active blocks.now → self.new ≡ tallied self.old (blocks_seen 1 frame.now.net.specs y active)) }
+        ensures same { self.new ≡ record self.old { lines = self.new.lines; sum = self.new.sum } }
+    {
+        for block in blocks {
+            if self.is_active(*block) {
+                self.write_block(frame, *block, lines, out)?;
+            }
+        }
+        lines.give(out)
+    }
+
+    /// The same, with what waited among the lines before forgotten.
     pub fn write_values<S: Sink>(
         &mut self,
         frame: &Frame,
@@ -353,12 +385,7 @@ impl Store {
         ensures same { self.new ≡ record self.old { lines = self.new.lines; sum = self.new.sum } }
     {
         lines.clear();
-        for block in blocks {
-            if self.is_active(*block) {
-                self.write_block(frame, *block, lines, out)?;
-            }
-        }
-        lines.give(out)
+        self.write_values_behind(frame, blocks, lines, out)
     }
 
     /// After how many ticks an activation output of an active block fires next, on the values that go in; -1 where nothing is programmed.
@@ -426,10 +453,10 @@ impl Store {
         ensures { IsBlockStepped frame.now block self.old self.new (⟦<Library as Banks>⟧.banks lib.old) (⟦<Library as Banks>⟧.banks lib.new) }
     {
         frame.well_formed();
-        self.update_state(frame, lib, block);
         let seat = frame.seat(block);
-        if let Kind::Sensor = seat.kind {
-            self.go_on(frame, inputs, block);
+        match seat.kind {
+            Kind::Sensor => self.go_on(frame, inputs, block),
+            _ => self.update_state(frame, lib, block),
         }
     }
 

@@ -71,4 +71,5 @@ pub returns-in-Fires-clause-cleared : goal.returns-in-Fires-clause-cleared
 returns-in-Fires-clause-cleared g c some b block =
     let blocks = c.args.row.now.blocks.items in
     ⊎_elim (λ on. c.clear.ensures.cleared b (subst (λ (bs : List ℕ). Contains bs b) (sym c.deref.ensures.value) (has-Contains blocks b on)))
-    (λ off. c.clear.ensures.others b (c.react.ensures.marked b block (λ h. off (Contains-has blocks b h)))) (Has-cases blocks b)
+    (λ off. c.clear.ensures.others b (λ h. off (Contains-has blocks b (subst (λ (bs : List ℕ). Contains bs b) c.deref.ensures.value h)))
+    ∙ c.react.ensures.marked b block (λ h. off (Contains-has blocks b h))) (Has-cases blocks b)
