@@ -1,0 +1,4 @@
+pub mod Judging
+pub mod Statuses
+pub mod Generated
+pub mod Counted
