@@ -1,5 +1,5 @@
 -- The sum of what the banks have counted is that of all active blocks.
-use Rattle.std.proofs.Common.{◌≡◌, ◌≤◌, ℕ, suc, ◌+◌, ◌*◌, ◌==◌, ◌&&◌, List, [], ◌∷◌, length, drop, get_or, Bool, true, false, if◌then◌else◌, refl, sym, ap, ◌∙◌, arith}
+use Rattle.std.proofs.Common.{◌≡◌, ◌≤◌, ℕ, suc, ◌+◌, ◌*◌, ◌==◌, ◌&&◌, List, [], ◌∷◌, length, drop, get_or, Bool, true, false, if◌then◌else◌, refl, ap, subst, arith}
 use Rattle.std.specs.Prelude.{nat_lt}
 use Rattle.std.specs.List.{sum_by}
 use Rattle.std.proofs.Math.ListN.{drop_of_length-le}
@@ -20,7 +20,9 @@ use Rattle.sci_run.specs.Finish.{Ending, Finish, ended, stopped, stopped_at_star
 use Rattle.sci_run.proofs.Ranges.{fired_within, activations_within}
 use Rattle.sci_bank.specs.Bank.{Meaning, no_bank}
 use Rattle.sci_bank.specs.Library.{place_of, bank_of, IsFull, total_outs}
-use Rattle.sci_command_laws.specs.Counted.{CountsAddUp}
+use Rattle.sci_sim.specs.Steps.{IsFiring, start, event}
+use Rattle.sci_commands.specs.Counts.{CountsStopped}
+use Rattle.sci_command_laws.specs.Counted.{AreStoppedWithin, CountsAddUp, StoppedCountsAddUp}
 
 -- ---- the kinds by number
 
@@ -81,30 +83,74 @@ within p b (s ∷ ss) activations each =
 behind : (i m k x : ℕ) → m ≡ i + 1 → (if nat_lt i k then x else 0) ≡ (if k == m then x else 0) + (if nat_lt (i + 1) k then x else 0)
 behind i m k x e = grind (arith, nat_tests)
 
+-- of two numbers for each block together
+together : (p : Spec → Bool) (b : ℕ) (ss : List Spec) (f g : ℕ → ℕ) → activations_from p b ss (λ c. f c + g c) ≡ activations_from p b ss f + activations_from p b ss g
+together p b [] f g = refl
+together p b (s ∷ ss) f g =
+    let rest = together p (b + 1) ss f g in
+    by_test (p s) rest
+  where
+    by_test : (t : Bool) → activations_from p (b + 1) ss (λ c. f c + g c) ≡ activations_from p (b + 1) ss f + activations_from p (b + 1) ss g
+        → (if t then f b + g b else 0) + activations_from p (b + 1) ss (λ c. f c + g c)
+        ≡ ((if t then f b else 0) + activations_from p (b + 1) ss f) + ((if t then g b else 0) + activations_from p (b + 1) ss g)
+    by_test true rest = omega (arith, rest)
+    by_test false rest = omega (arith, rest)
+
 -- ---- the banks from one on
 
-module _ (n : Parts) (st : State) (banks : List Meaning) (full : IsFull banks) (counts : (k : Kind) → (bank_of banks k).outs ≡ activations_of_kind n st k) where
-  outs_from : (i : ℕ) (ks : List Kind) → are_numbered (i + 1) ks ≡ true → i + length ks ≡ 34
-      → sum_by (λ (b : Meaning). b.outs) (drop i banks) ≡ activations_from (λ s. nat_lt i (number_of s.kind)) 1 n.specs st.activations
-  outs_from i [] numbered all_there =
-      let past : drop i banks ≡ [] = drop_of_length-le banks (omega (arith, full, all_there)) in
-      ap (sum_by (λ (b : Meaning). b.outs)) past
-      ∙ sym (none (λ s. nat_lt i (number_of s.kind)) (λ s. le-ltb i (number_of s.kind) (let most = most_number s.kind in omega (arith, most, all_there))) 1 n.specs st.activations)
-  outs_from i (k ∷ ks) numbered all_there =
+module _ (n : Parts) (acts : ℕ → ℕ) (banks : List Meaning) (full : IsFull banks) where
+  -- those of a kind
+  abbrev of_kind : Kind → ℕ
+  of_kind k = activations_from (λ s. number_of s.kind == number_of k) 1 n.specs acts
+
+  -- those of the kinds behind the first i
+  abbrev behind_first : ℕ → ℕ
+  behind_first i = activations_from (λ s. nat_lt i (number_of s.kind)) 1 n.specs acts
+
+  none_behind : (i : ℕ) → i ≡ 34 → behind_first i ≡ 0
+  none_behind i last = none (λ s. nat_lt i (number_of s.kind)) (λ s. le-ltb i (number_of s.kind) (let most = most_number s.kind in omega (arith, most, last))) 1 n.specs acts
+
+  split : (i : ℕ) (k : Kind) → number_of k ≡ i + 1 → behind_first i ≡ of_kind k + behind_first (i + 1)
+  split i k number =
+      parts (λ s. nat_lt i (number_of s.kind)) (λ s. number_of s.kind == number_of k) (λ s. nat_lt (i + 1) (number_of s.kind)) (λ s x. behind i (number_of k) (number_of s.kind) x number) 1 n.specs acts
+
+  all_kinds_are : behind_first 0 ≡ activations_from (λ s. true) 1 n.specs acts
+  all_kinds_are = all (λ s. nat_lt 0 (number_of s.kind)) (λ s. lt-ltb 0 (number_of s.kind) (let some = some_number s.kind in omega (arith, some))) 1 n.specs acts
+
+  least_from : ((k : Kind) → of_kind k ≤ (bank_of banks k).outs) → (i : ℕ) (ks : List Kind) → are_numbered (i + 1) ks ≡ true → i + length ks ≡ 34
+      → behind_first i ≤ sum_by (λ (b : Meaning). b.outs) (drop i banks)
+  least_from counts i [] numbered all_there = let past = none_behind i (omega (arith, all_there)) in omega (arith, past)
+  least_from counts i (k ∷ ks) numbered all_there =
       let here = and_parts (number_of k == i + 1) (are_numbered (i + 1 + 1) ks) numbered in
       let number : number_of k ≡ i + 1 = eqb-true (number_of k) (i + 1) here.0 in
-      let place : i ≡ place_of k = omega (arith, number) in
-      let one : (get_or banks i no_bank).outs ≡ activations_of_kind n st k = ap (λ (j : ℕ). (get_or banks j no_bank).outs) place ∙ counts k in
-      let rest = outs_from (i + 1) ks here.1 (omega (arith, all_there)) in
+      let place : place_of k ≡ i = omega (arith, number) in
+      let one : of_kind k ≤ (get_or banks i no_bank).outs = subst (λ (j : ℕ). of_kind k ≤ (get_or banks j no_bank).outs) place (counts k) in
+      let rest = least_from counts (i + 1) ks here.1 (omega (arith, all_there)) in
       let both = sum_by-drop_more (λ (b : Meaning). b.outs) banks i no_bank (omega (arith, full, all_there)) in
-      let split =
-      parts (λ s. nat_lt i (number_of s.kind)) (λ s. number_of s.kind == number_of k) (λ s. nat_lt (i + 1) (number_of s.kind)) (λ s x. behind i (number_of k) (number_of s.kind) x number) 1 n.specs st.activations in
-      omega (arith, one, rest, both, split)
+      let parted = split i k number in
+      omega (arith, one, rest, both, parted)
 
-  sum_is : sum_by (λ (b : Meaning). b.outs) banks ≡ all_activations n st
-  sum_is =
-      outs_from 0 all_kinds refl refl
-      ∙ all (λ s. nat_lt 0 (number_of s.kind)) (λ s. lt-ltb 0 (number_of s.kind) (let some = some_number s.kind in omega (arith, some))) 1 n.specs st.activations
+  most_from : ((k : Kind) → (bank_of banks k).outs ≤ of_kind k) → (i : ℕ) (ks : List Kind) → are_numbered (i + 1) ks ≡ true → i + length ks ≡ 34
+      → sum_by (λ (b : Meaning). b.outs) (drop i banks) ≤ behind_first i
+  most_from counts i [] numbered all_there =
+      let past : drop i banks ≡ [] = drop_of_length-le banks (omega (arith, full, all_there)) in
+      let nothing = ap (sum_by (λ (b : Meaning). b.outs)) past in
+      omega (arith, nothing)
+  most_from counts i (k ∷ ks) numbered all_there =
+      let here = and_parts (number_of k == i + 1) (are_numbered (i + 1 + 1) ks) numbered in
+      let number : number_of k ≡ i + 1 = eqb-true (number_of k) (i + 1) here.0 in
+      let place : place_of k ≡ i = omega (arith, number) in
+      let one : (get_or banks i no_bank).outs ≤ of_kind k = subst (λ (j : ℕ). (get_or banks j no_bank).outs ≤ of_kind k) place (counts k) in
+      let rest = most_from counts (i + 1) ks here.1 (omega (arith, all_there)) in
+      let both = sum_by-drop_more (λ (b : Meaning). b.outs) banks i no_bank (omega (arith, full, all_there)) in
+      let parted = split i k number in
+      omega (arith, one, rest, both, parted)
+
+  sum_least : ((k : Kind) → of_kind k ≤ (bank_of banks k).outs) → activations_from (λ s. true) 1 n.specs acts ≤ sum_by (λ (b : Meaning). b.outs) banks
+  sum_least counts = let least = least_from counts 0 all_kinds refl refl in omega (arith, least, all_kinds_are)
+
+  sum_most : ((k : Kind) → (bank_of banks k).outs ≤ of_kind k) → sum_by (λ (b : Meaning). b.outs) banks ≤ activations_from (λ s. true) 1 n.specs acts
+  sum_most counts = let most = most_from counts 0 all_kinds refl refl in omega (arith, most, all_kinds_are)
 
 -- ---- of a run that is over
 
@@ -130,9 +176,28 @@ module _ (n : Parts) (i : Columns) (until limit : ℕ) (net : IsNet n) (small : 
   total_is : (banks : List Meaning) {st : State} {how : Ending} {os : List Obs} → IsFull banks → Finish n i until limit st how os
       → ((k : Kind) → (bank_of banks k).outs ≡ activations_of_kind n st k) → total_outs banks ≡ all_activations n st
   total_is banks {st} full over counts =
-      let sum = sum_is n st banks full counts in
+      let least = sum_least n st.activations banks full (λ k. let count = counts k in omega (arith, count)) in
+      let most = sum_most n st.activations banks full (λ k. let count = counts k in omega (arith, count)) in
       let few = few_behind over in
-      omega (arith, sum, few)
+      omega (arith, least, most, few)
+
+  few_from : {seen : List Obs} {date source : ℕ} {from : State} → IsFiring n i until limit seen date source from → all_activations n from ≤ 18446744073709551615
+  few_from start = few_where (first_state n) (λ b. omega arith)
+  few_from (event st e seen reachable next) = few_at st seen reachable
+
+  total_within : (banks : List Meaning) → IsFull banks → (h : CountsStopped n i until limit banks) → AreStoppedWithin n h.source h.from banks
+  total_within banks full h = record {
+    least = let least = sum_least n h.from.activations banks full h.least in let few = few_from h.fires in omega (arith, least, few);
+    most = λ possible may.
+        let one : ℕ → ℕ = λ b. if possible b then 1 else 0 in
+        let both = λ (k : Kind). together (λ s. number_of s.kind == number_of k) 1 n.specs h.from.activations one in
+        let sum = sum_most n (λ b. h.from.activations b + one b) banks full (λ k. let count = h.most possible may k in let parted = both k in omega (arith, count, parted)) in
+        let parted = together (λ s. true) 1 n.specs h.from.activations one in
+        omega (arith, sum, parted);
+  }
+
+pub stopped_counts_add_up : StoppedCountsAddUp
+stopped_counts_add_up n i until limit banks net small full h = total_within n i until limit net small banks full h
 
 pub counts_add_up : CountsAddUp
 counts_add_up n i until limit banks net small full h = total_is n i until limit net small banks full h.over h.counts

@@ -4,7 +4,7 @@
 ghost use Rattle.sci_command_laws.specs.Judging.{JudgeSaysYes, JudgeSaysYesOfNothingElse};
 ghost use Rattle.sci_command_laws.specs.Statuses.{EachHasItsStatuses, EightIsOfJudge, SevenIsOfCrun, SixIsOfRuns};
 ghost use Rattle.sci_command_laws.specs.Generated.{CodeIsNeverUndefined};
-ghost use Rattle.sci_command_laws.specs.Counted.{CountsAddUp};
+ghost use Rattle.sci_command_laws.specs.Counted.{CountsAddUp, StoppedCountsAddUp};
 
 /// Where `simulate` on a diagram and an input file is due to run, `judge`, with the same files and bounds, is due to say yes, with the number of
 /// observations, of a file with the bytes that are due of `simulate`, if these are no more than such a file may have; and yes is due of no others.
@@ -28,7 +28,9 @@ pub fn generated_code_is_never_undefined()
     ensures { CodeIsNeverUndefined }
 {}
 
-/// Where the run of a net has ended, the sum of what the banks of all kinds have counted is how many blocks were active, over all its reactions.
+/// Where the run of a net has ended, the sum of what the banks of all kinds have counted is how many blocks were active, over all its reactions. Where
+/// a reaction stopped it, that is at least how many were active before, and at most one more for each block that its source may activate.
 pub fn counts_add_up()
-    ensures { CountsAddUp }
+    ensures ended { CountsAddUp }
+    ensures stopped { StoppedCountsAddUp }
 {}
