@@ -120,7 +120,7 @@ impl<R: Rule> Bank for KindBank<R> {
         Ok(slot)
     }
 
-    // a call of its own: what the banks of all kinds keep together then jumps here without a frame
+    // not inlined: the match over all kinds that calls it then needs no stack frame of its own
     #[inline(never)]
     fn out(&mut self, slot: usize, mask: u64, ins: &[i64], outs: &mut [i64]) -> Fate {
         let row = &self.rows[slot];

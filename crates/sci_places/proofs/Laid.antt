@@ -60,7 +60,7 @@ ins_small n b net block =
         let same : elements (output_of n w.block w.port) ≡ elements (port_at (spec_of n b).ins k) = ap elements (net.joined b (suc k) i) in
         omega (arith, fits, same, net.small)
 
-pub spans_small : (n : Parts) (b : ℕ) (p : Kept) → IsNet n → IsBlock n b → place_of p ≡ laid_down n b → spans_length p.ins.items < 2 ^ 63
+pub spans_small : (n : Parts) (b : ℕ) (p : Kept) → IsNet n → IsBlock n b → place_of p ≡ laid_down n b → spans_length p.ins < 2 ^ 63
 spans_small n b p net block e =
     let ins = ap (λ (q : BlockPlace). spans_length q.ins) e in
     let long = inputs_law.long n b net block in

@@ -13,7 +13,7 @@ pub record BlockPlace : Type 0 where
   pub ins : List Span
 
 abbrev pub place_of : Kept → BlockPlace
-place_of p = record { outs = p.outs; ins = p.ins.items }
+place_of p = record { outs = p.outs; ins = p.ins }
 
 abbrev pub no_span : Span
 no_span = record { start = 0; len = 0 }

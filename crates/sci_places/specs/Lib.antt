@@ -1,3 +1,4 @@
 pub mod Flat
 pub mod Layout
+pub mod Singles
 pub mod Laws

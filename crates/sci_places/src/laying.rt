@@ -5,6 +5,7 @@ ghost use Rattle.sci_net.specs.Parts.{IsBlock, IsOutput, spec_of};
 ghost use Rattle.sci_places.specs.Layout.{AreStarts, place_of, laid_down, output_span, spans_length};
 
 use crate::Span;
+use crate::block_inputs::Inputs;
 use sci_base::NoMemory;
 use sci_forms::Ports;
 use sci_net::{Net, Wire};
@@ -14,7 +15,7 @@ use std::alloc::Global;
 #[derive(Drop)]
 pub struct BlockPlace {
     pub outs: Span,
-    pub ins: Vec<Span>,
+    pub ins: Inputs,
 }
 
 /// How many elements the first `k` of some ports have.
@@ -97,7 +98,7 @@ pub fn block_place(
             start: starts[block as usize - 1],
             len: outs_length(net, block),
         },
-        ins,
+        ins: Inputs::of(alloc, ins)?,
     })
 }
 

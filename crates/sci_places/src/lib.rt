@@ -3,6 +3,7 @@
 
 ghost use Rattle.sci_places.specs.Laws.{InputsAreGathered, OutputsAreWritten};
 
+mod block_inputs;
 mod laying;
 mod places;
 mod span;

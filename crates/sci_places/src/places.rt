@@ -3,7 +3,6 @@ ghost use Rattle.std.specs.Prelude.{◌≡◌, ◌≤◌, take, length, IfOk};
 
 use crate::Span;
 use crate::laying::{BlockPlace, block_place, spans_length, starts};
-use crate::span::copy_spans;
 use sci_base::NoMemory;
 use sci_net::Net;
 use std::alloc::Global;
@@ -38,7 +37,7 @@ impl Places {
         let mut longest = 1;
         for block in 0..net.len() {
             let place = block_place(alloc, net, &starts, block + 1)?;
-            longest = longest.max(spans_length(&place.ins));
+            longest = longest.max(spans_length(place.ins.spans()));
             blocks.push(place)?;
         }
         Ok(Places { blocks, longest })
@@ -66,7 +65,7 @@ impl Places {
         requires most { block ≤ length self.now.blocks }
         ensures { result.now ≡ (place_at self.now block).ins }
     {
-        &self.blocks[block as usize - 1].ins
+        self.blocks[block as usize - 1].ins.spans()
     }
 
     /// Copies the values on all inputs of a block, one behind the other. The answer is how many they are.
@@ -78,6 +77,6 @@ impl Places {
         ensures count { result ≡ spans_length (place_at self.now block).ins }
         ensures copied { take result ins.new ≡ gathered values.now (place_at self.now block).ins }
     {
-        copy_spans(values, &self.blocks[block as usize - 1].ins, ins)
+        self.blocks[block as usize - 1].ins.gather(values, ins)
     }
 }

@@ -1,11 +1,20 @@
 -- Which blocks of a row do something behind the pass.
-use Rattle.std.specs.Prelude.{◌≡◌, ℕ, List, [], map, slice_index_or}
+use Rattle.std.specs.Prelude.{◌≡◌, ℕ, Bool, List, [], map, slice_index_or}
+use Rattle.sci_forms.specs.declared.Kind.{Kind}
 use Rattle.sci_forms.specs.Forms.{has_delay}
 use Rattle.sci_net.specs.Parts.{Parts}
 use Rattle.sci_run.specs.Activity.{is_halt}
 use Rattle.sci_store.specs.Chosen.{of_kinds, remembers}
 use Rattle.sci_sim.specs.Rows.{Row}
+use Rattle.sci_sim.specs.declared.roles.Role.{Role}
+use Rattle.sci_sim.specs.declared.roles.Role.TheVariants.{Programs, Remembers, Halts}
 use Rattle.sci_sim.specs.declared.roles.Roles.{Roles as Kept}
+
+-- the kinds of block that do so behind the pass
+abbrev pub kinds_with : Role → Kind → Bool
+kinds_with Programs = has_delay
+kinds_with Remembers = remembers
+kinds_with Halts = is_halt
 
 -- the blocks with delays, those that remember more than their outputs, and those that end the run
 pub record Roles : Type 0 where

@@ -1,11 +1,9 @@
 // Which blocks of a row do something behind the pass.
 ghost use Rattle.std.specs.Prelude.{◌≡◌, ℕ, ◌<◌, length, map, IfOk};
-ghost use Rattle.sci_forms.specs.Forms.{has_delay};
-ghost use Rattle.sci_run.specs.Activity.{is_halt};
 ghost use Rattle.sci_store.specs.Blocks.{AreBlocksByNumber};
-ghost use Rattle.sci_store.specs.Chosen.{of_kinds, remembers};
+ghost use Rattle.sci_store.specs.Chosen.{of_kinds};
 ghost use Rattle.sci_sim.specs.Rows.{row_of, row_in};
-ghost use Rattle.sci_sim.specs.Roles.{roles_of, roles_among};
+ghost use Rattle.sci_sim.specs.Roles.{kinds_with, roles_of, roles_among};
 
 use crate::rows::Row;
 use sci_base::NoMemory;
@@ -24,62 +22,41 @@ pub struct Roles {
     pub halts: Vec<u32>,
 }
 
-/// The blocks with delays, among some.
-fn with_delays(alloc: Global, net: &Net, blocks: &[u32]) -> Result<Vec<u32>, NoMemory>
-    requires { AreBlocksByNumber net.now blocks.now }
-    ensures { IfOk result (λ v. v.items ≡ of_kinds net.now has_delay blocks.now) }
-{
-    let mut some = Vec::new(alloc);
-    for block in blocks {
-        if net.spec(*block).kind.has_delay() {
-            some.push(*block)?;
+/// What a block may do behind the pass.
+#[derive(Clone, Copy, Debug, Drop, PartialEq, Eq)]
+enum Role {
+    Programs,
+    Remembers,
+    Halts,
+}
+
+impl Role {
+    /// Whether the blocks of a kind do so.
+    fn is_of(self, kind: Kind) -> bool
+        ensures { result ≡ kinds_with self kind }
+    {
+        match self {
+            Role::Programs => kind.has_delay(),
+            Role::Remembers => match kind {
+                Kind::Sensor => true,
+                _ => kind.has_state(),
+            },
+            Role::Halts => match kind {
+                Kind::Halt => true,
+                _ => false,
+            },
         }
     }
-    Ok(some)
 }
 
-/// Whether a block of the kind remembers more than its outputs.
-fn remembers(kind: Kind) -> bool
-    ensures { result ≡ remembers kind }
-{
-    match kind {
-        Kind::Sensor => true,
-        _ => kind.has_state(),
-    }
-}
-
-/// The blocks that remember more than their outputs, among some.
-fn with_memories(alloc: Global, net: &Net, blocks: &[u32]) -> Result<Vec<u32>, NoMemory>
+/// The blocks of some that have a role.
+fn with_role(alloc: Global, net: &Net, blocks: &[u32], role: Role) -> Result<Vec<u32>, NoMemory>
     requires { AreBlocksByNumber net.now blocks.now }
-    ensures { IfOk result (λ v. v.items ≡ of_kinds net.now remembers blocks.now) }
+    ensures { IfOk result (λ v. v.items ≡ of_kinds net.now (kinds_with role) blocks.now) }
 {
     let mut some = Vec::new(alloc);
     for block in blocks {
-        if remembers(net.spec(*block).kind) {
-            some.push(*block)?;
-        }
-    }
-    Ok(some)
-}
-
-/// Whether a block of the kind ends the run.
-fn is_halt(kind: Kind) -> bool
-    ensures { result ≡ is_halt kind }
-{
-    match kind {
-        Kind::Halt => true,
-        _ => false,
-    }
-}
-
-/// The blocks that end the run, among some.
-fn with_halts(alloc: Global, net: &Net, blocks: &[u32]) -> Result<Vec<u32>, NoMemory>
-    requires { AreBlocksByNumber net.now blocks.now }
-    ensures { IfOk result (λ v. v.items ≡ of_kinds net.now is_halt blocks.now) }
-{
-    let mut some = Vec::new(alloc);
-    for block in blocks {
-        if is_halt(net.spec(*block).kind) {
+        if role.is_of(net.spec(*block).kind) {
             some.push(*block)?;
         }
     }
@@ -91,9 +68,9 @@ fn some_roles(alloc: Global, net: &Net, blocks: &[u32]) -> Result<Roles, NoMemor
     requires { AreBlocksByNumber net.now blocks.now }
     ensures { IfOk result (λ r. roles_of r ≡ roles_among net.now blocks.now) }
 {
-    let delays = with_delays(alloc, net, blocks)?;
-    let memories = with_memories(alloc, net, blocks)?;
-    let halts = with_halts(alloc, net, blocks)?;
+    let delays = with_role(alloc, net, blocks, Role::Programs)?;
+    let memories = with_role(alloc, net, blocks, Role::Remembers)?;
+    let halts = with_role(alloc, net, blocks, Role::Halts)?;
     Ok(Roles {
         delays,
         memories,

@@ -39,3 +39,14 @@ three_pieces n before first second whole low high front middle last =
     let top : n / 1000000 ≡ n / 1000 / 1000 = omega arith in
     two_pieces n before second whole (omega (arith, low)) high
     (two_pieces (n / 1000) before first second (omega (arith, low)) (omega (arith, high)) (front ∙ ap (λ (k : ℕ). before ++ decimal k) top) middle) last
+
+-- and three times
+pub four_pieces : (n : ℕ) (before first second third whole : List ℕ) → 1000000000 ≤ n → n < 2 ^ 64 → first ≡ before ++ decimal (n / 1000000000)
+    → second ≡ first ++ three_digits (n / 1000000 % 1000) → third ≡ second ++ three_digits (n / 1000 % 1000) → whole ≡ third ++ three_digits (n % 1000)
+    → whole ≡ before ++ decimal n
+four_pieces n before first second third whole low high front next middle last =
+    let top : n / 1000000000 ≡ n / 1000 / 1000000 = omega arith in
+    let upper : n / 1000000 % 1000 ≡ n / 1000 / 1000 % 1000 = omega arith in
+    two_pieces n before third whole (omega (arith, low)) high
+    (three_pieces (n / 1000) before first second third (omega (arith, low)) (omega (arith, high)) (front ∙ ap (λ (k : ℕ). before ++ decimal k) top)
+    (next ∙ ap (λ (k : ℕ). first ++ three_digits k) upper) middle) last

@@ -3,7 +3,7 @@ ghost use Rattle.std.specs.Prelude.{◌≡◌, ◌+◌, ◌<◌, ◌≤◌, ◌+
 ghost use Rattle.std.specs.Fmt.{decimal};
 ghost use Rattle.sci_store.specs.Heads.{start_text};
 
-use crate::pieces::{byte_at, digits_at};
+use crate::pieces::{array_at, byte_at, digits_at};
 use std::marker::Model;
 
 /// The room for the start of a line: a word, a block of at most four digits, a port of at most two and an element of at most five, each
@@ -72,7 +72,7 @@ impl Head {
         ensures start { at ≤ result }
         ensures end { result ≤ at + 24 }
     {
-        text[at..at + ROOM].copy_from_slice(&self.text);
+        array_at(text, at, &self.text);
         at + self.len
     }
 }

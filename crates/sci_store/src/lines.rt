@@ -1,5 +1,5 @@
-// Lines of values that wait before a sink.
-ghost use Rattle.std.specs.Prelude.{◌≡◌, ◌≤◌, ◌++◌, [], codes, length, take, IfOk};
+// Lines of a reaction that wait before a sink: that of its start or event, and those of its values.
+ghost use Rattle.std.specs.Prelude.{◌≡◌, ◌≤◌, ◌++◌, [], codes, length, take, IfOk, OnErr};
 ghost use Rattle.std.specs.Fmt.{signed_decimal};
 ghost use Rattle.sci_io.specs.Taken.{Writes};
 ghost use Rattle.sci_trace.specs.Lines.{line};
@@ -18,7 +18,7 @@ use std::marker::Model;
 /// How many bytes there is room for.
 const ROOM: usize = 4096;
 
-/// Up to so many bytes there is room for one line more: a start of 24 bytes, a number of 21 and the end of the line.
+/// Up to so many bytes there is room for the line of one value more: its head of 24 bytes, a number of 21 and the end of the line.
 const ONE_MORE: usize = 4050;
 
 /// The line of the start of a run.
@@ -54,7 +54,7 @@ fn event_line(digits: &Thousand, text: &mut [u8], date: i64, block: i64, port: i
     byte_at(text, at, b'\n')
 }
 
-/// Lines of values that wait before a sink.
+/// Lines of a reaction that wait before a sink: that of its start or event, and those of its values.
 #[derive(Drop)]
 pub struct Lines {
     text: Vec<u8>,
@@ -138,7 +138,8 @@ impl Lines {
     /// Writes the line of a value behind its start; where there is no room for it, what waits is given to the sink first.
     #[inline(always)]
     pub fn put<S: Sink>(&mut self, head: &Head, value: i64, out: &mut S) -> Result<(), Failed>
-        ensures { Writes (paged (S.state out.old) self.old) (paged (S.state out.new) self.new) (head.now ++ (signed_decimal value ++ codes "\n")) result }
+        ensures written { Writes (paged (S.state out.old) self.old) (paged (S.state out.new) self.new) (head.now ++ (signed_decimal value ++ codes "\n")) result }
+        ensures emptied { OnErr result (self.new ≡ []) }
     {
         if self.len > ONE_MORE {
             self.give(out)?;

@@ -1,5 +1,5 @@
 // Pieces of a line, each put behind what stands before it. Each call tells where its piece ends.
-ghost use Rattle.std.specs.Prelude.{◌≡◌, ◌+◌, ◌<◌, ◌≤◌, ◌++◌, ◌∷◌, [], codes, length, take};
+ghost use Rattle.std.specs.Prelude.{◌≡◌, ◌+◌, ◌<◌, ◌≤◌, ◌++◌, ◌∷◌, [], codes, length, take, drop};
 ghost use Rattle.std.specs.Fmt.{decimal, signed_decimal};
 
 use itoa::write_digits;
@@ -44,6 +44,27 @@ pub fn byte_at(text: &mut [u8], at: usize, byte: u8) -> usize
 {
     text[at] = byte;
     at + 1
+}
+
+/// Fills a text with an array, in one piece.
+#[inline(always)]
+fn fill_with<const N: usize>(text: &mut [u8], bytes: &[u8; N])
+    requires { length text.old ≡ N }
+    ensures { text.new ≡ bytes.now }
+{
+    let Some(room) = text.as_mut_array() else {
+        unreachable!()
+    };
+    *room = *bytes;
+}
+
+/// An array.
+#[inline(always)]
+pub fn array_at<const N: usize>(text: &mut [u8], at: usize, bytes: &[u8; N])
+    requires { at + N ≤ length text.old }
+    ensures { text.new ≡ take at text.old ++ (bytes.now ++ drop (at + N) text.old) }
+{
+    fill_with(&mut text[at..at + N], bytes);
 }
 
 /// The digits of a number.

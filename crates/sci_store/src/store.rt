@@ -143,13 +143,6 @@ impl Store {
         })
     }
 
-    /// How many values there are.
-    pub fn len(&self) -> usize
-        ensures { result ≡ length self.now.values }
-    {
-        self.values.len()
-    }
-
     /// The values that a block's outputs hold, by port and element.
     pub fn held(&self, frame: &Frame, block: u32) -> &[i64]
         requires store { IsStore frame.now self.now }
@@ -236,7 +229,8 @@ impl Store {
         clear(&mut self.marks, blocks);
     }
 
-    // The next value of a sensor's column, where it has one.
+    // The next value of a sensor's column, where it has one. It is a call of its own, since few blocks are sensors.
+    #[inline(never)]
     fn sense(&self, frame: &Frame, inputs: &Inputs, block: u32) -> Option<i64>
         requires store { IsStore frame.now self.now }
         requires block { IsBlock frame.now.net block }
@@ -314,11 +308,10 @@ impl Store {
             Fate::Done => {}
         }
         let branch = take_branch(frame, lib, block, ins);
-        self.marks[block as usize - 1] = Mark {
-            active: true,
-            branch,
-            mask,
-        };
+        let mark = &mut self.marks[block as usize - 1];
+        mark.active = true;
+        mark.branch = branch;
+        mark.mask = mask;
         None
     }
 
@@ -336,6 +329,7 @@ impl Store {
         ensures written { Writes (paged (S.state out.old) lines.old) (paged (S.state out.new) lines.new) (text (outputs_seen block 1 (spec_of frame.now.net block).outs (values_at frame.now.net self.old.values block))) result }
         ensures counted { OnOk result (self.new ≡ tallied self.old (outputs_seen block 1 (spec_of frame.now.net block).outs (values_at frame.now.net self.old.values block))) }
         ensures same { self.new ≡ record self.old { lines = self.new.lines; sum = self.new.sum } }
+        ensures emptied { OnErr result (lines.new ≡ []) }
     {
         frame.well_formed();
         let place = place(frame, block);
@@ -361,6 +355,7 @@ impl Store {
         ensures written { (s : Source) (y : Signals) (active : Activity) → ShowsValues frame.now s self.old y active → AreAmong frame.now.net active blocks.now → Writes (paged (S.state out.old) lines.old) (S.state out.new) (text (blocks_seen 1 frame.now.net.specs y active)) result }
         ensures counted { OnOk result ((s : Source) (y : Signals) (active : Activity) → ShowsValues frame.now s self.old y active → AreAmong frame.now.net active blocks.now → self.new ≡ tallied self.old (blocks_seen 1 frame.now.net.specs y active)) }
         ensures same { self.new ≡ record self.old { lines = self.new.lines; sum = self.new.sum } }
+        ensures empty { lines.new ≡ [] }
     {
         for block in blocks {
             if self.is_active(*block) {
@@ -383,6 +378,7 @@ impl Store {
         ensures written { (s : Source) (y : Signals) (active : Activity) → ShowsValues frame.now s self.old y active → AreAmong frame.now.net active blocks.now → Writes (S.state out.old) (S.state out.new) (text (blocks_seen 1 frame.now.net.specs y active)) result }
         ensures counted { OnOk result ((s : Source) (y : Signals) (active : Activity) → ShowsValues frame.now s self.old y active → AreAmong frame.now.net active blocks.now → self.new ≡ tallied self.old (blocks_seen 1 frame.now.net.specs y active)) }
         ensures same { self.new ≡ record self.old { lines = self.new.lines; sum = self.new.sum } }
+        ensures empty { lines.new ≡ [] }
     {
         lines.clear();
         self.write_values_behind(frame, blocks, lines, out)

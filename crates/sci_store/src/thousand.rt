@@ -3,7 +3,7 @@ ghost use Rattle.std.specs.Prelude.{◌≡◌, ◌+◌, ◌<◌, ◌≤◌, ◌+
 ghost use Rattle.std.specs.Fmt.{decimal, signed_decimal};
 ghost use Rattle.sci_store.specs.Threes.{spelled};
 
-use crate::pieces::{byte_at, digits_at};
+use crate::pieces::{array_at, byte_at, digits_at};
 use sci_base::NoMemory;
 use std::alloc::Global;
 use std::marker::Model;
@@ -15,7 +15,10 @@ const THOUSAND: u64 = 1000;
 const MILLION: u64 = 1_000_000;
 
 /// How many have at most nine.
-const MILLIARD: u64 = 1_000_000_000;
+const BILLION: u64 = 1_000_000_000;
+
+/// How many have at most twelve.
+const TRILLION: u64 = 1_000_000_000_000;
 
 /// A number below 1,000 in digits.
 #[derive(Drop)]
@@ -23,7 +26,7 @@ struct ThreeDigits {
     // its digits, and then anything
     short: [u8; 4],
     len: u8,
-    // three digits with zeros in front, and then anything
+    // three digits with zeros in front, and a fourth byte, so that both are copied as four bytes at once
     whole: [u8; 4],
 }
 
@@ -67,7 +70,7 @@ impl ThreeDigits {
         ensures start { at ≤ result }
         ensures end { result ≤ at + 4 }
     {
-        text[at..at + 4].copy_from_slice(&self.short);
+        array_at(text, at, &self.short);
         at + self.len as usize
     }
 
@@ -78,7 +81,7 @@ impl ThreeDigits {
         ensures text { take result text.new ≡ take at text.old ++ self.now.whole }
         ensures end { result ≡ at + 3 }
     {
-        text[at..at + 4].copy_from_slice(&self.whole);
+        array_at(text, at, &self.whole);
         at + 3
     }
 }
@@ -139,10 +142,16 @@ impl Thousand {
             let second = self.number(n / THOUSAND).short_at(text, at);
             return self.number(n % THOUSAND).whole_at(text, second);
         }
-        if n < MILLIARD {
+        if n < BILLION {
             let second = self.number(n / MILLION).short_at(text, at);
             let third = self.number(n / THOUSAND % THOUSAND).whole_at(text, second);
             return self.number(n % THOUSAND).whole_at(text, third);
+        }
+        if n < TRILLION {
+            let second = self.number(n / BILLION).short_at(text, at);
+            let third = self.number(n / MILLION % THOUSAND).whole_at(text, second);
+            let fourth = self.number(n / THOUSAND % THOUSAND).whole_at(text, third);
+            return self.number(n % THOUSAND).whole_at(text, fourth);
         }
         digits_at(text, at, n)
     }
@@ -155,11 +164,10 @@ impl Thousand {
         ensures start { at ≤ result }
         ensures end { result ≤ at + 21 }
     {
-        if n < 0 {
-            let first = byte_at(text, at, b'-');
-            return self.digits_at(text, first, n.unsigned_abs());
-        }
-        self.digits_at(text, at, n.unsigned_abs())
+        // the sign is put in any case, and stays where there is one: which numbers have one can't be foreseen
+        let behind = byte_at(text, at, b'-');
+        let first = if n < 0 { behind } else { at };
+        self.digits_at(text, first, n.unsigned_abs())
     }
 
     /// Puts a space, and a number behind it: at most 22 bytes.

@@ -5,7 +5,7 @@ use Rattle.sci_places.proofs.places.Places.ins.Goals as goal
 
 pub returns : goal.returns
 returns c =
-    c.deref.ensures.value
+    c.spans.ensures
     ∙ sym (ap (λ (p : BlockPlace). p.ins)
     (place_kept c.self.inside.blocks.items c.args.self.now c.args.block c.index.result.now (ap (λ (l : Layout). l.blocks) c.self.view_is)
     c.requires.least c.requires.most c.index.ensures))

@@ -10,7 +10,7 @@ pub spans_length-requires : goal.spans_length-requires
 spans_length-requires c =
     let b = c.loop-block.block + 1 in
     let block : IsBlock c.args.net.now b = record { least = omega arith; most = omega (arith, c.loop-block-test.true, c.len-block-end.ensures) } in
-    subst (λ (ss : List Span). spans_length ss < 2 ^ 63) (sym c.deref-in-loop-block.ensures.value)
+    subst (λ (ss : List Span). spans_length ss < 2 ^ 63) (sym c.spans.ensures)
     (spans_small c.args.net.now b c.in_ok-place.place c.well_formed-2.ensures block c.in_ok-place.ensures)
 
 pub loop-block-preserved : goal.loop-block-preserved
@@ -18,7 +18,7 @@ loop-block-preserved c =
     let n = c.args.net.now in
     let b = c.loop-block.block + 1 in
     let block : IsBlock n b = record { least = omega arith; most = omega (arith, c.loop-block-test.true, c.len-block-end.ensures) } in
-    let long = c.spans_length.ensures ∙ (ap spans_length c.deref-in-loop-block.ensures.value
+    let long = c.spans_length.ensures ∙ (ap spans_length c.spans.ensures
     ∙ (ap (λ (p : BlockPlace). spans_length p.ins) c.in_ok-place.ensures ∙ inputs_law.long n b c.well_formed-2.ensures block)) in
     subst (LaidTo n b c.push.new.self.items) (sym (c.max-longest.ensures ∙ max_is c.loop-block.longest c.spans_length.result))
     (laid_next n c.loop-block.block _ c.loop-block.longest c.in_ok-place.place c.loop-block.invariant c.in_ok-place.ensures c.push.new.self.items

@@ -8,11 +8,11 @@ use Rattle.sci_store.proofs.Paging.{line_waits, piece_behind, none_given}
 use Rattle.sci_store.proofs.lines.Lines.put.Goals as goal
 use Rattle.sci_store.proofs.lines.Lines.put.Goals.{then-self-gt-ONE_MORE+in_ok-give, else-self-gt-ONE_MORE}
 
-pub returns-in_err-give : goal.returns-in_err-give
-returns-in_err-give g c = none_given _ c.give.result c.from_residual.result _ _ c.in_err-give.was (search rules) c.give.ensures.given
+pub returns-in_err-give-clause-written : goal.returns-in_err-give-clause-written
+returns-in_err-give-clause-written g c = none_given _ c.give.result c.from_residual.result _ _ c.in_err-give.was (search rules) c.give.ensures.given
 
-pub returns : goal.returns
-returns g c =
+pub returns-clause-written : goal.returns-clause-written
+returns-clause-written g c =
     let value : to_z w64 (of_z w64 c.args.value) ≡ c.args.value = grind (arith, to_z-of_z) in
     let mid = c.if-self-gt-ONE_MORE in
     let text = c.args.head.now ++ (signed_decimal c.args.value ++ codes "\n") in

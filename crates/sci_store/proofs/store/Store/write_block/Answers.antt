@@ -80,7 +80,7 @@ module _ (g : Over) (c : After-put g) where
   wrote : Writes (paged (g.S.Sink.state c.loop-element.out) c.loop-element.lines) (paged (g.S.Sink.state c.put.new.out) c.put.new.self) (line (get_or whole k Start)) c.put.result
   wrote =
       subst (λ (t : List ℕ). Writes (paged (g.S.Sink.state c.loop-element.out) c.loop-element.lines) (paged (g.S.Sink.state c.put.new.out) c.put.new.self) t c.put.result)
-      head_is c.put.ensures
+      head_is c.put.ensures.written
 
   due : IsLeft (paged (g.S.Sink.state c.args.out.now) c.args.lines.now) (paged (g.S.Sink.state c.loop-element.out) c.loop-element.lines) (the_view c.self.inside) (the_view c.loop-element.self-inside)
       whole (get_or whole k Start ∷ drop (k + 1) whole)
