@@ -19,6 +19,7 @@ ghost use Rattle.sci_places.specs.Flat.{values_at};
 ghost use Rattle.sci_net.specs.Parts.{IsBlock, spec_of, is_sensor};
 ghost use Rattle.sci_kinds.specs.Asks.{IsMask, IsState};
 ghost use Rattle.sci_store.specs.Written.{AreAmong};
+ghost use Rattle.sci_store.specs.Paged.{paged};
 ghost use Rattle.sci_judge.specs.Programming.{AreSourcesOf};
 ghost use Rattle.sci_judge.specs.Rows.{row_of, IsRowOf};
 ghost use Rattle.sci_judge.specs.Reacting.{Shows, IsReacted, AreMarksOf, seen_in, decision_of, step_seen, IsStep};
@@ -33,7 +34,8 @@ use sci_io::{Failed, Sink};
 use sci_store::{Frame, Lines, Store};
 use sci_trace::inputs::Inputs;
 
-// A reaction whose values are known: they are written, then the active blocks program their events and step their states.
+// A reaction whose values are known: they are written behind what waits among the lines, then the active blocks program their events and step
+// their states.
 fn finish<S: Sink>(
     frame: &Frame,
     store: &mut Store,
@@ -56,7 +58,7 @@ fn finish<S: Sink>(
     requires date { date < 2 ^ 63 }
     requires sources { events.old.sources ≡ length (sources_of frame.now.net) }
     requires few { events.old.pending.programmed + length (sources_of frame.now.net) < 2 ^ 63 }
-    ensures written { (s : Source) (y : Signals) (active : Activity) → ShowsValues frame.now s store.old y active → AreAmong frame.now.net active row.now.blocks.items → Writes (S.state out.old) (S.state out.new) (text (blocks_seen 1 frame.now.net.specs y active)) result }
+    ensures written { (s : Source) (y : Signals) (active : Activity) → ShowsValues frame.now s store.old y active → AreAmong frame.now.net active row.now.blocks.items → Writes (paged (S.state out.old) lines.old) (S.state out.new) (text (blocks_seen 1 frame.now.net.specs y active)) result }
     ensures programmed { OnOk result ((s : Source) (y : Signals) (active : Activity) → ShowsValues frame.now s store.old y active → AreAmong frame.now.net active row.now.blocks.items → events.new.pending ≡ next_pending frame.now.net date y active events.old.pending) }
     ensures stepped { OnOk result ((s : Source) (m : Memory) (y : Signals) (active : Activity) → IsActivity frame.now.net s y active → ShowsValues frame.now s store.old y active → AreAmong frame.now.net active row.now.blocks.items → ShowsBefore frame.now store.old (⟦<Library as Banks>⟧.banks lib.old) m → IsMemory frame.now.net m → IsStepped frame.now s m y store.new (⟦<Library as Banks>⟧.banks lib.new)) }
     ensures marks { (store.new.values ≡ store.old.values) × (store.new.marks ≡ store.old.marks) }
@@ -102,13 +104,15 @@ fn react<S: Sink>(
 {
     frame.well_formed();
     let stop = pass(store, frame, lib, inputs, row);
-    store.observe(&frame.header(source, date), out)?;
+    let header = frame.header(source, date);
     match stop {
         Some((block, word)) => {
+            store.observe(&header, out)?;
             store.observe(&Obs::Stop(word, i64::from(block), 0), out)?;
             Ok(true)
         }
         None => {
+            store.begin(&header, lines);
             finish(frame, store, events, lib, inputs, row, date, lines, out)?;
             Ok(false)
         }

@@ -1,5 +1,5 @@
 -- Inputs of one element each.
-use Rattle.std.specs.Prelude.{◌≡◌, ℕ, ℤ, pos, List, map, slice_index_or, Option, Some, None, Vec}
+use Rattle.std.specs.Prelude.{◌≡◌, ℕ, List, map, Any, Option, Some, None, Vec}
 use Rattle.std.specs.declared.alloc.Global.{Global}
 use Rattle.sci_places.specs.declared.span.Span.{Span}
 
@@ -7,11 +7,7 @@ use Rattle.sci_places.specs.declared.span.Span.{Span}
 abbrev pub single : ℕ → Span
 single k = record { start = k; len = 1 }
 
--- the value at a place
-abbrev pub value_at : List ℤ → ℕ → ℤ
-value_at values k = slice_index_or values k (pos 0)
-
--- the spans have one element each, and these are their places; nothing is said where places are missing
+-- the spans have one element each, and these are their places; or no places are told, and some span has another number of elements
 abbrev pub ArePlacesOf : List Span → Option (Vec ℕ Global) → Type 0
 ArePlacesOf spans (Some places) = spans ≡ map single places.items
-ArePlacesOf spans None = Unit {0}
+ArePlacesOf spans None = Any (λ s. s.len ≡ 1 → ⊥) spans

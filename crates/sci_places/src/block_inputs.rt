@@ -1,7 +1,8 @@
 // Where the values lie that go into a block.
 ghost use Rattle.std.specs.Prelude.{◌≡◌, ◌≤◌, ◌<◌, length, take, map, All, IfOk};
 ghost use Rattle.sci_places.specs.Layout.{gathered, spans_length, AreWithin};
-ghost use Rattle.sci_places.specs.Singles.{value_at, ArePlacesOf};
+ghost use Rattle.sci_base.specs.Lists.{at};
+ghost use Rattle.sci_places.specs.Singles.{ArePlacesOf};
 
 use crate::Span;
 use crate::span::copy_spans;
@@ -48,7 +49,7 @@ fn copy_singles(values: &[i64], places: &[usize], ins: &mut [i64]) -> usize
     requires from { All (λ k. k < length values.now) places.now }
     requires to { length places.now ≤ length ins.old }
     ensures count { result ≡ length places.now }
-    ensures copied { take result ins.new ≡ map (value_at values.now) places.now }
+    ensures copied { take result ins.new ≡ map (at values.now) places.now }
 {
     for k in 0..places.len() {
         ins[k] = values[places[k]];

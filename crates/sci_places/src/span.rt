@@ -28,7 +28,7 @@ fn copy_span(values: &[i64], span: Span, ins: &mut [i64], at: usize)
 }
 
 /// Copies the values of some spans, one behind the other. The answer is how many they are.
-// a call of its own, since most inputs have one element
+// not inlined: it is called only where some input has not one element
 #[inline(never)]
 pub(crate) fn copy_spans(values: &[i64], spans: &[Span], ins: &mut [i64]) -> usize
     requires from { All (λ s. s.start + s.len ≤ length values.now) spans.now }

@@ -10,7 +10,7 @@ use Rattle.sci_sim.specs.declared.roles.Role.{Role}
 use Rattle.sci_sim.specs.declared.roles.Role.TheVariants.{Programs, Remembers, Halts}
 use Rattle.sci_sim.specs.declared.roles.Roles.{Roles as Kept}
 
--- the kinds of block that do so behind the pass
+-- the kinds of block that have a role behind the pass
 abbrev pub kinds_with : Role → Kind → Bool
 kinds_with Programs = has_delay
 kinds_with Remembers = remembers

@@ -81,7 +81,7 @@ fn finish<A: Agenda, S: Sink>(
     ensures seated { AreSeated frame.now (⟦<Library as Banks>⟧.banks lib.new) }
     ensures counts { AreAlikeCounts (⟦<Library as Banks>⟧.banks lib.old) (⟦<Library as Banks>⟧.banks lib.new) }
 {
-    store.write_values_behind(frame, blocks, lines, out)?;
+    store.write_values(frame, blocks, lines, out)?;
     program_all(store, frame, &roles.delays, lib, date, agenda);
     store.update_all(frame, &roles.memories, lib, inputs);
     Ok(())

@@ -302,7 +302,8 @@ impl Ready {
         self.fired
     }
 
-    /// How many observations the run has made; they are written where no write failed. The count stays at 2^64 - 1 once there.
+    /// How many observations were counted since `new` or `restore`: where no write failed, all that were written since. The count stays at
+    /// 2^64 - 1 once there.
     pub fn lines(&self) -> u64
         ensures { result ≡ self.entry.now.store.lines }
     {

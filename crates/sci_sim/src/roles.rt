@@ -25,13 +25,16 @@ pub struct Roles {
 /// What a block may do behind the pass.
 #[derive(Clone, Copy, Debug, Drop, PartialEq, Eq)]
 enum Role {
+    /// It has delays, and programs events.
     Programs,
+    /// It remembers more than its outputs.
     Remembers,
+    /// It ends the run.
     Halts,
 }
 
 impl Role {
-    /// Whether the blocks of a kind do so.
+    /// Whether the blocks of a kind have this role.
     fn is_of(self, kind: Kind) -> bool
         ensures { result ≡ kinds_with self kind }
     {
@@ -49,7 +52,7 @@ impl Role {
     }
 }
 
-/// The blocks of some that have a role.
+/// Those of some blocks that have this role, in their order.
 fn with_role(alloc: Global, net: &Net, blocks: &[u32], role: Role) -> Result<Vec<u32>, NoMemory>
     requires { AreBlocksByNumber net.now blocks.now }
     ensures { IfOk result (λ v. v.items ≡ of_kinds net.now (kinds_with role) blocks.now) }

@@ -3,6 +3,7 @@
 #![tactic(auto)]
 
 mod block;
+mod digit_table;
 mod frame;
 mod head;
 mod heads;
@@ -12,7 +13,6 @@ mod pieces;
 mod seats;
 mod store;
 mod tally;
-mod thousand;
 
 pub use frame::Frame;
 pub use lines::Lines;

@@ -7,9 +7,9 @@ ghost use Rattle.sci_base.specs.declared.observation.Obs.TheVariants.{Start, Eve
 ghost use Rattle.sci_store.specs.Paged.{paged};
 ghost use Rattle.sci_store.specs.Written.{IsHeader};
 
+use crate::digit_table::DigitTable;
 use crate::head::Head;
 use crate::pieces::byte_at;
-use crate::thousand::Thousand;
 use sci_base::{NoMemory, Obs};
 use sci_io::{Failed, Sink};
 use std::alloc::Global;
@@ -42,7 +42,7 @@ fn event_word(text: &mut [u8]) -> usize
 }
 
 /// The line of an event.
-fn event_line(digits: &Thousand, text: &mut [u8], date: i64, block: i64, port: i64) -> usize
+fn event_line(digits: &DigitTable, text: &mut [u8], date: i64, block: i64, port: i64) -> usize
     requires { 72 ≤ length text.old }
     ensures text { take result text.new ≡ line (Event date block port) }
     ensures end { result ≤ 72 }
@@ -59,7 +59,7 @@ fn event_line(digits: &Thousand, text: &mut [u8], date: i64, block: i64, port: i
 pub struct Lines {
     text: Vec<u8>,
     len: usize,
-    digits: Thousand,
+    digits: DigitTable,
 }
 
 impl Model for Lines {
@@ -78,19 +78,12 @@ impl Lines {
         ensures { IfOk result (λ l. l ≡ []) }
     {
         let text = vec![in alloc; 0; ROOM]?;
-        let digits = Thousand::new(alloc)?;
+        let digits = DigitTable::new(alloc)?;
         Ok(Lines {
             text,
             len: 0,
             digits,
         })
-    }
-
-    /// Forgets what waits.
-    pub fn clear(&mut self)
-        ensures { self.new ≡ [] }
-    {
-        self.len = 0;
     }
 
     /// The line of a start or of an event waits, alone: what waited before is forgotten.

@@ -1,4 +1,4 @@
-// Pieces of a line, each put behind what stands before it. Each call tells where its piece ends.
+// Pieces of a line, each put behind what stands before it. Each call but `fill_with` and `array_at` tells where its piece ends.
 ghost use Rattle.std.specs.Prelude.{◌≡◌, ◌+◌, ◌<◌, ◌≤◌, ◌++◌, ◌∷◌, [], codes, length, take, drop};
 ghost use Rattle.std.specs.Fmt.{decimal, signed_decimal};
 
@@ -46,7 +46,7 @@ pub fn byte_at(text: &mut [u8], at: usize, byte: u8) -> usize
     at + 1
 }
 
-/// Fills a text with an array, in one piece.
+/// Fills a text with an array. A copy of a slice would ask each time whether the two overlap.
 #[inline(always)]
 fn fill_with<const N: usize>(text: &mut [u8], bytes: &[u8; N])
     requires { length text.old ≡ N }
@@ -58,7 +58,7 @@ fn fill_with<const N: usize>(text: &mut [u8], bytes: &[u8; N])
     *room = *bytes;
 }
 
-/// An array.
+/// An array, of which the caller may mean a front.
 #[inline(always)]
 pub fn array_at<const N: usize>(text: &mut [u8], at: usize, bytes: &[u8; N])
     requires { at + N ≤ length text.old }

@@ -308,6 +308,7 @@ impl Store {
             Fate::Done => {}
         }
         let branch = take_branch(frame, lib, block, ins);
+        // field by field, so that the bytes between them aren't written
         let mark = &mut self.marks[block as usize - 1];
         mark.active = true;
         mark.branch = branch;
@@ -342,8 +343,8 @@ impl Store {
         Ok(())
     }
 
-    /// Writes the values of the active ones of these blocks, by block, port and element, behind what waits among the lines.
-    pub fn write_values_behind<S: Sink>(
+    /// Writes the values of the active ones of these blocks, by block, port and element, behind what waits among the lines; then no line waits.
+    pub fn write_values<S: Sink>(
         &mut self,
         frame: &Frame,
         blocks: &[u32],
@@ -363,25 +364,6 @@ impl Store {
             }
         }
         lines.give(out)
-    }
-
-    /// The same, with what waited among the lines before forgotten.
-    pub fn write_values<S: Sink>(
-        &mut self,
-        frame: &Frame,
-        blocks: &[u32],
-        lines: &mut Lines,
-        out: &mut S,
-    ) -> Result<(), Failed>
-        requires store { IsStore frame.now self.old }
-        requires blocks { AreBlocksByNumber frame.now.net blocks.now }
-        ensures written { (s : Source) (y : Signals) (active : Activity) → ShowsValues frame.now s self.old y active → AreAmong frame.now.net active blocks.now → Writes (S.state out.old) (S.state out.new) (text (blocks_seen 1 frame.now.net.specs y active)) result }
-        ensures counted { OnOk result ((s : Source) (y : Signals) (active : Activity) → ShowsValues frame.now s self.old y active → AreAmong frame.now.net active blocks.now → self.new ≡ tallied self.old (blocks_seen 1 frame.now.net.specs y active)) }
-        ensures same { self.new ≡ record self.old { lines = self.new.lines; sum = self.new.sum } }
-        ensures empty { lines.new ≡ [] }
-    {
-        lines.clear();
-        self.write_values_behind(frame, blocks, lines, out)
     }
 
     /// After how many ticks an activation output of an active block fires next, on the values that go in; -1 where nothing is programmed.

@@ -8,24 +8,24 @@ use Rattle.sci_sim.specs.Roles.{Roles}
 use Rattle.sci_sim.proofs.Choosing.{chosen_by_number, chosen_among}
 use Rattle.sci_sim.proofs.reaction.finish.Given.{Over}
 use Rattle.sci_sim.proofs.reaction.finish.Goals as goal
-use Rattle.sci_sim.proofs.reaction.finish.Goals.{After-write_values_behind, After-program_all}
+use Rattle.sci_sim.proofs.reaction.finish.Goals.{After-write_values, After-program_all}
 
 -- behind the writing, and behind the programming
-written : (g : Over) (c : After-write_values_behind g) → AreKept c.args.store.now c.write_values_behind.new.self
-written g c = kept_counts c.args.store.now c.write_values_behind.new.self c.write_values_behind.ensures.same
+written : (g : Over) (c : After-write_values g) → AreKept c.args.store.now c.write_values.new.self
+written g c = kept_counts c.args.store.now c.write_values.new.self c.write_values.ensures.same
 
 programmed : (g : Over) (c : After-program_all g) → AreKept c.args.store.now c.program_all.new.store
 programmed g c =
-    kept_then c.args.store.now c.write_values_behind.new.self c.program_all.new.store (kept_counts c.args.store.now c.write_values_behind.new.self c.write_values_behind.ensures.same)
-    (kept_room c.write_values_behind.new.self c.program_all.new.store c.program_all.ensures.same c.program_all.ensures.room)
+    kept_then c.args.store.now c.write_values.new.self c.program_all.new.store (kept_counts c.args.store.now c.write_values.new.self c.write_values.ensures.same)
+    (kept_room c.write_values.new.self c.program_all.new.store c.program_all.ensures.same c.program_all.ensures.room)
 
-pub returns-in_err-write_values_behind-clause-store : goal.returns-in_err-write_values_behind-clause-store
-returns-in_err-write_values_behind-clause-store g c =
-    store_alike c.args.frame.now c.args.store.now c.write_values_behind.new.self (written g (goal.at.returns-in_err-write_values_behind-clause-store g c).After-write_values_behind) c.requires.store
+pub returns-in_err-write_values-clause-store : goal.returns-in_err-write_values-clause-store
+returns-in_err-write_values-clause-store g c =
+    store_alike c.args.frame.now c.args.store.now c.write_values.new.self (written g (goal.at.returns-in_err-write_values-clause-store g c).After-write_values) c.requires.store
 
-pub returns-in_err-write_values_behind-clause-marks : goal.returns-in_err-write_values_behind-clause-marks
-returns-in_err-write_values_behind-clause-marks g c =
-    let kept = written g (goal.at.returns-in_err-write_values_behind-clause-marks g c).After-write_values_behind in (kept.values, kept.marks)
+pub returns-in_err-write_values-clause-marks : goal.returns-in_err-write_values-clause-marks
+returns-in_err-write_values-clause-marks g c =
+    let kept = written g (goal.at.returns-in_err-write_values-clause-marks g c).After-write_values in (kept.values, kept.marks)
 
 pub program_all-requires-clause-blocks : goal.program_all-requires-clause-blocks
 program_all-requires-clause-blocks g c =
@@ -34,11 +34,11 @@ program_all-requires-clause-blocks g c =
 
 pub program_all-requires-clause-store : goal.program_all-requires-clause-store
 program_all-requires-clause-store g c =
-    store_alike c.args.frame.now c.args.store.now c.write_values_behind.new.self (written g (goal.at.program_all-requires-clause-store g c).After-write_values_behind) c.requires.store
+    store_alike c.args.frame.now c.args.store.now c.write_values.new.self (written g (goal.at.program_all-requires-clause-store g c).After-write_values) c.requires.store
 
 pub program_all-requires-clause-values : goal.program_all-requires-clause-values
 program_all-requires-clause-values g c =
-    range_alike c.args.frame.now c.args.store.now c.write_values_behind.new.self (written g (goal.at.program_all-requires-clause-values g c).After-write_values_behind) c.requires.values
+    range_alike c.args.frame.now c.args.store.now c.write_values.new.self (written g (goal.at.program_all-requires-clause-values g c).After-write_values) c.requires.values
 
 pub update_all-requires-clause-blocks : goal.update_all-requires-clause-blocks
 update_all-requires-clause-blocks g c =
@@ -64,7 +64,7 @@ update_all-requires-clause-sensed g c =
 pub returns-clause-programmed : goal.returns-clause-programmed
 returns-clause-programmed g c source y active offset p shown among keeps =
     c.program_all.ensures.programmed source y active offset p
-    (shown_alike c.args.frame.now c.args.store.now c.write_values_behind.new.self (written g (goal.at.returns-clause-programmed g c).After-write_values_behind) source y active shown)
+    (shown_alike c.args.frame.now c.args.store.now c.write_values.new.self (written g (goal.at.returns-clause-programmed g c).After-write_values) source y active shown)
     (subst (AreAmong c.args.frame.now.net (active_of_kinds c.args.frame.now.net has_delay active)) (sym (c.deref.ensures.value ∙ ap (λ (r : Roles). r.delays) c.requires.roles))
     (chosen_among c.args.frame.now.net has_delay c.args.blocks.now active among)) keeps
 

@@ -1,7 +1,7 @@
 use Rattle.std.proofs.Common.{◌≤◌, List, ℕ, ◌+◌, ◌++◌, length, take, ap, ◌∙◌, rules, arith}
 use Rattle.sci_store.proofs.Paging.{front_put}
 use Rattle.sci_store.specs.Threes.{Spelled}
-use Rattle.sci_store.proofs.thousand.ThreeDigits.short_at.Goals as goal
+use Rattle.sci_store.proofs.digit_table.ThreeDigits.short_at.Goals as goal
 
 pub returns-clause-text : goal.returns-clause-text
 returns-clause-text c =

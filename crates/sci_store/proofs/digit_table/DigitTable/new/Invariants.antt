@@ -1,7 +1,7 @@
 use Rattle.std.proofs.Common.{◌≡◌, ◌<◌, ℕ, length}
 use Rattle.std.specs.Prelude.{slice_index_or}
 use Rattle.sci_store.specs.Threes.{spelled, not_spelled}
-use Rattle.sci_store.proofs.thousand.Thousand.new.Given as goal
+use Rattle.sci_store.proofs.digit_table.DigitTable.new.Given as goal
 
 abbrev pub invariant-loop-n : goal.invariant-loop-n
 invariant-loop-n l = record {

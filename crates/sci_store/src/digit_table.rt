@@ -26,7 +26,7 @@ struct ThreeDigits {
     // its digits, and then anything
     short: [u8; 4],
     len: u8,
-    // three digits with zeros in front, and a fourth byte, so that both are copied as four bytes at once
+    // three digits with zeros in front, and a fourth byte, since four are copied at once, as of `short`
     whole: [u8; 4],
 }
 
@@ -88,11 +88,11 @@ impl ThreeDigits {
 
 /// The digits of all numbers below 1,000, by which others are spelled.
 #[derive(Drop)]
-pub struct Thousand {
+pub struct DigitTable {
     numbers: Vec<ThreeDigits>,
 }
 
-impl Model for Thousand {
+impl Model for DigitTable {
     ghost use Rattle.std.specs.Prelude.{List};
     ghost use Rattle.sci_store.specs.Threes.{Spelled, AreThrees};
 
@@ -103,19 +103,19 @@ impl Model for Thousand {
     ghost invariant = { λ t. AreThrees t.numbers.items };
 }
 
-impl Thousand {
+impl DigitTable {
     ghost use Rattle.std.specs.Prelude.{IfOk};
     ghost use Rattle.sci_store.specs.Threes.{AreThrees};
 
     /// Those of all numbers below 1,000.
-    pub fn new(alloc: Global) -> Result<Thousand, NoMemory>
+    pub fn new(alloc: Global) -> Result<DigitTable, NoMemory>
         ensures { IfOk result (λ t. AreThrees t) }
     {
         let mut numbers = Vec::with_capacity(alloc, THOUSAND as usize)?;
         for n in 0..THOUSAND {
             numbers.push(ThreeDigits::new(n))?;
         }
-        Ok(Thousand { numbers })
+        Ok(DigitTable { numbers })
     }
 
     // Those of a number below 1,000.

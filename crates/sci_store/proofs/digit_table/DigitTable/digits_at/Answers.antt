@@ -2,7 +2,7 @@ use Rattle.std.proofs.Common.{◌++◌, take, ap, ◌∙◌, arith}
 use Rattle.sci_store.proofs.Digits.{at_most_20}
 use Rattle.sci_store.proofs.Threes.{two_pieces, three_pieces, four_pieces}
 use Rattle.sci_store.specs.Threes.{Spelled}
-use Rattle.sci_store.proofs.thousand.Thousand.digits_at.Goals as goal
+use Rattle.sci_store.proofs.digit_table.DigitTable.digits_at.Goals as goal
 
 pub returns-then-n-lt-MILLION-clause-text : goal.returns-then-n-lt-MILLION-clause-text
 returns-then-n-lt-MILLION-clause-text c =

@@ -1,7 +1,7 @@
 use Rattle.std.proofs.Common.{drop}
 use Rattle.sci_store.specs.Paged.{paged}
 use Rattle.sci_store.proofs.Writing.{IsLeft, row_seen}
-use Rattle.sci_store.proofs.store.Store.write_values_behind.Given as goal
+use Rattle.sci_store.proofs.store.Store.write_values.Given as goal
 
 -- the marked blocks so far are written
 abbrev pub invariant-loop-block : goal.invariant-loop-block
