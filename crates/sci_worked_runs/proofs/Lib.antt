@@ -1,0 +1,3 @@
+mod AtStart
+mod Columns
+mod Signals
