@@ -1,0 +1,82 @@
+"""What lies in release/: the program of these sources, as the gate builds it, which a usual machine of Debian 12 can run."""
+import hashlib
+import os
+import re
+import subprocess
+
+from lacking import lacks
+
+TOP = os.path.join(os.path.dirname(os.path.abspath(__file__)), '..')
+RELEASED = os.path.join(TOP, 'release', 'scicos')
+# Instructions that a processor of x86-64-v2 lacks: those of AVX and later begin with v, but for two older ones; and the newer ones on bits. A tzcnt is
+# none of them: an older processor reads it as a bsf, which gives the same where a bit is set, and a compiler writes it there for that.
+OLDER = {'verr', 'verw'}
+NEWER = {'andn', 'bextr', 'blsi', 'blsmsk', 'blsr', 'bzhi', 'lzcnt', 'movbe', 'mulx', 'pdep', 'pext', 'rorx', 'sarx', 'shlx', 'shrx', 'adcx', 'adox'}
+
+
+def content(*path):
+    with open(os.path.join(*path), 'rb') as file:
+        return file.read()
+
+
+def manifest():
+    with open(os.path.join(TOP, 'release', 'manifest')) as file:
+        return dict(line.rstrip('\n').split(' ', 1) for line in file)
+
+
+def below(name, rows, found):
+    for used in rows[name]:
+        if used in rows and used not in found:
+            below(used, rows, found)
+    found.append(name)
+    return found
+
+
+def crates():
+    """The crates that the program stands on, by crates.txt, and it."""
+    with open(os.path.join(TOP, 'crates.txt')) as file:
+        rows = [line.partition('#')[0].split(':') for line in file]
+    return below('scicos', {row[0].split()[0]: row[1].split() for row in rows if len(row) == 2}, [])
+
+
+def wrong_manifest(told):
+    """The manifest tells the crates, their sources' checksum, the kit and the program's checksum."""
+    wrong = [] if sorted(told) == ['crates', 'kit', 'program', 'sources'] and told['crates'].split() == crates() else ['the crates: %r' % told]
+    summed = subprocess.run([os.path.join(TOP, 'tools', 'sources')] + crates(), capture_output=True, text=True, timeout=60).stdout.strip()
+    same = told['sources'] == summed
+    wrong += [] if same else ['the sources are %s, and the release is of %s: tools/release makes it anew' % (summed, told['sources'])]
+    wrong += [] if told['program'] == hashlib.sha256(content(RELEASED)).hexdigest() else ['its checksum']
+    if not lacks('whether the kit is that of the release', 'rt'):
+        kit = subprocess.run(['rt', 'version'], capture_output=True, text=True, timeout=60).stdout.strip()
+        wrong += [] if told['kit'] == kit else ['the kit is %s' % kit]
+    return wrong
+
+
+def wrong_needs():
+    """It needs the C library alone, in no version after that of Debian 12, and no processor after x86-64-v2."""
+    if lacks('what the released program needs', 'objdump'):
+        return []
+    heads = subprocess.run(['objdump', '-p', RELEASED], capture_output=True, text=True, check=True).stdout
+    needed = set(re.findall(r'NEEDED\s+(\S+)', heads))
+    wrong = [] if needed == {'libc.so.6'} else ['libraries %r' % needed]
+    versions = [tuple(map(int, it.split('.'))) for it in re.findall(r'GLIBC_([0-9.]+)', heads)]
+    wrong += [] if versions and max(versions) <= (2, 36) else ['versions %r' % versions]
+    lines = subprocess.run(['objdump', '-d', '--no-show-raw-insn', RELEASED], capture_output=True, text=True, check=True).stdout
+    used = set(re.findall(r'^\s+[0-9a-f]+:\s+(\w+)', lines, flags=re.M))
+    newer = {it for it in used if it.startswith('v') and it not in OLDER or it in NEWER}
+    return wrong + (['instructions %r' % sorted(newer)] if newer or len(used) < 40 else [])
+
+
+def wrong_paths():
+    """Nothing in its bytes tells where it was built."""
+    found = re.findall(rb'/(?:home|root|work|tmp|build)/[\w./-]*', content(RELEASED))
+    return ['paths %r' % found[:3]] if found else []
+
+
+def release(program):
+    """The program that is given has the bytes of the released one, and so has what `./scicos` runs."""
+    wrong = [] if content(program) == content(RELEASED) else ['%s has other bytes than release/scicos: tools/release makes it anew' % program]
+    run = subprocess.run([os.path.join(TOP, 'scicos'), 'host'], stdin=subprocess.DEVNULL, capture_output=True, timeout=60)
+    due = subprocess.run([RELEASED, 'host'], stdin=subprocess.DEVNULL, capture_output=True, timeout=60)
+    wrong += [] if (run.stdout, run.stderr, run.returncode) == (due.stdout, b'', 0) else ['./scicos gives %r' % run.stderr]
+    return '; '.join(wrong + wrong_manifest(manifest()) + wrong_needs() + wrong_paths())
