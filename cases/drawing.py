@@ -1,9 +1,11 @@
 """Drawings: the links of some diagrams, and of each example that every input is fed once, that what an event activates is in its schedule, and that its
 picture shows what is drawn."""
+import contextlib
 import html
 import json
 import os
 import re
+import shutil
 import subprocess
 import sys
 import tempfile
@@ -30,8 +32,8 @@ BRANCHED = ('b1>b1 b1>b7 b7.1>b8 b7.2>b9', 'b2>b5 b3>b4 b6>b7')
 
 def drawn(program, words, diagram, path=os.environ.get('PATH', '')):
     """The text of a drawing, and what is said beside it, where commands are looked up in a path."""
-    run = subprocess.run([sys.executable, '-B', os.path.join(TOP, 'tools', 'draw')] + words + [program, diagram], capture_output=True, timeout=120,
-                         env=dict(os.environ, PATH=path))
+    run = subprocess.run([os.path.join(TOP, 'scicos-kit'), 'draw'] + words + [diagram], capture_output=True, timeout=120,
+                         env=dict(os.environ, PATH=path, SCICOS=program))
     return run.stdout.decode(), run.stderr.decode(), run.returncode
 
 
@@ -133,6 +135,7 @@ def pictures(program):
     return '; '.join(wrong)
 
 
+BARE = "scicos-kit draw: dot isn't installed (apt-get install graphviz), so this is the graph's text\n"
 # what stands in for `dot`: it notes its words and what it reads, and answers with this status
 DOT = """#!%s
 import sys
@@ -142,9 +145,18 @@ sys.exit(%d)
 """
 
 
-def wrong_dot(program, diagram, text, status):
-    """What is wrong where `dot` answers with a status: it gets the text of the graph, and what it makes of that is written without comments."""
+@contextlib.contextmanager
+def only_a_shell():
+    """A folder for the path of commands, with what `scicos-kit` calls itself and nothing else."""
     with tempfile.TemporaryDirectory() as work:
+        for name in ('sh', 'dirname', 'readlink', 'python3'):
+            os.symlink(shutil.which(name), os.path.join(work, name))
+        yield work
+
+
+def wrong_dot(program, diagram, text, status):
+    """What is wrong where `dot` answers with a status: it gets the text of the graph, and what it makes of that is written without comments; where it fails, nothing is written."""
+    with only_a_shell() as work:
         took = os.path.join(work, 'took')
         with open(os.path.join(work, 'dot'), 'w') as file:
             file.write(DOT % (sys.executable, took, status))
@@ -152,36 +164,46 @@ def wrong_dot(program, diagram, text, status):
         given = drawn(program, [], diagram, work)
         with open(took) as file:
             read = file.read()
-    return [] if (given, read) == (('<svg/>\n', '', status), '-Tsvg\n' + text) else ['dot with status %d: %r, %r' % (status, given, read)]
+    due = ('<svg/>\n', '', 0) if status == 0 else ('', 'scicos-kit draw: dot ended with status 1: it says nothing\n', 1)
+    return [] if (given, read) == (due, '-Tsvg\n' + text) else ['dot with status %d: %r, %r' % (status, given, read)]
 
 
 def without_dot(program):
-    """Where there is no `dot`, the text of the graph is written, and that is said; what breaks a rule isn't drawn with it or without."""
+    """Where there is no `dot`, the text of the graph is written, and that is said; what breaks a rule is drawn with it and without, and its refusal told."""
     diagram = os.path.join(EXAMPLES, 'branches.json')
     text, said, status = drawn(program, ['--text'], diagram)
     wrong = [] if (said, status) == ('', 0) and text.startswith('digraph ') else ['--text: %r' % ((text, said, status),)]
-    with tempfile.TemporaryDirectory() as nothing:
+    with only_a_shell() as nothing:
         bare = drawn(program, [], diagram, nothing)
         refused = drawn(program, [], os.path.join(EXAMPLES, 'loop.json'), nothing)
-    wrong += [] if bare == (text, "draw: dot isn't installed, so this is the graph's text\n", 0) else ['without dot: %r' % (bare,)]
-    wrong += [] if refused == ('', 'refused 24 AlgebraicLoop at 3 1 1 3 4\n', 1) else ['refused: %r' % (refused,)]
+    wrong += [] if bare == (text, BARE, 0) else ['without dot: %r' % (bare,)]
+    loop, said, status = drawn(program, ['--text'], os.path.join(EXAMPLES, 'loop.json'))
+    wrong += [] if refused == (loop, BARE + said, 1) and status == 1 else ['refused: %r' % (refused,)]
     return '; '.join(wrong + wrong_dot(program, diagram, text, 0) + wrong_dot(program, diagram, text, 1))
 
 
 def numbers(program):
-    """The numbers that `tools/numbers` prints are those of `map`, and it prints those of a refused diagram."""
+    """The numbers that `scicos-kit numbers` prints are those of `map`, and it prints those of a refused diagram."""
     wrong = []
     for path in example_files():
-        run = subprocess.run([os.path.join(TOP, 'tools', 'numbers'), path], capture_output=True, timeout=120)
+        run = subprocess.run([os.path.join(TOP, 'scicos-kit'), 'numbers', path], capture_output=True, timeout=120)
         due = subprocess.run([program, 'map', path], capture_output=True, timeout=120)
         given, due = ([line.split()[:3] for line in told.stdout.decode().splitlines()] for told in (run, due))
         wrong += [] if given == due and due else ['%s: %r in place of %r' % (path, given, due)]
-    run = subprocess.run([os.path.join(TOP, 'tools', 'numbers'), os.path.join(EXAMPLES, 'loop.json')], capture_output=True, timeout=120)
+    run = subprocess.run([os.path.join(TOP, 'scicos-kit'), 'numbers', os.path.join(EXAMPLES, 'loop.json')], capture_output=True, timeout=120)
     return '; '.join(wrong + ([] if b'\n3 3 SUMMATION\n4 4 GAINBLK\n' in run.stdout else [repr(run)]))
 
 
+def wrong_loop(program):
+    """What is wrong with the drawing of a refused diagram: the blocks and links of its loop alone are red, and the refusal stands in it and is told."""
+    text, said, status = drawn(program, ['--text'], os.path.join(EXAMPLES, 'loop.json'))
+    red = re.findall(r'^  (b\d+(?: -> b\d+)?) .*color=red', text, re.M)
+    same = (red, status) == (['b3', 'b4', 'b3 -> b4', 'b4 -> b3'], 1) and said.startswith('scicos-kit draw: an algebraic loop ') and 'an algebraic loop' in text
+    return [] if same else [text + said]
+
+
 def drawing(program):
-    """Drawings are as the first line of this file says; what is refused isn't drawn."""
+    """Drawings are as the first line of this file says; what is refused is drawn too."""
     wrong = coloured(program) + wrong_links(program, json.dumps({'objs': CROSSED}), BRANCHED)
     for path in example_files():
         with open(path) as file:
@@ -191,5 +213,4 @@ def drawing(program):
     with open(os.path.join(TOP, 'docs', 'FORMAT.md')) as file:
         for words, body in parts(file.read()):
             wrong += wrong_wiring(program, body) if words[0] == 'diagram' else []
-    refused = drawn(program, ['--text'], os.path.join(EXAMPLES, 'loop.json'))
-    return '; '.join(wrong + ([] if refused == ('', 'refused 24 AlgebraicLoop at 3 1 1 3 4\n', 1) else [repr(refused)]))
+    return '; '.join(wrong + wrong_loop(program))

@@ -16,11 +16,13 @@ TOP = os.path.join(os.path.dirname(os.path.abspath(__file__)), '..')
 EXAMPLES = os.path.join(TOP, 'examples')
 PAGES = ['README.md', 'docs/SHIPPING.md', 'examples/README.md']
 OTHERS = [os.path.join('docs', name) for name in sorted(os.listdir(os.path.join(TOP, 'docs'))) if name.endswith('.md')]  # these may be without any
-STARTS = re.compile(r'\./\w+ |gcc |(?:tools|bench)/\w+ |\w+=|mkdir |ls |parallel |crates/scicos/out/scicos ')
-NOT_RUN = ['./test']  # which runs the gate, and these cases in it
+STARTS = re.compile(r'\./[\w-]+ |gcc |(?:tools|bench)/\w+ |\w+=|mkdir |ls |parallel |crates/scicos/out/scicos ')
+# ./test runs the gate, and these cases in it; ./prove takes an hour; and what is released has a case of its own (release.py)
+NOT_RUN = ['./test', './prove', 'apt-get install ', 'tools/sources ', 'sha256sum ']
 WANTED = {'gcc', 'clang', 'arm-none-eabi-gcc', 'xargs', 'parallel'}
 # by page the words of fenced parts that other cases read
-FENCED = {'docs/FORMAT.md': 'diagram inputs trace judge save resume vcd vcdat map schedule check block refused'.split(), 'docs/GENERATED.md': ['c'],
+FENCED = {'README.md': ['python'], 'docs/PYTHON.md': ['python', 'text'],
+          'docs/FORMAT.md': 'diagram inputs trace judge save resume vcd vcdat map schedule check block refused'.split(), 'docs/GENERATED.md': ['c'],
           'docs/SHIPPING.md': ['c'], 'docs/SCICOS.md': ['json']}
 
 
@@ -69,11 +71,13 @@ def furnish(program, work):
     """A folder in which the lines can be run: the program where they call it, the examples, the tools, and the files that a reader has of his own, as
     the two that the page on targets shows in C."""
     os.makedirs(os.path.join(work, 'crates', 'scicos', 'out'))
+    os.mkdir(os.path.join(work, 'release'))
     os.mkdir(os.path.join(work, 'inputs'))
-    for place in ('scicos', os.path.join('crates', 'scicos', 'out', 'scicos')):
+    for place in ('scicos', os.path.join('release', 'scicos'), os.path.join('crates', 'scicos', 'out', 'scicos')):
         os.symlink(program, os.path.join(work, place))
-    for folder in ('examples', 'tools', 'bench', 'cases', 'docs'):
+    for folder in ('examples', 'tools', 'bench', 'cases', 'docs', 'python'):
         shutil.copytree(os.path.join(TOP, folder), os.path.join(work, folder))
+    shutil.copy(os.path.join(TOP, 'scicos-kit'), work)
     shutil.copy(os.path.join(EXAMPLES, 'first.json'), os.path.join(work, 'my-diagram.json'))
     shutil.copy(os.path.join(EXAMPLES, 'watchdog', 'diagram.json'), os.path.join(work, 'd.json'))
     shown = ['\n'.join(lines) + '\n' for word, lines in blocks(text_of(TOP, 'docs', 'SHIPPING.md')) if word == 'c']
@@ -109,8 +113,8 @@ def wrong_blocks(name, page, work):
     """What is wrong with the blocks of a page: those of command lines are run, one behind these is what they print, and the others are read elsewhere."""
     wrong, run, printed = [], False, None
     for word, lines in blocks(page):
-        known = [line in NOT_RUN or STARTS.match(line) is not None for line in lines]
-        if is_read_elsewhere(name, word, lines) or lines == NOT_RUN:
+        known = [STARTS.match(line) is not None for line in lines]
+        if is_read_elsewhere(name, word, lines) or all(line.startswith(tuple(NOT_RUN)) for line in lines):
             run = False
         elif all(known):
             more, printed = wrong_lines(name, lines, work)

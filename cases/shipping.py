@@ -19,6 +19,7 @@ FLAGS = ['-std=c99', '-Wall', '-Wextra', '-pedantic', '-Werror', '-O2']
 SPARE = ['-Wno-unused-function', '-Wno-unused-variable']
 QUADRATURE = os.path.join(EXAMPLES, 'quadrature', 'diagram.json')  # which has two sensors
 PROGRAMS = sorted(glob.glob(os.path.join(EXAMPLES, '*', 'program.c')))
+DIAGRAMS = sorted(glob.glob(os.path.join(EXAMPLES, '*', 'diagram.json')))
 
 
 def text(*path):
@@ -84,6 +85,13 @@ def outside(content):
     return re.findall(r'^extern .*?(sci_\w+)\(', content, re.M)
 
 
+def names_for(program, work):
+    """Writes the header of names that the page's host takes; tells what is wrong with that."""
+    words = [os.path.join(TOP, 'scicos-kit'), 'header', os.path.join(EXAMPLES, 'moving-average', 'diagram.json'), '-o', os.path.join(work, 'average.h')]
+    run = subprocess.run(words, capture_output=True, timeout=120, env=dict(os.environ, SCICOS=os.path.abspath(program)))
+    return [] if run.returncode == 0 and run.stderr == b'' else [repr(run)]
+
+
 def targets(program):
     """The host on the page is C, as is the board beside it, and the page tells of each function that a generated program declares."""
     page = text(TOP, 'docs', 'SHIPPING.md')
@@ -91,6 +99,7 @@ def targets(program):
     wrong = ['%s is not on the page' % name for name in named if '| `%s(' % name not in page]
     if not lacks('the hosts of docs/SHIPPING.md', 'gcc'):
         with tempfile.TemporaryDirectory() as work:
+            wrong += names_for(program, work)
             for number, part in enumerate(re.findall(r'^```c\n(.*?)^```$', page, re.M | re.S)):
                 with open(os.path.join(work, '%d.c' % number), 'w') as file:
                     file.write(part)
@@ -118,7 +127,7 @@ def program_names(program):
         called = set(re.findall(r'\b(sci_\w+)\(', content)) - {'sci_main'}
         told = [] if outside(content) == declared and called <= set(declared) else ['it declares %r and calls %r' % (outside(content), called)]
         wrong += ['%s: %s' % (path, line) for line in told + ([] if is_bare else wrong_object(path, declared))]
-    return '; '.join(wrong) or ('' if len(PROGRAMS) == 10 else 'not ten designs')
+    return '; '.join(wrong) or ('' if len(PROGRAMS) == len(DIAGRAMS) else 'not each design has a program')
 
 
 def sizes(program):
@@ -127,13 +136,24 @@ def sizes(program):
         return ''
     run = subprocess.run([os.path.join(TOP, 'tools', 'sizes'), program, os.path.join(EXAMPLES, 'counter.json')], capture_output=True, timeout=120)
     same = run.returncode == 0 and re.search(r'^\| counter\.json \| 4 (\| \d+ ){4}\|$', run.stdout.decode(), re.M)
-    return wrong_table(program) if same else repr(run)
+    return wrong_flags(program) or wrong_table(program) if same else repr(run)
+
+
+def wrong_flags(program):
+    """What is wrong with sizes where the compiler has flags: code that isn't optimized is larger; a compiler or a flag that isn't there is told."""
+    def told(compiler):
+        return subprocess.run([os.path.join(TOP, 'tools', 'sizes'), '-c', compiler, program, os.path.join(EXAMPLES, 'counter.json')],
+                              capture_output=True, text=True, timeout=120)
+    small, large = (int(told(compiler).stdout.splitlines()[-1].split('|')[4]) for compiler in ('gcc', 'gcc -O0 -DX="a b"'))
+    none, flag = told('no-such-gcc -mthumb'), told('gcc --no-such-flag')
+    wrong = [] if small < large else ['%d bytes with -Os, %d with -O0' % (small, large)]
+    wrong += [] if (none.returncode, none.stdout, none.stderr) == (70, '', "sizes: no-such-gcc isn't installed\n") else [repr(none)]
+    return '; '.join(wrong + ([] if flag.returncode == 1 and 'is not compiled by gcc --no-such-flag' in flag.stderr else [repr(flag)]))
 
 
 def wrong_table(program):
     """What is wrong with the page's table of the designs: with the compiler that it names all numbers are compared, else those of blocks and lines."""
-    diagrams = sorted(glob.glob(os.path.join(EXAMPLES, '*', 'diagram.json')))
-    run = subprocess.run([os.path.join(TOP, 'tools', 'sizes'), program] + diagrams, capture_output=True, timeout=120)
+    run = subprocess.run([os.path.join(TOP, 'tools', 'sizes'), program] + DIAGRAMS, capture_output=True, timeout=120)
     page, version = text(TOP, 'docs', 'SHIPPING.md'), subprocess.run(['gcc', '--version'], capture_output=True).stdout.decode().split('\n')[0]
     cells = 6 if '`%s`' % version in page and os.uname().machine == 'x86_64' else 3
     row = re.compile(r'^\| ([\w-]+)' + r' \| (\d+)' * 5 + r' \|$', re.M)

@@ -17,6 +17,7 @@ import plain_vcd
 import text_changes
 
 MOST = 67108864
+NO_DUMP = b'scicos-kit waves: %s: line 1 is no line of a dump of `scicos vcd`\n'
 ONE, TWO = 'b00000000000000000000000000000001', 'b00000000000000000000000000000010'
 # of the dump of the counter: what is changed into what, and the first wrong line; or what `vcdat` then says at tick 7
 MISTAKES = [
@@ -283,7 +284,7 @@ def simavr(program):
 
 def waveforms(program):
     """The waveforms in the pages of the designs are those of the dumps of their runs; what is no dump isn't drawn."""
-    wrong, tool = [], os.path.join(HERE, '..', 'tools', 'waves')
+    wrong, tool = [], [os.path.join(HERE, '..', 'scicos-kit'), 'waves']
     with tempfile.TemporaryDirectory() as work:
         for name, diagram, inputs, until, limit in simulations():
             folder = os.path.join(EXAMPLES, name)
@@ -291,13 +292,17 @@ def waveforms(program):
                 continue
             with open(os.path.join(work, 'v'), 'wb') as file:
                 file.write(in_folder(program, ['vcd', 'd', 'i', until, limit], d=diagram, i=inputs)[0])
-            drawn = subprocess.run([tool, '--diagram', os.path.join(folder, 'diagram.json'), 'v'], cwd=work, capture_output=True, timeout=60)
+            drawn = subprocess.run([*tool, '--diagram', os.path.join(folder, 'diagram.json'), 'v'], cwd=work, capture_output=True, timeout=60)
             same = (drawn.stdout, drawn.stderr, drawn.returncode) == (text(folder, 'waves.svg'), b'', 0) and '](waves.svg)' in text(folder, 'README.md').decode()
             wrong += [] if same else ['%s: %r' % (name, drawn.stderr)]
-        one = subprocess.run([tool, '--until', '40', '--only', 'b3_1_1', text_file(work, text(HERE, 'vcd-counter', 'out'))], capture_output=True, timeout=60)
-        none = subprocess.run([tool, text_file(work, b'x\n')], capture_output=True, timeout=60)
+        one = subprocess.run([*tool, '--until', '40', '--only', 'b3_1_1', text_file(work, text(HERE, 'vcd-counter', 'out'))], capture_output=True, timeout=60)
+        none = subprocess.run([*tool, text_file(work, b'x\n')], cwd=work, capture_output=True, timeout=60)
+        dump = text_file(work, text(HERE, 'vcd-counter', 'out'))
+        unknown = subprocess.run([*tool, '--only', 'b9_1_1', dump], capture_output=True, timeout=60)
     wrong += [] if one.stdout.count(b'class="line"') == 1 and one.returncode == 0 else [repr(one)]
-    wrong += [] if (none.stdout, none.stderr, none.returncode) == (b'', b'waves: line 1 is no line of such a dump\n', 1) else [repr(none)]
+    wrong += [] if (none.stdout, none.stderr, none.returncode) == (b'', NO_DUMP % none.args[-1].encode(), 1) else [repr(none)]
+    is_told = (unknown.stdout, unknown.returncode) == (b'', 2) and b'b9_1_1' in unknown.stderr
+    wrong += [] if is_told else [repr(unknown)]
     return '; '.join(wrong)[:800]
 
 

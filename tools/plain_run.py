@@ -4,11 +4,17 @@ The diagram has to be one that breaks no rule; the input file has to fit it.
 """
 import importlib.machinery
 import importlib.util
+import json
 import os
+import sys
 
 import plain_kinds as kinds
 
 HERE = os.path.dirname(os.path.abspath(__file__))
+sys.path.insert(0, os.path.join(HERE, '..', 'python'))
+
+from scicos.flat import REGULAR, Flat  # noqa: E402
+from scicos.flat_wiring import Wiring  # noqa: E402
 
 
 def script(name):
@@ -19,7 +25,18 @@ def script(name):
     return module
 
 
-draw, numbers = script('draw'), script('numbers')
+PASSING = {'SPLIT_f', 'CLKSPLIT_f', 'CLKSOM_f', 'CLKSOMV_f', 'IN_f', 'OUT_f', 'CLKINV_f', 'CLKOUTV_f', 'GOTO', 'FROM', 'CLKGOTO', 'CLKFROM'}
+
+
+def numbered(diagram, outer=()):
+    """The blocks with their places, in the order of their numbers."""
+    for at, item in enumerate(diagram['objs'], 1):
+        if item['obj'] == 'Block':
+            sim = item['model'].get('sim')
+            if (sim[:1] if isinstance(sim, list) else [sim]) in (['super'], ['csuper']):
+                yield from numbered(item['model']['rpar'], (*outer, at))
+            elif item['gui'] not in PASSING:
+                yield (*outer, at), item
 
 
 class Ties:
@@ -51,10 +68,22 @@ class Ties:
         return self.given[self.top(key)]
 
 
+def numbers(value):
+    """A list of numbers; one alone stands for a list of it."""
+    return value if isinstance(value, list) else [value]
+
+
+def edges(diagram):
+    """The links between blocks, followed through superblocks, splits, unions and tags: kind, block and output, block and input."""
+    for (kind, start), ends in Wiring(Flat(json.dumps(diagram))).feeds.items():
+        for end in ends:
+            yield kind, start.block, start.port, end.block, end.port
+
+
 class Block:
     def __init__(self, number, item):
         model = item['model']
-        field = {name: draw.numbers(model.get(name, [])) for name in
+        field = {name: numbers(model.get(name, [])) for name in
                  ('in', 'in2', 'intyp', 'out', 'out2', 'outtyp', 'evtin', 'evtout', 'ipar', 'dstate', 'firing')}
         self.number, self.gui, self.dep_ut = number, item['gui'], model.get('dep_ut')
         self.ipar, self.dstate, self.firing = field['ipar'], field['dstate'], field['firing']
@@ -76,11 +105,10 @@ class Net:
     """The flat diagram: its blocks by number, the source of each input, the feeds of each activation input, and for each source its blocks in order."""
 
     def __init__(self, diagram):
-        found = list(numbers.blocks(diagram))
-        places = {tuple(map(int, place.split('/'))): number for number, (place, _) in enumerate(found, 1)}
+        found = list(numbered(diagram))
         self.blocks = {number: Block(number, item) for number, (_, item) in enumerate(found, 1)}
-        for kind, start, port, end, entry in draw.edges(draw.Level(diagram), places):
-            if kind == draw.REGULAR:
+        for kind, start, port, end, entry in edges(diagram):
+            if kind == REGULAR:
                 self.blocks[end].wires[entry - 1] = (start, port)
             else:
                 self.blocks[end].feeds[entry - 1].append((start, port))

@@ -8,11 +8,11 @@ extern int64_t sci_more(int64_t a);
 extern int64_t sci_input(int64_t a);
 extern int64_t sci_until(void);
 extern int64_t sci_limit(void);
-static int64_t v1[7];
+static int64_t v1[8];
 static int64_t v2[4];
-static int64_t v3[8];
-static int64_t v4[8];
-static int64_t v5[8];
+static int64_t v3[9];
+static int64_t v4[9];
+static int64_t v5[9];
 static int64_t v6[1];
 static int64_t v7[1];
 static int64_t t1;
@@ -161,6 +161,13 @@ static void f7(void) {
 static void f8(void) {
   v1[INT64_C(6)] = v2[INT64_C(3)];
 }
+static void f9(void) {
+  t1 = INT64_C(0);
+  t1 = (t1 + v1[INT64_C(6)]);
+  t1 = (t1 + v1[INT64_C(5)]);
+  t1 = (INT64_C(0) + ((((t1 - INT64_C(0)) % INT64_C(256)) + INT64_C(256)) % INT64_C(256)));
+  v1[INT64_C(7)] = t1;
+}
 static void g2(void) {
   if (v4[INT64_C(1)]) {
     sci_val(INT64_C(2), INT64_C(1), INT64_C(1), v1[INT64_C(0)]);
@@ -181,6 +188,9 @@ static void g2(void) {
   if (v4[INT64_C(7)]) {
     sci_val(INT64_C(8), INT64_C(1), INT64_C(1), v1[INT64_C(6)]);
   }
+  if (v4[INT64_C(8)]) {
+    sci_val(INT64_C(9), INT64_C(1), INT64_C(1), v1[INT64_C(7)]);
+  }
   if (v4[INT64_C(0)]) {
     e1 = INT64_C(5);
     if ((int64_t)(e1 >= INT64_C(0))) {
@@ -199,11 +209,11 @@ static void g2(void) {
     v2[INT64_C(2)] = v1[INT64_C(4)];
   }
   if (v4[INT64_C(7)]) {
-    v2[INT64_C(3)] = ((((v2[INT64_C(3)] + INT64_C(1)) % INT64_C(256)) + INT64_C(256)) % INT64_C(256));
+    v2[INT64_C(3)] = v1[INT64_C(7)];
   }
 }
 static void g1(void) {
-  for (k1 = INT64_C(0); k1 < INT64_C(8); k1 = k1 + INT64_C(1)) {
+  for (k1 = INT64_C(0); k1 < INT64_C(9); k1 = k1 + INT64_C(1)) {
     v4[k1] = INT64_C(0);
     v5[k1] = INT64_C(0);
   }
@@ -242,10 +252,14 @@ static void s1(void) {
   if (v4[INT64_C(7)]) {
     f8();
   }
+  if ((int64_t)(v5[INT64_C(6)] == INT64_C(1))) {
+    v4[INT64_C(8)] = INT64_C(1);
+  }
+  if (v4[INT64_C(8)]) {
+    f9();
+  }
 }
 void sci_main(void) {
-  v1[INT64_C(6)] = INT64_C(1);
-  v2[INT64_C(3)] = INT64_C(1);
   o1 = INT64_C(1);
   u1 = sci_until();
   n1 = sci_limit();

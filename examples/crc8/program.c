@@ -1,0 +1,341 @@
+#include <stdint.h>
+extern void sci_start(void);
+extern void sci_event(int64_t a, int64_t b, int64_t c);
+extern void sci_val(int64_t a, int64_t b, int64_t c, int64_t d);
+extern void sci_end(int64_t a);
+extern void sci_stop(int64_t a, int64_t b, int64_t c);
+extern int64_t sci_more(int64_t a);
+extern int64_t sci_input(int64_t a);
+extern int64_t sci_until(void);
+extern int64_t sci_limit(void);
+static int64_t v1[17];
+static int64_t v2[2];
+static int64_t v3[20];
+static int64_t v4[20];
+static int64_t v5[20];
+static int64_t v6[2];
+static int64_t v7[2];
+static int64_t t1;
+static int64_t t2;
+static int64_t t3;
+static int64_t t4;
+static int64_t n1;
+static int64_t i1;
+static int64_t u1;
+static int64_t d1;
+static int64_t o1;
+static int64_t b1;
+static int64_t e1;
+static int64_t k1;
+static void f1(void) {
+}
+static void f2(void) {
+}
+static void f3(void) {
+  t1 = sci_more(INT64_C(1));
+  if (t1) {
+    v1[INT64_C(0)] = sci_input(INT64_C(1));
+  } else {
+    sci_stop(INT64_C(2), INT64_C(3), INT64_C(0));
+  }
+}
+static void f4(void) {
+  v1[INT64_C(1)] = v2[INT64_C(0)];
+}
+static void f5(void) {
+  t2 = INT64_C(0);
+  t3 = INT64_C(1);
+  for (t4 = INT64_C(0); t4 < INT64_C(8); t4 = t4 + INT64_C(1)) {
+    t1 = INT64_C(0);
+    t1 = (t1 + (((((v1[INT64_C(1)] % INT64_C(256)) + INT64_C(256)) % INT64_C(256)) / t3) % INT64_C(2)));
+    t1 = (t1 + (((((v1[INT64_C(0)] % INT64_C(256)) + INT64_C(256)) % INT64_C(256)) / t3) % INT64_C(2)));
+    t2 = (t2 + ((int64_t)((t1 % INT64_C(2)) == INT64_C(1)) * t3));
+    t3 = (t3 * INT64_C(2));
+  }
+  v1[INT64_C(2)] = (INT64_C(0) + ((((t2 - INT64_C(0)) % INT64_C(256)) + INT64_C(256)) % INT64_C(256)));
+}
+static void f6(void) {
+  v1[INT64_C(3)] = (INT64_C(0) + (((((v1[INT64_C(1)] * INT64_C(2)) - INT64_C(0)) % INT64_C(256)) + INT64_C(256)) % INT64_C(256)));
+}
+static void f7(void) {
+  v1[INT64_C(4)] = INT64_C(7);
+}
+static void f8(void) {
+  t2 = INT64_C(0);
+  t3 = INT64_C(1);
+  for (t4 = INT64_C(0); t4 < INT64_C(8); t4 = t4 + INT64_C(1)) {
+    t1 = INT64_C(0);
+    t1 = (t1 + (((((v1[INT64_C(3)] % INT64_C(256)) + INT64_C(256)) % INT64_C(256)) / t3) % INT64_C(2)));
+    t1 = (t1 + (((((v1[INT64_C(4)] % INT64_C(256)) + INT64_C(256)) % INT64_C(256)) / t3) % INT64_C(2)));
+    t2 = (t2 + ((int64_t)((t1 % INT64_C(2)) == INT64_C(1)) * t3));
+    t3 = (t3 * INT64_C(2));
+  }
+  v1[INT64_C(5)] = (INT64_C(0) + ((((t2 - INT64_C(0)) % INT64_C(256)) + INT64_C(256)) % INT64_C(256)));
+}
+static void f9(void) {
+  t1 = v1[INT64_C(3)];
+  if ((int64_t)(v1[INT64_C(1)] >= INT64_C(128))) {
+    t1 = v1[INT64_C(5)];
+  }
+  v1[INT64_C(6)] = t1;
+}
+static void f10(void) {
+  t1 = INT64_C(0);
+  if (((v3[INT64_C(9)] / INT64_C(2)) % INT64_C(2))) {
+    t1 = v1[INT64_C(6)];
+  }
+  if (((v3[INT64_C(9)] / INT64_C(1)) % INT64_C(2))) {
+    t1 = v1[INT64_C(2)];
+  }
+  v1[INT64_C(7)] = t1;
+}
+static void f11(void) {
+  v1[INT64_C(8)] = v2[INT64_C(1)];
+}
+static void f12(void) {
+  v1[INT64_C(9)] = INT64_C(1);
+}
+static void f13(void) {
+  t1 = INT64_C(0);
+  t1 = (t1 + v1[INT64_C(8)]);
+  t1 = (t1 - v1[INT64_C(9)]);
+  t1 = ((-INT64_C(128)) + ((((t1 - (-INT64_C(128))) % INT64_C(256)) + INT64_C(256)) % INT64_C(256)));
+  v1[INT64_C(10)] = t1;
+}
+static void f14(void) {
+  v1[INT64_C(11)] = INT64_C(8);
+}
+static void f15(void) {
+  t1 = INT64_C(0);
+  if (((v3[INT64_C(14)] / INT64_C(2)) % INT64_C(2))) {
+    t1 = v1[INT64_C(10)];
+  }
+  if (((v3[INT64_C(14)] / INT64_C(1)) % INT64_C(2))) {
+    t1 = v1[INT64_C(11)];
+  }
+  v1[INT64_C(12)] = t1;
+}
+static void f16(void) {
+  v1[INT64_C(13)] = INT64_C(0);
+}
+static void f17(void) {
+  v1[INT64_C(14)] = (-INT64_C(1));
+}
+static void f18(void) {
+  t1 = v1[INT64_C(14)];
+  if ((int64_t)(v1[INT64_C(12)] > INT64_C(0))) {
+    t1 = v1[INT64_C(13)];
+  }
+  v1[INT64_C(15)] = t1;
+}
+static void f19(void) {
+}
+static void f20(void) {
+  v1[INT64_C(16)] = v1[INT64_C(7)];
+}
+static void g2(void) {
+  if (v4[INT64_C(2)]) {
+    sci_val(INT64_C(3), INT64_C(1), INT64_C(1), v1[INT64_C(0)]);
+  }
+  if (v4[INT64_C(3)]) {
+    sci_val(INT64_C(4), INT64_C(1), INT64_C(1), v1[INT64_C(1)]);
+  }
+  if (v4[INT64_C(4)]) {
+    sci_val(INT64_C(5), INT64_C(1), INT64_C(1), v1[INT64_C(2)]);
+  }
+  if (v4[INT64_C(5)]) {
+    sci_val(INT64_C(6), INT64_C(1), INT64_C(1), v1[INT64_C(3)]);
+  }
+  if (v4[INT64_C(6)]) {
+    sci_val(INT64_C(7), INT64_C(1), INT64_C(1), v1[INT64_C(4)]);
+  }
+  if (v4[INT64_C(7)]) {
+    sci_val(INT64_C(8), INT64_C(1), INT64_C(1), v1[INT64_C(5)]);
+  }
+  if (v4[INT64_C(8)]) {
+    sci_val(INT64_C(9), INT64_C(1), INT64_C(1), v1[INT64_C(6)]);
+  }
+  if (v4[INT64_C(9)]) {
+    sci_val(INT64_C(10), INT64_C(1), INT64_C(1), v1[INT64_C(7)]);
+  }
+  if (v4[INT64_C(10)]) {
+    sci_val(INT64_C(11), INT64_C(1), INT64_C(1), v1[INT64_C(8)]);
+  }
+  if (v4[INT64_C(11)]) {
+    sci_val(INT64_C(12), INT64_C(1), INT64_C(1), v1[INT64_C(9)]);
+  }
+  if (v4[INT64_C(12)]) {
+    sci_val(INT64_C(13), INT64_C(1), INT64_C(1), v1[INT64_C(10)]);
+  }
+  if (v4[INT64_C(13)]) {
+    sci_val(INT64_C(14), INT64_C(1), INT64_C(1), v1[INT64_C(11)]);
+  }
+  if (v4[INT64_C(14)]) {
+    sci_val(INT64_C(15), INT64_C(1), INT64_C(1), v1[INT64_C(12)]);
+  }
+  if (v4[INT64_C(15)]) {
+    sci_val(INT64_C(16), INT64_C(1), INT64_C(1), v1[INT64_C(13)]);
+  }
+  if (v4[INT64_C(16)]) {
+    sci_val(INT64_C(17), INT64_C(1), INT64_C(1), v1[INT64_C(14)]);
+  }
+  if (v4[INT64_C(17)]) {
+    sci_val(INT64_C(18), INT64_C(1), INT64_C(1), v1[INT64_C(15)]);
+  }
+  if (v4[INT64_C(19)]) {
+    sci_val(INT64_C(20), INT64_C(1), INT64_C(1), v1[INT64_C(16)]);
+  }
+  if (v4[INT64_C(0)]) {
+    e1 = INT64_C(10);
+    if ((int64_t)(e1 >= INT64_C(0))) {
+      v6[INT64_C(0)] = (d1 + e1);
+      v7[INT64_C(0)] = o1;
+      o1 = (o1 + INT64_C(1));
+    }
+  }
+  if (v4[INT64_C(1)]) {
+    e1 = (((int64_t)(v1[INT64_C(15)] >= INT64_C(0)) * (((int64_t)(v1[INT64_C(15)] <= INT64_C(2147483647)) * v1[INT64_C(15)]) + ((int64_t)(v1[INT64_C(15)] > INT64_C(2147483647)) * INT64_C(2147483647)))) - (int64_t)(v1[INT64_C(15)] < INT64_C(0)));
+    if ((int64_t)(e1 >= INT64_C(0))) {
+      v6[INT64_C(1)] = (d1 + e1);
+      v7[INT64_C(1)] = o1;
+      o1 = (o1 + INT64_C(1));
+    }
+  }
+  if (v4[INT64_C(3)]) {
+    v2[INT64_C(0)] = v1[INT64_C(7)];
+  }
+  if (v4[INT64_C(10)]) {
+    v2[INT64_C(1)] = v1[INT64_C(12)];
+  }
+}
+static void g1(void) {
+  for (k1 = INT64_C(0); k1 < INT64_C(20); k1 = k1 + INT64_C(1)) {
+    v4[k1] = INT64_C(0);
+    v5[k1] = INT64_C(0);
+  }
+}
+static void g3(void) {
+  b1 = (-INT64_C(1));
+  for (k1 = INT64_C(0); k1 < INT64_C(2); k1 = k1 + INT64_C(1)) {
+    if ((int64_t)((int64_t)(v6[k1] >= INT64_C(0)) && (int64_t)((int64_t)(b1 < INT64_C(0)) || (int64_t)((int64_t)(v6[k1] < v6[b1]) || (int64_t)((int64_t)(v6[k1] == v6[b1]) && (int64_t)(v7[k1] < v7[b1])))))) {
+      b1 = k1;
+    }
+  }
+}
+static void s0(void) {
+  sci_start();
+  v4[INT64_C(6)] = INT64_C(1);
+  f7();
+  v4[INT64_C(11)] = INT64_C(1);
+  f12();
+  v4[INT64_C(13)] = INT64_C(1);
+  f14();
+  v4[INT64_C(15)] = INT64_C(1);
+  f16();
+  v4[INT64_C(16)] = INT64_C(1);
+  f17();
+}
+static void s1(void) {
+  sci_event(d1, INT64_C(1), INT64_C(1));
+  v4[INT64_C(0)] = INT64_C(1);
+  f1();
+  v4[INT64_C(1)] = INT64_C(1);
+  f2();
+  v4[INT64_C(2)] = INT64_C(1);
+  f3();
+  v4[INT64_C(3)] = INT64_C(1);
+  f4();
+  v4[INT64_C(10)] = INT64_C(1);
+  f11();
+  v4[INT64_C(4)] = INT64_C(1);
+  f5();
+  v4[INT64_C(5)] = INT64_C(1);
+  f6();
+  v4[INT64_C(12)] = INT64_C(1);
+  f13();
+  v4[INT64_C(7)] = INT64_C(1);
+  f8();
+  v4[INT64_C(14)] = INT64_C(1);
+  v3[INT64_C(14)] = INT64_C(1);
+  f15();
+  v4[INT64_C(8)] = INT64_C(1);
+  f9();
+  v4[INT64_C(17)] = INT64_C(1);
+  f18();
+  v4[INT64_C(18)] = INT64_C(1);
+  f19();
+  v5[INT64_C(18)] = (INT64_C(2) - (int64_t)(v1[INT64_C(12)] > INT64_C(0)));
+  v4[INT64_C(9)] = INT64_C(1);
+  v3[INT64_C(9)] = INT64_C(1);
+  f10();
+  if ((int64_t)(v5[INT64_C(18)] == INT64_C(2))) {
+    v4[INT64_C(19)] = INT64_C(1);
+  }
+  if (v4[INT64_C(19)]) {
+    f20();
+  }
+}
+static void s2(void) {
+  sci_event(d1, INT64_C(2), INT64_C(1));
+  v4[INT64_C(1)] = INT64_C(1);
+  f2();
+  v4[INT64_C(3)] = INT64_C(1);
+  f4();
+  v4[INT64_C(10)] = INT64_C(1);
+  f11();
+  v4[INT64_C(4)] = INT64_C(1);
+  f5();
+  v4[INT64_C(5)] = INT64_C(1);
+  f6();
+  v4[INT64_C(12)] = INT64_C(1);
+  f13();
+  v4[INT64_C(7)] = INT64_C(1);
+  f8();
+  v4[INT64_C(14)] = INT64_C(1);
+  v3[INT64_C(14)] = INT64_C(2);
+  f15();
+  v4[INT64_C(8)] = INT64_C(1);
+  f9();
+  v4[INT64_C(17)] = INT64_C(1);
+  f18();
+  v4[INT64_C(18)] = INT64_C(1);
+  f19();
+  v5[INT64_C(18)] = (INT64_C(2) - (int64_t)(v1[INT64_C(12)] > INT64_C(0)));
+  v4[INT64_C(9)] = INT64_C(1);
+  v3[INT64_C(9)] = INT64_C(2);
+  f10();
+  if ((int64_t)(v5[INT64_C(18)] == INT64_C(2))) {
+    v4[INT64_C(19)] = INT64_C(1);
+  }
+  if (v4[INT64_C(19)]) {
+    f20();
+  }
+}
+void sci_main(void) {
+  v6[INT64_C(1)] = (-INT64_C(1));
+  o1 = INT64_C(1);
+  u1 = sci_until();
+  n1 = sci_limit();
+  s0();
+  g2();
+  for (i1 = INT64_C(0); i1 < n1; i1 = i1 + INT64_C(1)) {
+    g3();
+    if ((int64_t)(b1 < INT64_C(0))) {
+      sci_end(INT64_C(2));
+    }
+    if ((int64_t)(v6[b1] > u1)) {
+      sci_end(INT64_C(3));
+    }
+    d1 = v6[b1];
+    v6[b1] = (-INT64_C(1));
+    g1();
+    if ((int64_t)(b1 == INT64_C(0))) {
+      s1();
+    }
+    if ((int64_t)(b1 == INT64_C(1))) {
+      s2();
+    }
+    g2();
+  }
+  sci_end(INT64_C(1));
+}

@@ -1,0 +1,329 @@
+#include <stdint.h>
+extern void sci_start(void);
+extern void sci_event(int64_t a, int64_t b, int64_t c);
+extern void sci_val(int64_t a, int64_t b, int64_t c, int64_t d);
+extern void sci_end(int64_t a);
+extern void sci_stop(int64_t a, int64_t b, int64_t c);
+extern int64_t sci_more(int64_t a);
+extern int64_t sci_input(int64_t a);
+extern int64_t sci_until(void);
+extern int64_t sci_limit(void);
+static int64_t v1[50];
+static int64_t v2[8];
+static int64_t v3[10];
+static int64_t v4[10];
+static int64_t v6[1];
+static int64_t v7[1];
+static int64_t t1;
+static int64_t n1;
+static int64_t i1;
+static int64_t u1;
+static int64_t d1;
+static int64_t o1;
+static int64_t b1;
+static int64_t e1;
+static int64_t k1;
+static void f1(void) {
+}
+static void f2(void) {
+  t1 = sci_more(INT64_C(1));
+  if (t1) {
+    v1[INT64_C(0)] = sci_input(INT64_C(1));
+  } else {
+    sci_stop(INT64_C(2), INT64_C(2), INT64_C(0));
+  }
+}
+static void f3(void) {
+  t1 = v1[INT64_C(0)];
+  if ((int64_t)(t1 < (-INT64_C(2147483648)))) {
+    sci_stop(INT64_C(0), INT64_C(3), INT64_C(0));
+  }
+  if ((int64_t)(t1 > INT64_C(2147483647))) {
+    sci_stop(INT64_C(0), INT64_C(3), INT64_C(0));
+  }
+  v1[INT64_C(1)] = t1;
+}
+static void f4(void) {
+  v1[INT64_C(2)] = v2[INT64_C(0)];
+  v1[INT64_C(3)] = v2[INT64_C(1)];
+  v1[INT64_C(4)] = v2[INT64_C(2)];
+  v1[INT64_C(5)] = v2[INT64_C(3)];
+  v1[INT64_C(6)] = v2[INT64_C(4)];
+  v1[INT64_C(7)] = v2[INT64_C(5)];
+  v1[INT64_C(8)] = v2[INT64_C(6)];
+  v1[INT64_C(9)] = v2[INT64_C(7)];
+}
+static void f5(void) {
+  v1[INT64_C(10)] = v1[INT64_C(2)];
+  v1[INT64_C(11)] = v1[INT64_C(3)];
+  v1[INT64_C(12)] = v1[INT64_C(4)];
+  v1[INT64_C(13)] = v1[INT64_C(5)];
+  v1[INT64_C(14)] = v1[INT64_C(6)];
+  v1[INT64_C(15)] = v1[INT64_C(7)];
+  v1[INT64_C(16)] = v1[INT64_C(8)];
+}
+static void f6(void) {
+  v1[INT64_C(17)] = v1[INT64_C(1)];
+  v1[INT64_C(18)] = v1[INT64_C(10)];
+  v1[INT64_C(19)] = v1[INT64_C(11)];
+  v1[INT64_C(20)] = v1[INT64_C(12)];
+  v1[INT64_C(21)] = v1[INT64_C(13)];
+  v1[INT64_C(22)] = v1[INT64_C(14)];
+  v1[INT64_C(23)] = v1[INT64_C(15)];
+  v1[INT64_C(24)] = v1[INT64_C(16)];
+}
+static void f7(void) {
+  v1[INT64_C(25)] = INT64_C(1);
+  v1[INT64_C(26)] = INT64_C(3);
+  v1[INT64_C(27)] = INT64_C(6);
+  v1[INT64_C(28)] = INT64_C(10);
+  v1[INT64_C(29)] = INT64_C(10);
+  v1[INT64_C(30)] = INT64_C(6);
+  v1[INT64_C(31)] = INT64_C(3);
+  v1[INT64_C(32)] = INT64_C(1);
+}
+static void f8(void) {
+  t1 = (v1[INT64_C(17)] * v1[INT64_C(25)]);
+  if ((int64_t)(t1 < (-INT64_C(2147483648)))) {
+    sci_stop(INT64_C(0), INT64_C(8), INT64_C(0));
+  }
+  if ((int64_t)(t1 > INT64_C(2147483647))) {
+    sci_stop(INT64_C(0), INT64_C(8), INT64_C(0));
+  }
+  v1[INT64_C(33)] = t1;
+  t1 = (v1[INT64_C(18)] * v1[INT64_C(26)]);
+  if ((int64_t)(t1 < (-INT64_C(2147483648)))) {
+    sci_stop(INT64_C(0), INT64_C(8), INT64_C(0));
+  }
+  if ((int64_t)(t1 > INT64_C(2147483647))) {
+    sci_stop(INT64_C(0), INT64_C(8), INT64_C(0));
+  }
+  v1[INT64_C(34)] = t1;
+  t1 = (v1[INT64_C(19)] * v1[INT64_C(27)]);
+  if ((int64_t)(t1 < (-INT64_C(2147483648)))) {
+    sci_stop(INT64_C(0), INT64_C(8), INT64_C(0));
+  }
+  if ((int64_t)(t1 > INT64_C(2147483647))) {
+    sci_stop(INT64_C(0), INT64_C(8), INT64_C(0));
+  }
+  v1[INT64_C(35)] = t1;
+  t1 = (v1[INT64_C(20)] * v1[INT64_C(28)]);
+  if ((int64_t)(t1 < (-INT64_C(2147483648)))) {
+    sci_stop(INT64_C(0), INT64_C(8), INT64_C(0));
+  }
+  if ((int64_t)(t1 > INT64_C(2147483647))) {
+    sci_stop(INT64_C(0), INT64_C(8), INT64_C(0));
+  }
+  v1[INT64_C(36)] = t1;
+  t1 = (v1[INT64_C(21)] * v1[INT64_C(29)]);
+  if ((int64_t)(t1 < (-INT64_C(2147483648)))) {
+    sci_stop(INT64_C(0), INT64_C(8), INT64_C(0));
+  }
+  if ((int64_t)(t1 > INT64_C(2147483647))) {
+    sci_stop(INT64_C(0), INT64_C(8), INT64_C(0));
+  }
+  v1[INT64_C(37)] = t1;
+  t1 = (v1[INT64_C(22)] * v1[INT64_C(30)]);
+  if ((int64_t)(t1 < (-INT64_C(2147483648)))) {
+    sci_stop(INT64_C(0), INT64_C(8), INT64_C(0));
+  }
+  if ((int64_t)(t1 > INT64_C(2147483647))) {
+    sci_stop(INT64_C(0), INT64_C(8), INT64_C(0));
+  }
+  v1[INT64_C(38)] = t1;
+  t1 = (v1[INT64_C(23)] * v1[INT64_C(31)]);
+  if ((int64_t)(t1 < (-INT64_C(2147483648)))) {
+    sci_stop(INT64_C(0), INT64_C(8), INT64_C(0));
+  }
+  if ((int64_t)(t1 > INT64_C(2147483647))) {
+    sci_stop(INT64_C(0), INT64_C(8), INT64_C(0));
+  }
+  v1[INT64_C(39)] = t1;
+  t1 = (v1[INT64_C(24)] * v1[INT64_C(32)]);
+  if ((int64_t)(t1 < (-INT64_C(2147483648)))) {
+    sci_stop(INT64_C(0), INT64_C(8), INT64_C(0));
+  }
+  if ((int64_t)(t1 > INT64_C(2147483647))) {
+    sci_stop(INT64_C(0), INT64_C(8), INT64_C(0));
+  }
+  v1[INT64_C(40)] = t1;
+}
+static void f9(void) {
+  v1[INT64_C(41)] = v1[INT64_C(33)];
+  v1[INT64_C(42)] = v1[INT64_C(34)];
+  v1[INT64_C(43)] = v1[INT64_C(35)];
+  v1[INT64_C(44)] = v1[INT64_C(36)];
+  v1[INT64_C(45)] = v1[INT64_C(37)];
+  v1[INT64_C(46)] = v1[INT64_C(38)];
+  v1[INT64_C(47)] = v1[INT64_C(39)];
+  v1[INT64_C(48)] = v1[INT64_C(40)];
+}
+static void f10(void) {
+  t1 = INT64_C(0);
+  t1 = (t1 + v1[INT64_C(41)]);
+  t1 = (t1 + v1[INT64_C(42)]);
+  t1 = (t1 + v1[INT64_C(43)]);
+  t1 = (t1 + v1[INT64_C(44)]);
+  t1 = (t1 + v1[INT64_C(45)]);
+  t1 = (t1 + v1[INT64_C(46)]);
+  t1 = (t1 + v1[INT64_C(47)]);
+  t1 = (t1 + v1[INT64_C(48)]);
+  if ((int64_t)(t1 < (-INT64_C(2147483648)))) {
+    sci_stop(INT64_C(0), INT64_C(10), INT64_C(0));
+  }
+  if ((int64_t)(t1 > INT64_C(2147483647))) {
+    sci_stop(INT64_C(0), INT64_C(10), INT64_C(0));
+  }
+  v1[INT64_C(49)] = t1;
+}
+static void g2(void) {
+  if (v4[INT64_C(1)]) {
+    sci_val(INT64_C(2), INT64_C(1), INT64_C(1), v1[INT64_C(0)]);
+  }
+  if (v4[INT64_C(2)]) {
+    sci_val(INT64_C(3), INT64_C(1), INT64_C(1), v1[INT64_C(1)]);
+  }
+  if (v4[INT64_C(3)]) {
+    sci_val(INT64_C(4), INT64_C(1), INT64_C(1), v1[INT64_C(2)]);
+    sci_val(INT64_C(4), INT64_C(1), INT64_C(2), v1[INT64_C(3)]);
+    sci_val(INT64_C(4), INT64_C(1), INT64_C(3), v1[INT64_C(4)]);
+    sci_val(INT64_C(4), INT64_C(1), INT64_C(4), v1[INT64_C(5)]);
+    sci_val(INT64_C(4), INT64_C(1), INT64_C(5), v1[INT64_C(6)]);
+    sci_val(INT64_C(4), INT64_C(1), INT64_C(6), v1[INT64_C(7)]);
+    sci_val(INT64_C(4), INT64_C(1), INT64_C(7), v1[INT64_C(8)]);
+    sci_val(INT64_C(4), INT64_C(1), INT64_C(8), v1[INT64_C(9)]);
+  }
+  if (v4[INT64_C(4)]) {
+    sci_val(INT64_C(5), INT64_C(1), INT64_C(1), v1[INT64_C(10)]);
+    sci_val(INT64_C(5), INT64_C(1), INT64_C(2), v1[INT64_C(11)]);
+    sci_val(INT64_C(5), INT64_C(1), INT64_C(3), v1[INT64_C(12)]);
+    sci_val(INT64_C(5), INT64_C(1), INT64_C(4), v1[INT64_C(13)]);
+    sci_val(INT64_C(5), INT64_C(1), INT64_C(5), v1[INT64_C(14)]);
+    sci_val(INT64_C(5), INT64_C(1), INT64_C(6), v1[INT64_C(15)]);
+    sci_val(INT64_C(5), INT64_C(1), INT64_C(7), v1[INT64_C(16)]);
+  }
+  if (v4[INT64_C(5)]) {
+    sci_val(INT64_C(6), INT64_C(1), INT64_C(1), v1[INT64_C(17)]);
+    sci_val(INT64_C(6), INT64_C(1), INT64_C(2), v1[INT64_C(18)]);
+    sci_val(INT64_C(6), INT64_C(1), INT64_C(3), v1[INT64_C(19)]);
+    sci_val(INT64_C(6), INT64_C(1), INT64_C(4), v1[INT64_C(20)]);
+    sci_val(INT64_C(6), INT64_C(1), INT64_C(5), v1[INT64_C(21)]);
+    sci_val(INT64_C(6), INT64_C(1), INT64_C(6), v1[INT64_C(22)]);
+    sci_val(INT64_C(6), INT64_C(1), INT64_C(7), v1[INT64_C(23)]);
+    sci_val(INT64_C(6), INT64_C(1), INT64_C(8), v1[INT64_C(24)]);
+  }
+  if (v4[INT64_C(6)]) {
+    sci_val(INT64_C(7), INT64_C(1), INT64_C(1), v1[INT64_C(25)]);
+    sci_val(INT64_C(7), INT64_C(1), INT64_C(2), v1[INT64_C(26)]);
+    sci_val(INT64_C(7), INT64_C(1), INT64_C(3), v1[INT64_C(27)]);
+    sci_val(INT64_C(7), INT64_C(1), INT64_C(4), v1[INT64_C(28)]);
+    sci_val(INT64_C(7), INT64_C(1), INT64_C(5), v1[INT64_C(29)]);
+    sci_val(INT64_C(7), INT64_C(1), INT64_C(6), v1[INT64_C(30)]);
+    sci_val(INT64_C(7), INT64_C(1), INT64_C(7), v1[INT64_C(31)]);
+    sci_val(INT64_C(7), INT64_C(1), INT64_C(8), v1[INT64_C(32)]);
+  }
+  if (v4[INT64_C(7)]) {
+    sci_val(INT64_C(8), INT64_C(1), INT64_C(1), v1[INT64_C(33)]);
+    sci_val(INT64_C(8), INT64_C(1), INT64_C(2), v1[INT64_C(34)]);
+    sci_val(INT64_C(8), INT64_C(1), INT64_C(3), v1[INT64_C(35)]);
+    sci_val(INT64_C(8), INT64_C(1), INT64_C(4), v1[INT64_C(36)]);
+    sci_val(INT64_C(8), INT64_C(1), INT64_C(5), v1[INT64_C(37)]);
+    sci_val(INT64_C(8), INT64_C(1), INT64_C(6), v1[INT64_C(38)]);
+    sci_val(INT64_C(8), INT64_C(1), INT64_C(7), v1[INT64_C(39)]);
+    sci_val(INT64_C(8), INT64_C(1), INT64_C(8), v1[INT64_C(40)]);
+  }
+  if (v4[INT64_C(8)]) {
+    sci_val(INT64_C(9), INT64_C(1), INT64_C(1), v1[INT64_C(41)]);
+    sci_val(INT64_C(9), INT64_C(2), INT64_C(1), v1[INT64_C(42)]);
+    sci_val(INT64_C(9), INT64_C(3), INT64_C(1), v1[INT64_C(43)]);
+    sci_val(INT64_C(9), INT64_C(4), INT64_C(1), v1[INT64_C(44)]);
+    sci_val(INT64_C(9), INT64_C(5), INT64_C(1), v1[INT64_C(45)]);
+    sci_val(INT64_C(9), INT64_C(6), INT64_C(1), v1[INT64_C(46)]);
+    sci_val(INT64_C(9), INT64_C(7), INT64_C(1), v1[INT64_C(47)]);
+    sci_val(INT64_C(9), INT64_C(8), INT64_C(1), v1[INT64_C(48)]);
+  }
+  if (v4[INT64_C(9)]) {
+    sci_val(INT64_C(10), INT64_C(1), INT64_C(1), v1[INT64_C(49)]);
+  }
+  if (v4[INT64_C(0)]) {
+    e1 = INT64_C(1);
+    if ((int64_t)(e1 >= INT64_C(0))) {
+      v6[INT64_C(0)] = (d1 + e1);
+      v7[INT64_C(0)] = o1;
+      o1 = (o1 + INT64_C(1));
+    }
+  }
+  if (v4[INT64_C(3)]) {
+    v2[INT64_C(0)] = v1[INT64_C(17)];
+    v2[INT64_C(1)] = v1[INT64_C(18)];
+    v2[INT64_C(2)] = v1[INT64_C(19)];
+    v2[INT64_C(3)] = v1[INT64_C(20)];
+    v2[INT64_C(4)] = v1[INT64_C(21)];
+    v2[INT64_C(5)] = v1[INT64_C(22)];
+    v2[INT64_C(6)] = v1[INT64_C(23)];
+    v2[INT64_C(7)] = v1[INT64_C(24)];
+  }
+}
+static void g1(void) {
+  for (k1 = INT64_C(0); k1 < INT64_C(10); k1 = k1 + INT64_C(1)) {
+    v4[k1] = INT64_C(0);
+  }
+}
+static void g3(void) {
+  b1 = (-INT64_C(1));
+  for (k1 = INT64_C(0); k1 < INT64_C(1); k1 = k1 + INT64_C(1)) {
+    if ((int64_t)((int64_t)(v6[k1] >= INT64_C(0)) && (int64_t)((int64_t)(b1 < INT64_C(0)) || (int64_t)((int64_t)(v6[k1] < v6[b1]) || (int64_t)((int64_t)(v6[k1] == v6[b1]) && (int64_t)(v7[k1] < v7[b1])))))) {
+      b1 = k1;
+    }
+  }
+}
+static void s0(void) {
+  sci_start();
+  v4[INT64_C(6)] = INT64_C(1);
+  f7();
+}
+static void s1(void) {
+  sci_event(d1, INT64_C(1), INT64_C(1));
+  v4[INT64_C(0)] = INT64_C(1);
+  f1();
+  v4[INT64_C(1)] = INT64_C(1);
+  f2();
+  v4[INT64_C(3)] = INT64_C(1);
+  f4();
+  v4[INT64_C(2)] = INT64_C(1);
+  f3();
+  v4[INT64_C(4)] = INT64_C(1);
+  f5();
+  v4[INT64_C(5)] = INT64_C(1);
+  f6();
+  v4[INT64_C(7)] = INT64_C(1);
+  f8();
+  v4[INT64_C(8)] = INT64_C(1);
+  f9();
+  v4[INT64_C(9)] = INT64_C(1);
+  f10();
+}
+void sci_main(void) {
+  o1 = INT64_C(1);
+  u1 = sci_until();
+  n1 = sci_limit();
+  s0();
+  g2();
+  for (i1 = INT64_C(0); i1 < n1; i1 = i1 + INT64_C(1)) {
+    g3();
+    if ((int64_t)(b1 < INT64_C(0))) {
+      sci_end(INT64_C(2));
+    }
+    if ((int64_t)(v6[b1] > u1)) {
+      sci_end(INT64_C(3));
+    }
+    d1 = v6[b1];
+    v6[b1] = (-INT64_C(1));
+    g1();
+    if ((int64_t)(b1 == INT64_C(0))) {
+      s1();
+    }
+    g2();
+  }
+  sci_end(INT64_C(1));
+}

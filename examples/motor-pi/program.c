@@ -1,0 +1,461 @@
+#include <stdint.h>
+extern void sci_start(void);
+extern void sci_event(int64_t a, int64_t b, int64_t c);
+extern void sci_val(int64_t a, int64_t b, int64_t c, int64_t d);
+extern void sci_end(int64_t a);
+extern void sci_stop(int64_t a, int64_t b, int64_t c);
+extern int64_t sci_more(int64_t a);
+extern int64_t sci_input(int64_t a);
+extern int64_t sci_until(void);
+extern int64_t sci_limit(void);
+static int64_t v1[26];
+static int64_t v2[2];
+static int64_t v3[29];
+static int64_t v4[29];
+static int64_t v6[3];
+static int64_t v7[3];
+static int64_t t1;
+static int64_t n1;
+static int64_t i1;
+static int64_t u1;
+static int64_t d1;
+static int64_t o1;
+static int64_t b1;
+static int64_t e1;
+static int64_t k1;
+static void f1(void) {
+}
+static void f2(void) {
+}
+static void f3(void) {
+  t1 = sci_more(INT64_C(1));
+  if (t1) {
+    v1[INT64_C(0)] = sci_input(INT64_C(1));
+  } else {
+    sci_stop(INT64_C(2), INT64_C(3), INT64_C(0));
+  }
+}
+static void f4(void) {
+  t1 = sci_more(INT64_C(2));
+  if (t1) {
+    v1[INT64_C(1)] = sci_input(INT64_C(2));
+  } else {
+    sci_stop(INT64_C(2), INT64_C(4), INT64_C(0));
+  }
+}
+static void f5(void) {
+}
+static void f6(void) {
+  t1 = sci_more(INT64_C(3));
+  if (t1) {
+    v1[INT64_C(2)] = sci_input(INT64_C(3));
+  } else {
+    sci_stop(INT64_C(2), INT64_C(6), INT64_C(0));
+  }
+}
+static void f7(void) {
+  t1 = sci_more(INT64_C(4));
+  if (t1) {
+    v1[INT64_C(3)] = sci_input(INT64_C(4));
+  } else {
+    sci_stop(INT64_C(2), INT64_C(7), INT64_C(0));
+  }
+}
+static void f8(void) {
+  v1[INT64_C(4)] = v1[INT64_C(1)];
+}
+static void f9(void) {
+  t1 = INT64_C(0);
+  t1 = (t1 + v1[INT64_C(4)]);
+  t1 = (t1 - v1[INT64_C(22)]);
+  if ((int64_t)(t1 < (-INT64_C(2147483648)))) {
+    sci_stop(INT64_C(0), INT64_C(9), INT64_C(0));
+  }
+  if ((int64_t)(t1 > INT64_C(2147483647))) {
+    sci_stop(INT64_C(0), INT64_C(9), INT64_C(0));
+  }
+  v1[INT64_C(5)] = t1;
+}
+static void f10(void) {
+  t1 = (INT64_C(819) * v1[INT64_C(5)]);
+  if ((int64_t)(t1 < (-INT64_C(2147483648)))) {
+    sci_stop(INT64_C(0), INT64_C(10), INT64_C(0));
+  }
+  if ((int64_t)(t1 > INT64_C(2147483647))) {
+    sci_stop(INT64_C(0), INT64_C(10), INT64_C(0));
+  }
+  v1[INT64_C(6)] = t1;
+}
+static void f11(void) {
+  v1[INT64_C(7)] = ((v1[INT64_C(6)] - (((v1[INT64_C(6)] % INT64_C(4096)) + INT64_C(4096)) % INT64_C(4096))) / INT64_C(4096));
+}
+static void f12(void) {
+  t1 = (INT64_C(131) * v1[INT64_C(5)]);
+  if ((int64_t)(t1 < (-INT64_C(2147483648)))) {
+    sci_stop(INT64_C(0), INT64_C(12), INT64_C(0));
+  }
+  if ((int64_t)(t1 > INT64_C(2147483647))) {
+    sci_stop(INT64_C(0), INT64_C(12), INT64_C(0));
+  }
+  v1[INT64_C(8)] = t1;
+}
+static void f13(void) {
+  v1[INT64_C(9)] = v2[INT64_C(0)];
+}
+static void f14(void) {
+  v1[INT64_C(10)] = ((v1[INT64_C(9)] - (((v1[INT64_C(9)] % INT64_C(65536)) + INT64_C(65536)) % INT64_C(65536))) / INT64_C(65536));
+}
+static void f15(void) {
+  t1 = INT64_C(0);
+  t1 = (t1 + v1[INT64_C(7)]);
+  t1 = (t1 + v1[INT64_C(10)]);
+  if ((int64_t)(t1 < (-INT64_C(2147483648)))) {
+    sci_stop(INT64_C(0), INT64_C(15), INT64_C(0));
+  }
+  if ((int64_t)(t1 > INT64_C(2147483647))) {
+    sci_stop(INT64_C(0), INT64_C(15), INT64_C(0));
+  }
+  v1[INT64_C(11)] = t1;
+}
+static void f16(void) {
+  t1 = v1[INT64_C(11)];
+  if ((int64_t)(t1 > INT64_C(1000))) {
+    t1 = INT64_C(1000);
+  }
+  if ((int64_t)(v1[INT64_C(11)] < INT64_C(0))) {
+    t1 = INT64_C(0);
+  }
+  v1[INT64_C(12)] = t1;
+}
+static void f17(void) {
+  t1 = INT64_C(0);
+  t1 = (t1 + v1[INT64_C(11)]);
+  t1 = (t1 - v1[INT64_C(12)]);
+  if ((int64_t)(t1 < (-INT64_C(2147483648)))) {
+    sci_stop(INT64_C(0), INT64_C(17), INT64_C(0));
+  }
+  if ((int64_t)(t1 > INT64_C(2147483647))) {
+    sci_stop(INT64_C(0), INT64_C(17), INT64_C(0));
+  }
+  v1[INT64_C(13)] = t1;
+}
+static void f18(void) {
+  v1[INT64_C(14)] = ((int64_t)(v1[INT64_C(13)] > INT64_C(0)) - (int64_t)(v1[INT64_C(13)] < INT64_C(0)));
+}
+static void f19(void) {
+  v1[INT64_C(15)] = ((int64_t)(v1[INT64_C(5)] > INT64_C(0)) - (int64_t)(v1[INT64_C(5)] < INT64_C(0)));
+}
+static void f20(void) {
+  t1 = (v1[INT64_C(14)] * v1[INT64_C(15)]);
+  if ((int64_t)(t1 < (-INT64_C(2147483648)))) {
+    sci_stop(INT64_C(0), INT64_C(20), INT64_C(0));
+  }
+  if ((int64_t)(t1 > INT64_C(2147483647))) {
+    sci_stop(INT64_C(0), INT64_C(20), INT64_C(0));
+  }
+  v1[INT64_C(16)] = t1;
+}
+static void f21(void) {
+  v1[INT64_C(17)] = INT64_C(0);
+}
+static void f22(void) {
+  t1 = v1[INT64_C(8)];
+  if ((int64_t)(v1[INT64_C(16)] > INT64_C(0))) {
+    t1 = v1[INT64_C(17)];
+  }
+  v1[INT64_C(18)] = t1;
+}
+static void f23(void) {
+  t1 = INT64_C(0);
+  t1 = (t1 + v1[INT64_C(9)]);
+  t1 = (t1 + v1[INT64_C(18)]);
+  if ((int64_t)(t1 < (-INT64_C(2147483648)))) {
+    sci_stop(INT64_C(0), INT64_C(23), INT64_C(0));
+  }
+  if ((int64_t)(t1 > INT64_C(2147483647))) {
+    sci_stop(INT64_C(0), INT64_C(23), INT64_C(0));
+  }
+  v1[INT64_C(19)] = t1;
+}
+static void f24(void) {
+  t1 = (INT64_C(30) * v1[INT64_C(12)]);
+  if ((int64_t)(t1 < (-INT64_C(2147483648)))) {
+    sci_stop(INT64_C(0), INT64_C(24), INT64_C(0));
+  }
+  if ((int64_t)(t1 > INT64_C(2147483647))) {
+    sci_stop(INT64_C(0), INT64_C(24), INT64_C(0));
+  }
+  v1[INT64_C(20)] = t1;
+}
+static void f25(void) {
+  v1[INT64_C(21)] = v2[INT64_C(1)];
+}
+static void f26(void) {
+  v1[INT64_C(22)] = ((v1[INT64_C(21)] - (((v1[INT64_C(21)] % INT64_C(16384)) + INT64_C(16384)) % INT64_C(16384))) / INT64_C(16384));
+}
+static void f27(void) {
+  t1 = INT64_C(0);
+  t1 = (t1 + v1[INT64_C(20)]);
+  t1 = (t1 - v1[INT64_C(3)]);
+  t1 = (t1 - v1[INT64_C(22)]);
+  if ((int64_t)(t1 < (-INT64_C(2147483648)))) {
+    sci_stop(INT64_C(0), INT64_C(27), INT64_C(0));
+  }
+  if ((int64_t)(t1 > INT64_C(2147483647))) {
+    sci_stop(INT64_C(0), INT64_C(27), INT64_C(0));
+  }
+  v1[INT64_C(23)] = t1;
+}
+static void f28(void) {
+  t1 = (INT64_C(164) * v1[INT64_C(23)]);
+  if ((int64_t)(t1 < (-INT64_C(2147483648)))) {
+    sci_stop(INT64_C(0), INT64_C(28), INT64_C(0));
+  }
+  if ((int64_t)(t1 > INT64_C(2147483647))) {
+    sci_stop(INT64_C(0), INT64_C(28), INT64_C(0));
+  }
+  v1[INT64_C(24)] = t1;
+}
+static void f29(void) {
+  t1 = INT64_C(0);
+  t1 = (t1 + v1[INT64_C(21)]);
+  t1 = (t1 + v1[INT64_C(24)]);
+  if ((int64_t)(t1 < (-INT64_C(2147483648)))) {
+    sci_stop(INT64_C(0), INT64_C(29), INT64_C(0));
+  }
+  if ((int64_t)(t1 > INT64_C(2147483647))) {
+    sci_stop(INT64_C(0), INT64_C(29), INT64_C(0));
+  }
+  v1[INT64_C(25)] = t1;
+}
+static void g2(void) {
+  if (v4[INT64_C(2)]) {
+    sci_val(INT64_C(3), INT64_C(1), INT64_C(1), v1[INT64_C(0)]);
+  }
+  if (v4[INT64_C(3)]) {
+    sci_val(INT64_C(4), INT64_C(1), INT64_C(1), v1[INT64_C(1)]);
+  }
+  if (v4[INT64_C(5)]) {
+    sci_val(INT64_C(6), INT64_C(1), INT64_C(1), v1[INT64_C(2)]);
+  }
+  if (v4[INT64_C(6)]) {
+    sci_val(INT64_C(7), INT64_C(1), INT64_C(1), v1[INT64_C(3)]);
+  }
+  if (v4[INT64_C(7)]) {
+    sci_val(INT64_C(8), INT64_C(1), INT64_C(1), v1[INT64_C(4)]);
+  }
+  if (v4[INT64_C(8)]) {
+    sci_val(INT64_C(9), INT64_C(1), INT64_C(1), v1[INT64_C(5)]);
+  }
+  if (v4[INT64_C(9)]) {
+    sci_val(INT64_C(10), INT64_C(1), INT64_C(1), v1[INT64_C(6)]);
+  }
+  if (v4[INT64_C(10)]) {
+    sci_val(INT64_C(11), INT64_C(1), INT64_C(1), v1[INT64_C(7)]);
+  }
+  if (v4[INT64_C(11)]) {
+    sci_val(INT64_C(12), INT64_C(1), INT64_C(1), v1[INT64_C(8)]);
+  }
+  if (v4[INT64_C(12)]) {
+    sci_val(INT64_C(13), INT64_C(1), INT64_C(1), v1[INT64_C(9)]);
+  }
+  if (v4[INT64_C(13)]) {
+    sci_val(INT64_C(14), INT64_C(1), INT64_C(1), v1[INT64_C(10)]);
+  }
+  if (v4[INT64_C(14)]) {
+    sci_val(INT64_C(15), INT64_C(1), INT64_C(1), v1[INT64_C(11)]);
+  }
+  if (v4[INT64_C(15)]) {
+    sci_val(INT64_C(16), INT64_C(1), INT64_C(1), v1[INT64_C(12)]);
+  }
+  if (v4[INT64_C(16)]) {
+    sci_val(INT64_C(17), INT64_C(1), INT64_C(1), v1[INT64_C(13)]);
+  }
+  if (v4[INT64_C(17)]) {
+    sci_val(INT64_C(18), INT64_C(1), INT64_C(1), v1[INT64_C(14)]);
+  }
+  if (v4[INT64_C(18)]) {
+    sci_val(INT64_C(19), INT64_C(1), INT64_C(1), v1[INT64_C(15)]);
+  }
+  if (v4[INT64_C(19)]) {
+    sci_val(INT64_C(20), INT64_C(1), INT64_C(1), v1[INT64_C(16)]);
+  }
+  if (v4[INT64_C(20)]) {
+    sci_val(INT64_C(21), INT64_C(1), INT64_C(1), v1[INT64_C(17)]);
+  }
+  if (v4[INT64_C(21)]) {
+    sci_val(INT64_C(22), INT64_C(1), INT64_C(1), v1[INT64_C(18)]);
+  }
+  if (v4[INT64_C(22)]) {
+    sci_val(INT64_C(23), INT64_C(1), INT64_C(1), v1[INT64_C(19)]);
+  }
+  if (v4[INT64_C(23)]) {
+    sci_val(INT64_C(24), INT64_C(1), INT64_C(1), v1[INT64_C(20)]);
+  }
+  if (v4[INT64_C(24)]) {
+    sci_val(INT64_C(25), INT64_C(1), INT64_C(1), v1[INT64_C(21)]);
+  }
+  if (v4[INT64_C(25)]) {
+    sci_val(INT64_C(26), INT64_C(1), INT64_C(1), v1[INT64_C(22)]);
+  }
+  if (v4[INT64_C(26)]) {
+    sci_val(INT64_C(27), INT64_C(1), INT64_C(1), v1[INT64_C(23)]);
+  }
+  if (v4[INT64_C(27)]) {
+    sci_val(INT64_C(28), INT64_C(1), INT64_C(1), v1[INT64_C(24)]);
+  }
+  if (v4[INT64_C(28)]) {
+    sci_val(INT64_C(29), INT64_C(1), INT64_C(1), v1[INT64_C(25)]);
+  }
+  if (v4[INT64_C(0)]) {
+    e1 = INT64_C(1);
+    if ((int64_t)(e1 >= INT64_C(0))) {
+      v6[INT64_C(0)] = (d1 + e1);
+      v7[INT64_C(0)] = o1;
+      o1 = (o1 + INT64_C(1));
+    }
+  }
+  if (v4[INT64_C(1)]) {
+    e1 = (((int64_t)(v1[INT64_C(0)] >= INT64_C(0)) * (((int64_t)(v1[INT64_C(0)] <= INT64_C(2147483647)) * v1[INT64_C(0)]) + ((int64_t)(v1[INT64_C(0)] > INT64_C(2147483647)) * INT64_C(2147483647)))) - (int64_t)(v1[INT64_C(0)] < INT64_C(0)));
+    if ((int64_t)(e1 >= INT64_C(0))) {
+      v6[INT64_C(1)] = (d1 + e1);
+      v7[INT64_C(1)] = o1;
+      o1 = (o1 + INT64_C(1));
+    }
+  }
+  if (v4[INT64_C(4)]) {
+    e1 = (((int64_t)(v1[INT64_C(2)] >= INT64_C(0)) * (((int64_t)(v1[INT64_C(2)] <= INT64_C(2147483647)) * v1[INT64_C(2)]) + ((int64_t)(v1[INT64_C(2)] > INT64_C(2147483647)) * INT64_C(2147483647)))) - (int64_t)(v1[INT64_C(2)] < INT64_C(0)));
+    if ((int64_t)(e1 >= INT64_C(0))) {
+      v6[INT64_C(2)] = (d1 + e1);
+      v7[INT64_C(2)] = o1;
+      o1 = (o1 + INT64_C(1));
+    }
+  }
+  if (v4[INT64_C(12)]) {
+    v2[INT64_C(0)] = v1[INT64_C(19)];
+  }
+  if (v4[INT64_C(24)]) {
+    v2[INT64_C(1)] = v1[INT64_C(25)];
+  }
+}
+static void g1(void) {
+  for (k1 = INT64_C(0); k1 < INT64_C(29); k1 = k1 + INT64_C(1)) {
+    v4[k1] = INT64_C(0);
+  }
+}
+static void g3(void) {
+  b1 = (-INT64_C(1));
+  for (k1 = INT64_C(0); k1 < INT64_C(3); k1 = k1 + INT64_C(1)) {
+    if ((int64_t)((int64_t)(v6[k1] >= INT64_C(0)) && (int64_t)((int64_t)(b1 < INT64_C(0)) || (int64_t)((int64_t)(v6[k1] < v6[b1]) || (int64_t)((int64_t)(v6[k1] == v6[b1]) && (int64_t)(v7[k1] < v7[b1])))))) {
+      b1 = k1;
+    }
+  }
+}
+static void s0(void) {
+  sci_start();
+  v4[INT64_C(20)] = INT64_C(1);
+  f21();
+}
+static void s1(void) {
+  sci_event(d1, INT64_C(1), INT64_C(1));
+  v4[INT64_C(0)] = INT64_C(1);
+  f1();
+  v4[INT64_C(7)] = INT64_C(1);
+  f8();
+  v4[INT64_C(12)] = INT64_C(1);
+  f13();
+  v4[INT64_C(24)] = INT64_C(1);
+  f25();
+  v4[INT64_C(13)] = INT64_C(1);
+  f14();
+  v4[INT64_C(25)] = INT64_C(1);
+  f26();
+  v4[INT64_C(8)] = INT64_C(1);
+  f9();
+  v4[INT64_C(9)] = INT64_C(1);
+  f10();
+  v4[INT64_C(11)] = INT64_C(1);
+  f12();
+  v4[INT64_C(18)] = INT64_C(1);
+  f19();
+  v4[INT64_C(10)] = INT64_C(1);
+  f11();
+  v4[INT64_C(14)] = INT64_C(1);
+  f15();
+  v4[INT64_C(15)] = INT64_C(1);
+  f16();
+  v4[INT64_C(16)] = INT64_C(1);
+  f17();
+  v4[INT64_C(23)] = INT64_C(1);
+  f24();
+  v4[INT64_C(17)] = INT64_C(1);
+  f18();
+  v4[INT64_C(26)] = INT64_C(1);
+  f27();
+  v4[INT64_C(19)] = INT64_C(1);
+  f20();
+  v4[INT64_C(27)] = INT64_C(1);
+  f28();
+  v4[INT64_C(21)] = INT64_C(1);
+  f22();
+  v4[INT64_C(28)] = INT64_C(1);
+  f29();
+  v4[INT64_C(22)] = INT64_C(1);
+  f23();
+}
+static void s2(void) {
+  sci_event(d1, INT64_C(2), INT64_C(1));
+  v4[INT64_C(1)] = INT64_C(1);
+  f2();
+  v4[INT64_C(2)] = INT64_C(1);
+  f3();
+  v4[INT64_C(3)] = INT64_C(1);
+  f4();
+}
+static void s3(void) {
+  sci_event(d1, INT64_C(5), INT64_C(1));
+  v4[INT64_C(4)] = INT64_C(1);
+  f5();
+  v4[INT64_C(5)] = INT64_C(1);
+  f6();
+  v4[INT64_C(6)] = INT64_C(1);
+  f7();
+  v4[INT64_C(26)] = INT64_C(1);
+  f27();
+  v4[INT64_C(27)] = INT64_C(1);
+  f28();
+  v4[INT64_C(28)] = INT64_C(1);
+  f29();
+}
+void sci_main(void) {
+  v7[INT64_C(1)] = INT64_C(1);
+  v7[INT64_C(2)] = INT64_C(2);
+  o1 = INT64_C(3);
+  u1 = sci_until();
+  n1 = sci_limit();
+  s0();
+  g2();
+  for (i1 = INT64_C(0); i1 < n1; i1 = i1 + INT64_C(1)) {
+    g3();
+    if ((int64_t)(b1 < INT64_C(0))) {
+      sci_end(INT64_C(2));
+    }
+    if ((int64_t)(v6[b1] > u1)) {
+      sci_end(INT64_C(3));
+    }
+    d1 = v6[b1];
+    v6[b1] = (-INT64_C(1));
+    g1();
+    if ((int64_t)(b1 == INT64_C(0))) {
+      s1();
+    }
+    if ((int64_t)(b1 == INT64_C(1))) {
+      s2();
+    }
+    if ((int64_t)(b1 == INT64_C(2))) {
+      s3();
+    }
+    g2();
+  }
+  sci_end(INT64_C(1));
+}

@@ -1,0 +1,546 @@
+#include <stdint.h>
+extern void sci_start(void);
+extern void sci_event(int64_t a, int64_t b, int64_t c);
+extern void sci_val(int64_t a, int64_t b, int64_t c, int64_t d);
+extern void sci_end(int64_t a);
+extern void sci_stop(int64_t a, int64_t b, int64_t c);
+extern int64_t sci_more(int64_t a);
+extern int64_t sci_input(int64_t a);
+extern int64_t sci_until(void);
+extern int64_t sci_limit(void);
+static int64_t v1[31];
+static int64_t v2[4];
+static int64_t v3[35];
+static int64_t v4[35];
+static int64_t v5[35];
+static int64_t v6[2];
+static int64_t v7[2];
+static int64_t t1;
+static int64_t n1;
+static int64_t i1;
+static int64_t u1;
+static int64_t d1;
+static int64_t o1;
+static int64_t b1;
+static int64_t e1;
+static int64_t k1;
+static void f1(void) {
+}
+static void f2(void) {
+}
+static void f3(void) {
+  t1 = sci_more(INT64_C(1));
+  if (t1) {
+    v1[INT64_C(0)] = sci_input(INT64_C(1));
+  } else {
+    sci_stop(INT64_C(2), INT64_C(3), INT64_C(0));
+  }
+}
+static void f4(void) {
+  t1 = sci_more(INT64_C(2));
+  if (t1) {
+    v1[INT64_C(1)] = sci_input(INT64_C(2));
+  } else {
+    sci_stop(INT64_C(2), INT64_C(4), INT64_C(0));
+  }
+}
+static void f5(void) {
+  v1[INT64_C(2)] = INT64_C(1);
+}
+static void f6(void) {
+  v1[INT64_C(3)] = INT64_C(2);
+}
+static void f7(void) {
+  v1[INT64_C(4)] = INT64_C(3);
+}
+static void f8(void) {
+  v1[INT64_C(5)] = v2[INT64_C(0)];
+}
+static void f9(void) {
+}
+static void f10(void) {
+  t1 = v1[INT64_C(2)];
+  if ((int64_t)(v1[INT64_C(0)] > INT64_C(0))) {
+    t1 = v1[INT64_C(3)];
+  }
+  v1[INT64_C(6)] = t1;
+}
+static void f11(void) {
+  t1 = v1[INT64_C(2)];
+  if ((int64_t)(v1[INT64_C(0)] > INT64_C(0))) {
+    t1 = v1[INT64_C(3)];
+  }
+  v1[INT64_C(7)] = t1;
+}
+static void f12(void) {
+  t1 = v1[INT64_C(7)];
+  if ((int64_t)(v1[INT64_C(1)] >= INT64_C(900))) {
+    t1 = v1[INT64_C(4)];
+  }
+  v1[INT64_C(8)] = t1;
+}
+static void f13(void) {
+  t1 = v1[INT64_C(2)];
+  if ((int64_t)(v1[INT64_C(0)] > INT64_C(0))) {
+    t1 = v1[INT64_C(4)];
+  }
+  v1[INT64_C(9)] = t1;
+}
+static void f14(void) {
+  t1 = v1[INT64_C(9)];
+  if ((int64_t)(v1[INT64_C(1)] >= INT64_C(700))) {
+    t1 = v1[INT64_C(4)];
+  }
+  v1[INT64_C(10)] = t1;
+}
+static void f15(void) {
+  t1 = INT64_C(0);
+  if (((v3[INT64_C(14)] / INT64_C(4)) % INT64_C(2))) {
+    t1 = v1[INT64_C(10)];
+  }
+  if (((v3[INT64_C(14)] / INT64_C(2)) % INT64_C(2))) {
+    t1 = v1[INT64_C(8)];
+  }
+  if (((v3[INT64_C(14)] / INT64_C(1)) % INT64_C(2))) {
+    t1 = v1[INT64_C(6)];
+  }
+  v1[INT64_C(11)] = t1;
+}
+static void f16(void) {
+  t1 = sci_more(INT64_C(3));
+  if (t1) {
+    v1[INT64_C(12)] = sci_input(INT64_C(3));
+  } else {
+    sci_stop(INT64_C(2), INT64_C(16), INT64_C(0));
+  }
+}
+static void f17(void) {
+  v1[INT64_C(13)] = v1[INT64_C(11)];
+}
+static void f18(void) {
+}
+static void f19(void) {
+  t1 = INT64_C(0);
+  t1 = (t1 + v1[INT64_C(12)]);
+  t1 = (t1 - v1[INT64_C(29)]);
+  if ((int64_t)(t1 < (-INT64_C(2147483648)))) {
+    t1 = (-INT64_C(2147483648));
+  }
+  if ((int64_t)(t1 > INT64_C(2147483647))) {
+    t1 = INT64_C(2147483647);
+  }
+  v1[INT64_C(14)] = t1;
+}
+static void f20(void) {
+  v1[INT64_C(15)] = ((-INT64_C(2147483648)) + (((((v1[INT64_C(14)] * INT64_C(2)) - (-INT64_C(2147483648))) % INT64_C(4294967296)) + INT64_C(4294967296)) % INT64_C(4294967296)));
+}
+static void f21(void) {
+  v1[INT64_C(16)] = INT64_C(2);
+}
+static void f22(void) {
+  v1[INT64_C(17)] = (int64_t)(v1[INT64_C(13)] == v1[INT64_C(16)]);
+}
+static void f23(void) {
+  v1[INT64_C(18)] = ((int64_t)(v1[INT64_C(17)] > INT64_C(0)) * v2[INT64_C(1)]);
+}
+static void f24(void) {
+  t1 = INT64_C(0);
+  t1 = (t1 + v1[INT64_C(18)]);
+  t1 = (t1 + v1[INT64_C(14)]);
+  if ((int64_t)(t1 < (-INT64_C(2147483648)))) {
+    t1 = (-INT64_C(2147483648));
+  }
+  if ((int64_t)(t1 > INT64_C(2147483647))) {
+    t1 = INT64_C(2147483647);
+  }
+  v1[INT64_C(19)] = t1;
+}
+static void f25(void) {
+  t1 = v1[INT64_C(19)];
+  if ((int64_t)(t1 > INT64_C(16000))) {
+    t1 = INT64_C(16000);
+  }
+  if ((int64_t)(v1[INT64_C(19)] < (-INT64_C(16000)))) {
+    t1 = (-INT64_C(16000));
+  }
+  v1[INT64_C(20)] = t1;
+}
+static void f26(void) {
+  v1[INT64_C(21)] = ((v1[INT64_C(18)] - (((v1[INT64_C(18)] % INT64_C(16)) + INT64_C(16)) % INT64_C(16))) / INT64_C(16));
+}
+static void f27(void) {
+  t1 = INT64_C(0);
+  t1 = (t1 + v1[INT64_C(15)]);
+  t1 = (t1 + v1[INT64_C(21)]);
+  if ((int64_t)(t1 < (-INT64_C(2147483648)))) {
+    t1 = (-INT64_C(2147483648));
+  }
+  if ((int64_t)(t1 > INT64_C(2147483647))) {
+    t1 = INT64_C(2147483647);
+  }
+  v1[INT64_C(22)] = t1;
+}
+static void f28(void) {
+  v1[INT64_C(23)] = v2[INT64_C(2)];
+}
+static void f29(void) {
+  t1 = INT64_C(0);
+  if ((int64_t)(v1[INT64_C(23)] < (-INT64_C(20)))) {
+    t1 = (v1[INT64_C(23)] - (-INT64_C(20)));
+  }
+  if ((int64_t)(v1[INT64_C(23)] > INT64_C(20))) {
+    t1 = (v1[INT64_C(23)] - INT64_C(20));
+  }
+  if ((int64_t)(t1 < (-INT64_C(2147483648)))) {
+    t1 = (-INT64_C(2147483648));
+  }
+  if ((int64_t)(t1 > INT64_C(2147483647))) {
+    t1 = INT64_C(2147483647);
+  }
+  v1[INT64_C(24)] = t1;
+}
+static void f30(void) {
+  v1[INT64_C(25)] = INT64_C(0);
+}
+static void f31(void) {
+  t1 = INT64_C(0);
+  if (((v3[INT64_C(30)] / INT64_C(4)) % INT64_C(2))) {
+    t1 = v1[INT64_C(24)];
+  }
+  if (((v3[INT64_C(30)] / INT64_C(2)) % INT64_C(2))) {
+    t1 = v1[INT64_C(22)];
+  }
+  if (((v3[INT64_C(30)] / INT64_C(1)) % INT64_C(2))) {
+    t1 = v1[INT64_C(25)];
+  }
+  v1[INT64_C(26)] = t1;
+}
+static void f32(void) {
+  t1 = v1[INT64_C(26)];
+  if ((int64_t)(t1 > INT64_C(1000))) {
+    t1 = INT64_C(1000);
+  }
+  if ((int64_t)(v1[INT64_C(26)] < INT64_C(0))) {
+    t1 = INT64_C(0);
+  }
+  v1[INT64_C(27)] = t1;
+}
+static void f33(void) {
+  v1[INT64_C(28)] = v2[INT64_C(3)];
+}
+static void f34(void) {
+  v1[INT64_C(29)] = ((v1[INT64_C(28)] - (((v1[INT64_C(28)] % INT64_C(16)) + INT64_C(16)) % INT64_C(16))) / INT64_C(16));
+}
+static void f35(void) {
+  t1 = INT64_C(0);
+  t1 = (t1 + v1[INT64_C(28)]);
+  t1 = (t1 + v1[INT64_C(27)]);
+  t1 = (t1 - v1[INT64_C(29)]);
+  if ((int64_t)(t1 < (-INT64_C(2147483648)))) {
+    t1 = (-INT64_C(2147483648));
+  }
+  if ((int64_t)(t1 > INT64_C(2147483647))) {
+    t1 = INT64_C(2147483647);
+  }
+  v1[INT64_C(30)] = t1;
+}
+static void g2(void) {
+  if (v4[INT64_C(2)]) {
+    sci_val(INT64_C(3), INT64_C(1), INT64_C(1), v1[INT64_C(0)]);
+  }
+  if (v4[INT64_C(3)]) {
+    sci_val(INT64_C(4), INT64_C(1), INT64_C(1), v1[INT64_C(1)]);
+  }
+  if (v4[INT64_C(4)]) {
+    sci_val(INT64_C(5), INT64_C(1), INT64_C(1), v1[INT64_C(2)]);
+  }
+  if (v4[INT64_C(5)]) {
+    sci_val(INT64_C(6), INT64_C(1), INT64_C(1), v1[INT64_C(3)]);
+  }
+  if (v4[INT64_C(6)]) {
+    sci_val(INT64_C(7), INT64_C(1), INT64_C(1), v1[INT64_C(4)]);
+  }
+  if (v4[INT64_C(7)]) {
+    sci_val(INT64_C(8), INT64_C(1), INT64_C(1), v1[INT64_C(5)]);
+  }
+  if (v4[INT64_C(9)]) {
+    sci_val(INT64_C(10), INT64_C(1), INT64_C(1), v1[INT64_C(6)]);
+  }
+  if (v4[INT64_C(10)]) {
+    sci_val(INT64_C(11), INT64_C(1), INT64_C(1), v1[INT64_C(7)]);
+  }
+  if (v4[INT64_C(11)]) {
+    sci_val(INT64_C(12), INT64_C(1), INT64_C(1), v1[INT64_C(8)]);
+  }
+  if (v4[INT64_C(12)]) {
+    sci_val(INT64_C(13), INT64_C(1), INT64_C(1), v1[INT64_C(9)]);
+  }
+  if (v4[INT64_C(13)]) {
+    sci_val(INT64_C(14), INT64_C(1), INT64_C(1), v1[INT64_C(10)]);
+  }
+  if (v4[INT64_C(14)]) {
+    sci_val(INT64_C(15), INT64_C(1), INT64_C(1), v1[INT64_C(11)]);
+  }
+  if (v4[INT64_C(15)]) {
+    sci_val(INT64_C(16), INT64_C(1), INT64_C(1), v1[INT64_C(12)]);
+  }
+  if (v4[INT64_C(16)]) {
+    sci_val(INT64_C(17), INT64_C(1), INT64_C(1), v1[INT64_C(13)]);
+  }
+  if (v4[INT64_C(18)]) {
+    sci_val(INT64_C(19), INT64_C(1), INT64_C(1), v1[INT64_C(14)]);
+  }
+  if (v4[INT64_C(19)]) {
+    sci_val(INT64_C(20), INT64_C(1), INT64_C(1), v1[INT64_C(15)]);
+  }
+  if (v4[INT64_C(20)]) {
+    sci_val(INT64_C(21), INT64_C(1), INT64_C(1), v1[INT64_C(16)]);
+  }
+  if (v4[INT64_C(21)]) {
+    sci_val(INT64_C(22), INT64_C(1), INT64_C(1), v1[INT64_C(17)]);
+  }
+  if (v4[INT64_C(22)]) {
+    sci_val(INT64_C(23), INT64_C(1), INT64_C(1), v1[INT64_C(18)]);
+  }
+  if (v4[INT64_C(23)]) {
+    sci_val(INT64_C(24), INT64_C(1), INT64_C(1), v1[INT64_C(19)]);
+  }
+  if (v4[INT64_C(24)]) {
+    sci_val(INT64_C(25), INT64_C(1), INT64_C(1), v1[INT64_C(20)]);
+  }
+  if (v4[INT64_C(25)]) {
+    sci_val(INT64_C(26), INT64_C(1), INT64_C(1), v1[INT64_C(21)]);
+  }
+  if (v4[INT64_C(26)]) {
+    sci_val(INT64_C(27), INT64_C(1), INT64_C(1), v1[INT64_C(22)]);
+  }
+  if (v4[INT64_C(27)]) {
+    sci_val(INT64_C(28), INT64_C(1), INT64_C(1), v1[INT64_C(23)]);
+  }
+  if (v4[INT64_C(28)]) {
+    sci_val(INT64_C(29), INT64_C(1), INT64_C(1), v1[INT64_C(24)]);
+  }
+  if (v4[INT64_C(29)]) {
+    sci_val(INT64_C(30), INT64_C(1), INT64_C(1), v1[INT64_C(25)]);
+  }
+  if (v4[INT64_C(30)]) {
+    sci_val(INT64_C(31), INT64_C(1), INT64_C(1), v1[INT64_C(26)]);
+  }
+  if (v4[INT64_C(31)]) {
+    sci_val(INT64_C(32), INT64_C(1), INT64_C(1), v1[INT64_C(27)]);
+  }
+  if (v4[INT64_C(32)]) {
+    sci_val(INT64_C(33), INT64_C(1), INT64_C(1), v1[INT64_C(28)]);
+  }
+  if (v4[INT64_C(33)]) {
+    sci_val(INT64_C(34), INT64_C(1), INT64_C(1), v1[INT64_C(29)]);
+  }
+  if (v4[INT64_C(34)]) {
+    sci_val(INT64_C(35), INT64_C(1), INT64_C(1), v1[INT64_C(30)]);
+  }
+  if (v4[INT64_C(0)]) {
+    e1 = INT64_C(100);
+    if ((int64_t)(e1 >= INT64_C(0))) {
+      v6[INT64_C(0)] = (d1 + e1);
+      v7[INT64_C(0)] = o1;
+      o1 = (o1 + INT64_C(1));
+    }
+  }
+  if (v4[INT64_C(1)]) {
+    e1 = INT64_C(10);
+    if ((int64_t)(e1 >= INT64_C(0))) {
+      v6[INT64_C(1)] = (d1 + e1);
+      v7[INT64_C(1)] = o1;
+      o1 = (o1 + INT64_C(1));
+    }
+  }
+  if (v4[INT64_C(7)]) {
+    v2[INT64_C(0)] = v1[INT64_C(11)];
+  }
+  if (v4[INT64_C(22)]) {
+    v2[INT64_C(1)] = v1[INT64_C(20)];
+  }
+  if (v4[INT64_C(27)]) {
+    v2[INT64_C(2)] = v1[INT64_C(27)];
+  }
+  if (v4[INT64_C(32)]) {
+    v2[INT64_C(3)] = v1[INT64_C(30)];
+  }
+}
+static void g1(void) {
+  for (k1 = INT64_C(0); k1 < INT64_C(35); k1 = k1 + INT64_C(1)) {
+    v4[k1] = INT64_C(0);
+    v5[k1] = INT64_C(0);
+  }
+}
+static void g3(void) {
+  b1 = (-INT64_C(1));
+  for (k1 = INT64_C(0); k1 < INT64_C(2); k1 = k1 + INT64_C(1)) {
+    if ((int64_t)((int64_t)(v6[k1] >= INT64_C(0)) && (int64_t)((int64_t)(b1 < INT64_C(0)) || (int64_t)((int64_t)(v6[k1] < v6[b1]) || (int64_t)((int64_t)(v6[k1] == v6[b1]) && (int64_t)(v7[k1] < v7[b1])))))) {
+      b1 = k1;
+    }
+  }
+}
+static void s0(void) {
+  sci_start();
+  v4[INT64_C(4)] = INT64_C(1);
+  f5();
+  v4[INT64_C(5)] = INT64_C(1);
+  f6();
+  v4[INT64_C(6)] = INT64_C(1);
+  f7();
+  v4[INT64_C(20)] = INT64_C(1);
+  f21();
+  v4[INT64_C(29)] = INT64_C(1);
+  f30();
+}
+static void s1(void) {
+  sci_event(d1, INT64_C(1), INT64_C(1));
+  v4[INT64_C(0)] = INT64_C(1);
+  f1();
+  v4[INT64_C(2)] = INT64_C(1);
+  f3();
+  v4[INT64_C(3)] = INT64_C(1);
+  f4();
+  v4[INT64_C(7)] = INT64_C(1);
+  f8();
+  v4[INT64_C(8)] = INT64_C(1);
+  f9();
+  v5[INT64_C(8)] = (((int64_t)(v1[INT64_C(5)] >= INT64_C(1)) * (((int64_t)(v1[INT64_C(5)] <= INT64_C(3)) * v1[INT64_C(5)]) + ((int64_t)(v1[INT64_C(5)] > INT64_C(3)) * INT64_C(3)))) + (int64_t)(v1[INT64_C(5)] < INT64_C(1)));
+  if ((int64_t)(v5[INT64_C(8)] == INT64_C(1))) {
+    v4[INT64_C(9)] = INT64_C(1);
+  }
+  if (v4[INT64_C(9)]) {
+    f10();
+  }
+  if ((int64_t)(v5[INT64_C(8)] == INT64_C(2))) {
+    v4[INT64_C(10)] = INT64_C(1);
+  }
+  if (v4[INT64_C(10)]) {
+    f11();
+  }
+  if ((int64_t)(v5[INT64_C(8)] == INT64_C(3))) {
+    v4[INT64_C(12)] = INT64_C(1);
+  }
+  if (v4[INT64_C(12)]) {
+    f13();
+  }
+  if ((int64_t)(v5[INT64_C(8)] == INT64_C(2))) {
+    v4[INT64_C(11)] = INT64_C(1);
+  }
+  if (v4[INT64_C(11)]) {
+    f12();
+  }
+  if ((int64_t)(v5[INT64_C(8)] == INT64_C(3))) {
+    v4[INT64_C(13)] = INT64_C(1);
+  }
+  if (v4[INT64_C(13)]) {
+    f14();
+  }
+  v3[INT64_C(14)] = INT64_C(0);
+  if ((int64_t)(v5[INT64_C(8)] == INT64_C(1))) {
+    v4[INT64_C(14)] = INT64_C(1);
+    v3[INT64_C(14)] = (v3[INT64_C(14)] + ((INT64_C(1) - ((v3[INT64_C(14)] / INT64_C(1)) % INT64_C(2))) * INT64_C(1)));
+  }
+  if ((int64_t)(v5[INT64_C(8)] == INT64_C(2))) {
+    v4[INT64_C(14)] = INT64_C(1);
+    v3[INT64_C(14)] = (v3[INT64_C(14)] + ((INT64_C(1) - ((v3[INT64_C(14)] / INT64_C(2)) % INT64_C(2))) * INT64_C(2)));
+  }
+  if ((int64_t)(v5[INT64_C(8)] == INT64_C(3))) {
+    v4[INT64_C(14)] = INT64_C(1);
+    v3[INT64_C(14)] = (v3[INT64_C(14)] + ((INT64_C(1) - ((v3[INT64_C(14)] / INT64_C(4)) % INT64_C(2))) * INT64_C(4)));
+  }
+  if (v4[INT64_C(14)]) {
+    f15();
+  }
+}
+static void s2(void) {
+  sci_event(d1, INT64_C(2), INT64_C(1));
+  v4[INT64_C(1)] = INT64_C(1);
+  f2();
+  v4[INT64_C(15)] = INT64_C(1);
+  f16();
+  v4[INT64_C(16)] = INT64_C(1);
+  f17();
+  v4[INT64_C(27)] = INT64_C(1);
+  f28();
+  v4[INT64_C(32)] = INT64_C(1);
+  f33();
+  v4[INT64_C(17)] = INT64_C(1);
+  f18();
+  v5[INT64_C(17)] = (((int64_t)(v1[INT64_C(13)] >= INT64_C(1)) * (((int64_t)(v1[INT64_C(13)] <= INT64_C(3)) * v1[INT64_C(13)]) + ((int64_t)(v1[INT64_C(13)] > INT64_C(3)) * INT64_C(3)))) + (int64_t)(v1[INT64_C(13)] < INT64_C(1)));
+  v4[INT64_C(21)] = INT64_C(1);
+  f22();
+  v4[INT64_C(33)] = INT64_C(1);
+  f34();
+  v4[INT64_C(18)] = INT64_C(1);
+  f19();
+  v4[INT64_C(22)] = INT64_C(1);
+  f23();
+  if ((int64_t)(v5[INT64_C(17)] == INT64_C(3))) {
+    v4[INT64_C(28)] = INT64_C(1);
+  }
+  if (v4[INT64_C(28)]) {
+    f29();
+  }
+  v4[INT64_C(19)] = INT64_C(1);
+  f20();
+  v4[INT64_C(23)] = INT64_C(1);
+  f24();
+  v4[INT64_C(25)] = INT64_C(1);
+  f26();
+  v4[INT64_C(24)] = INT64_C(1);
+  f25();
+  v4[INT64_C(26)] = INT64_C(1);
+  f27();
+  v3[INT64_C(30)] = INT64_C(0);
+  if ((int64_t)(v5[INT64_C(17)] == INT64_C(1))) {
+    v4[INT64_C(30)] = INT64_C(1);
+    v3[INT64_C(30)] = (v3[INT64_C(30)] + ((INT64_C(1) - ((v3[INT64_C(30)] / INT64_C(1)) % INT64_C(2))) * INT64_C(1)));
+  }
+  if ((int64_t)(v5[INT64_C(17)] == INT64_C(2))) {
+    v4[INT64_C(30)] = INT64_C(1);
+    v3[INT64_C(30)] = (v3[INT64_C(30)] + ((INT64_C(1) - ((v3[INT64_C(30)] / INT64_C(2)) % INT64_C(2))) * INT64_C(2)));
+  }
+  if ((int64_t)(v5[INT64_C(17)] == INT64_C(3))) {
+    v4[INT64_C(30)] = INT64_C(1);
+    v3[INT64_C(30)] = (v3[INT64_C(30)] + ((INT64_C(1) - ((v3[INT64_C(30)] / INT64_C(4)) % INT64_C(2))) * INT64_C(4)));
+  }
+  if (v4[INT64_C(30)]) {
+    f31();
+  }
+  v4[INT64_C(31)] = INT64_C(1);
+  f32();
+  v4[INT64_C(34)] = INT64_C(1);
+  f35();
+}
+void sci_main(void) {
+  v1[INT64_C(5)] = INT64_C(1);
+  v2[INT64_C(0)] = INT64_C(1);
+  v7[INT64_C(1)] = INT64_C(1);
+  o1 = INT64_C(2);
+  u1 = sci_until();
+  n1 = sci_limit();
+  s0();
+  g2();
+  for (i1 = INT64_C(0); i1 < n1; i1 = i1 + INT64_C(1)) {
+    g3();
+    if ((int64_t)(b1 < INT64_C(0))) {
+      sci_end(INT64_C(2));
+    }
+    if ((int64_t)(v6[b1] > u1)) {
+      sci_end(INT64_C(3));
+    }
+    d1 = v6[b1];
+    v6[b1] = (-INT64_C(1));
+    g1();
+    if ((int64_t)(b1 == INT64_C(0))) {
+      s1();
+    }
+    if ((int64_t)(b1 == INT64_C(1))) {
+      s2();
+    }
+    g2();
+  }
+  sci_end(INT64_C(1));
+}
