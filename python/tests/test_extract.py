@@ -69,7 +69,9 @@ def test_random_diagrams(nested: bool, program: Program, tmp_path: Path) -> None
             diagram = wrapped(diagram, inside, name)
         text = json.dumps(diagram)
         (tmp_path / "d.json").write_text(text)
-        if program.ask("check", tmp_path / "d.json").status:
+        answer = program.ask("check", tmp_path / "d.json")
+        assert answer.status in (0, 1), answer
+        if answer.status:
             continue
         for item in list(flat.Flat(text).items()):
             if item.inner:

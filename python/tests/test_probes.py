@@ -110,7 +110,9 @@ def test_random_diagrams(first: int, program: Program, tmp_path: Path) -> None:
         diagram, columns = maker.whole(), maker.inputs()
         (tmp_path / "i").write_text(json.dumps(columns))
         (tmp_path / "d").write_text(json.dumps(diagram))
-        if program.ask("simulate", tmp_path / "d", tmp_path / "i", 50, 60).status not in (0, 6):
+        answer = program.ask("simulate", tmp_path / "d", tmp_path / "i", 50, 60)
+        assert answer.status in (0, 1, 6), answer
+        if answer.status == 1:
             continue
         accepted += 1
         assert_unchanged(program, tmp_path, diagram, str(tmp_path / "i"), 50, 60)
