@@ -317,28 +317,28 @@ def sensed():
 RUN_BY = ['simulate d i 3 9', 'crun c i 3 9', 'judge d i t 3 9', 'save d i 3 9 3', 'resume d i s 3 9', 'vcd d i 3 9']
 
 
-def wrong_inputs(program, inputs, dues):
-    """What is wrong with the answers of the commands that read this input file."""
+def wrong_inputs(program, inputs, count, dues):
+    """What is wrong with the answers of the first so many of the commands that read this input file."""
     trace = 'start\n' + ''.join('event %d 1 1\nval 2 1 1 %d\n' % (k, 6 + k) for k in (1, 2, 3)) + 'end until\n'
     image = 'save 1\nat 2 2\nheld 2 8\ncursor 2 2\npend 3 1 1\ndone\n'
     dump = dump_of([('integer', 8, '2_1_1')], [0], [(k, 'b%s v1\n' % digits(6 + k, 8)) for k in (1, 2, 3)])
     answers = [whole(trace), whole(trace), whole('yes 8\n'), whole(image), whole('event 3 1 1\nval 2 1 1 9\nend until\n'), whole(dump)]
-    return wrong_in_folder(program, {'d': sensed(), 'i': inputs, 't': trace.encode(), 's': image.encode()}, *zip(RUN_BY, dues or answers))
+    return wrong_in_folder(program, {'d': sensed(), 'i': inputs, 't': trace.encode(), 's': image.encode()}, *zip(RUN_BY[:count], dues or answers))
 
 
 def longest_inputs(program):
-    """Input files of the greatest length, without a space that may be left out: one column of 8,388,606 values, or as many columns as fit in; the last of
-    the values is looked at too. One byte more is refused by each command."""
+    """Input files of the greatest length, without a space that may be left out: one column of 8,388,606 values, and for two of the commands as many columns
+    as fit in; the last of the values is looked at too. One byte more is refused by each command."""
     begin, end = '[[7,8,9', ']]'
     count = (INPUT_MOST - len(begin + end)) // 2
     column = begin + ',1' * count + end
     columns = begin + ']' + ',[]' * ((INPUT_MOST - len(begin + end)) // 3) + ']'
-    outside = [refused('28 InputRange at 2 1 %d 999' % (count + 2))] * 6
-    outside[1] = whole('start\n' + ''.join('event %d 1 1\nval 2 1 1 %d\n' % (k, 6 + k) for k in (1, 2, 3)) + 'end until\n')  # C knows no ranges
+    outside = [refused('28 InputRange at 2 1 %d 999' % (count + 2))]
     wrong = []
-    for what, inputs, dues in (('values', column, None), ('columns', columns, None), ('a value', begin + ',1' * (count - 2) + ',999' + end, outside),
-                               ('a byte', column.ljust(INPUT_MOST + 1), [refused('29 FileTooLong at - 2 16777216')] * 6)):
-        wrong += ['%s, %s' % (what, told) for told in wrong_inputs(program, inputs.ljust(INPUT_MOST).encode(), dues)]
+    for what, inputs, commands, dues in (('values', column, 6, None), ('columns', columns, 2, None),
+                                         ('a value', begin + ',1' * (count - 2) + ',999' + end, 1, outside),
+                                         ('a byte', column.ljust(INPUT_MOST + 1), 6, [refused('29 FileTooLong at - 2 16777216')] * 6)):
+        wrong += ['%s, %s' % (what, told) for told in wrong_inputs(program, inputs.ljust(INPUT_MOST).encode(), commands, dues)]
     return '; '.join(wrong)
 
 

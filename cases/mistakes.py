@@ -56,7 +56,7 @@ def instructions(program, work, events):
 
 
 def events_in_many_chains(program):
-    """Where 512 clocks wait, an event takes some thousand instructions: a look at each of them would take more than twice as many."""
+    """Where 512 clocks wait, an event takes some 900 instructions. A look at each of the clocks, of four instructions, would take 2,000 more."""
     if lacks('how many instructions an event takes', 'valgrind'):
         return ''
     with tempfile.TemporaryDirectory() as work:
@@ -69,7 +69,7 @@ def events_in_many_chains(program):
         untried('how many instructions an event takes', "a valgrind that runs the program")
         return ''
     each = (many - few) / 2000
-    return '' if each < 3000 else '%d instructions for an event' % each
+    return '' if each < 2000 else '%d instructions for an event' % each
 
 
 def spaces_of_code(program):
