@@ -19,10 +19,14 @@ INPUT_MOST, TEXT_MOST = 16777216, 67108864
 EVENTS, LONGEST, LAST = 10**6, 2**31 - 1, 2**62
 
 
+def in_room():
+    """What begins now may take 2 GiB of memory."""
+    resource.setrlimit(resource.RLIMIT_AS, (ROOM, ROOM))
+
+
 def answer(program, words, work):
     """The two streams and the status of a run that may take 2 GiB of memory."""
-    ended = subprocess.run([program] + words, cwd=work, stdin=subprocess.DEVNULL, capture_output=True, timeout=900,
-                           preexec_fn=lambda: resource.setrlimit(resource.RLIMIT_AS, (ROOM, ROOM)))
+    ended = subprocess.run([program] + words, cwd=work, stdin=subprocess.DEVNULL, capture_output=True, timeout=900, preexec_fn=in_room)
     return ended.stdout, ended.stderr, ended.returncode
 
 
@@ -409,6 +413,23 @@ def longest_program(program):
     return '; '.join(wrong + wrong_in_folder(program, {'c': content, 'b': content + b'\n', 'i': b'[]'}, *dues))
 
 
+def largest_code(program):
+    """2,047 blocks of 2,048 truths each, with nearly all links that there may be: `ccode` writes the C of all of them, with a call for each block, and no
+    `crun` reads as much."""
+    table = [row >> port & 1 for row in range(256) for port in range(8)]
+    objs = [constant(5)] + [block('LOGIC', [1] * 8, [1] * 8, ipar=table)] * 2047 + [wire((1, 1), (k, port)) for k in range(2, 2049) for port in range(1, 9)]
+    with tempfile.TemporaryDirectory() as work:
+        put(work, d=content_of(objs), i=b'[]')
+        with open(os.path.join(work, 'c'), 'wb') as out:
+            streams = dict(stdin=subprocess.DEVNULL, stdout=out, stderr=subprocess.PIPE)
+            ended = subprocess.run([program, 'ccode', 'd'], cwd=work, timeout=900, preexec_fn=in_room, **streams)
+        with open(os.path.join(work, 'c'), 'rb') as file:
+            calls = sum(line.lstrip(b' ').startswith(b'f') and line.endswith(b'();\n') for line in file)
+        wrong = [] if (ended.stderr, ended.returncode, calls) == (b'', 0, 2048) else ['ccode d: %r, %d, %d calls' % (ended.stderr, ended.returncode, calls)]
+        dues = ('check d', whole('ok 2048 1 2048 0\n')), ('crun c i 1 1', refused('29 FileTooLong at - 1 67108864'))
+        return '; '.join(wrong + wrong_lines(program, work, *dues))
+
+
 def longest_dump(program):
     """A dump of the greatest length is read up to its last tick; that of one byte more is refused."""
     head = dump_of([('wire', 8, '1_1_1')], [0], [])
@@ -485,4 +506,4 @@ def bulk_at_the_limits(program):
 
 
 AT_LIMITS = [further_diagrams, past_the_diagrams, dense_diagrams, widest_kinds, wider_kinds, most_events, farthest_dates, most_states, longest_inputs,
-             programs_at_the_limits, longest_program, longest_dump, greatest_words, bulk_at_the_limits]
+             programs_at_the_limits, longest_program, largest_code, longest_dump, greatest_words, bulk_at_the_limits]
