@@ -11,7 +11,7 @@ import tempfile
 
 from cuts import refused
 from readers import no_signals, put, wrong_accepted, wrong_answers
-from refusals import block, constant, event, superblock, wire
+from refusals import block, constant, event, wire
 from streams import HERE, USAGE, text
 
 ROOM = 2 << 30
