@@ -3,7 +3,7 @@ import shutil
 
 
 def untried(what, why):
-    print('not tried: %s, for want of %s' % (what, why))
+    print('not tried: %s, for want of %s' % (what, why), flush=True)
 
 
 def lacks(what, *tools):

@@ -4,6 +4,7 @@ from __future__ import annotations
 import base64
 import contextlib
 import json
+import math
 import os
 import selectors
 import shutil
@@ -13,13 +14,13 @@ import tempfile
 import time
 from collections.abc import Iterator
 from pathlib import Path
-from typing import Any
+from typing import IO, Any
 
 NAMES = ("chromium", "chromium-browser", "google-chrome")
 FLAGS = ["--headless", "--no-sandbox", "--disable-gpu", "--disable-dev-shm-usage", "--no-first-run", "--disable-extensions",
          "--disable-background-networking", "--disable-component-update", "--disable-sync", "--hide-scrollbars",
          "--remote-debugging-pipe"]
-LONGEST = 240.0  # seconds for one answer, on a machine that is busy
+LONGEST = 60.0  # seconds for one answer, on a machine that is busy, and for the first picture from the start
 
 
 def found() -> str | None:
@@ -27,12 +28,17 @@ def found() -> str | None:
     return next(filter(None, map(shutil.which, NAMES)), None)
 
 
+class Useless(Exception):
+    """A browser doesn't draw on this machine."""
+
+
 class Browser:
     """A page of a browser."""
 
     def __init__(self, process: subprocess.Popen[bytes], reads: int, writes: int) -> None:
         self.process, self.reads, self.writes = process, reads, writes
-        self.number, self.rest, self.session = 0, b"", ""
+        self.number, self.rest, self.session, self.silent = 0, b"", "", False
+        self.last = time.monotonic() + LONGEST  # when the first picture has to be there
         self.said: list[dict[str, Any]] = []
         self.waiting = selectors.DefaultSelector()
         self.waiting.register(reads, selectors.EVENT_READ)
@@ -41,15 +47,15 @@ class Browser:
         for part in ("Page", "Runtime", "Log", "Network"):
             self.ask(f"{part}.enable")
 
-    def message(self) -> dict[str, Any]:
-        """The next message of the browser."""
-        until = time.monotonic() + LONGEST
+    def message(self, until: float) -> dict[str, Any]:
+        """The next message of the browser, which has to come until a time; one that was silent once isn't waited for again."""
         while b"\0" not in self.rest:
-            if not self.waiting.select(max(0.0, until - time.monotonic())):
-                raise TimeoutError("the browser doesn't answer")
+            if self.silent or not self.waiting.select(max(0.0, until - time.monotonic())):
+                self.silent = True
+                raise TimeoutError("it doesn't answer in time")
             piece = os.read(self.reads, 1 << 16)
             if not piece:
-                raise EOFError("the browser has ended")
+                raise EOFError("it has ended")
             self.rest += piece
         text, _, self.rest = self.rest.partition(b"\0")
         found: dict[str, Any] = json.loads(text)
@@ -62,15 +68,24 @@ class Browser:
         if self.session:
             words["sessionId"] = self.session
         data = json.dumps(words).encode() + b"\0"
+        until = min(self.last, time.monotonic() + LONGEST)
         while data:
             data = data[os.write(self.writes, data):]
         while True:
-            told = self.message()
+            told = self.message(until)
             if told.get("id") == self.number:
                 assert "error" not in told, told["error"]
                 result: dict[str, Any] = told["result"]
                 return result
             self.said.append(told)
+
+    def draw(self) -> None:
+        """Has a small page drawn, which shows that this browser works here; from then on there is no hurry."""
+        self.ask("Page.navigate", url="data:text/html,<p>text")
+        self.settle()
+        assert self.ask("Page.captureScreenshot", format="png")["data"], "it gives no picture"
+        self.last = math.inf
+        self.said.clear()
 
     def faults(self) -> list[dict[str, Any]]:
         """What the page did wrong, and what it asked the network for."""
@@ -160,27 +175,34 @@ class Browser:
 
 @contextlib.contextmanager
 def browser() -> Iterator[Browser]:
-    """A browser that runs as long as the block does."""
+    """A browser that draws, and runs as long as the block does; `Useless` with what was found where it doesn't draw."""
     path = found()
     assert path, "no browser is installed"
     from_browser, to_browser = os.pipe(), os.pipe()  # each an end to read and one to write
-    with tempfile.TemporaryDirectory(prefix="scicos-browser-", ignore_cleanup_errors=True) as home:
-        process = started(path, home, to_browser[0], from_browser[1])
+    with tempfile.TemporaryDirectory(prefix="scicos-browser-", ignore_cleanup_errors=True) as home, tempfile.TemporaryFile() as said:
+        process = started(path, home, to_browser[0], from_browser[1], said)
         os.close(to_browser[0])
         os.close(from_browser[1])
         try:
-            yield Browser(process, from_browser[0], to_browser[1])
+            try:
+                one = Browser(process, from_browser[0], to_browser[1])
+                one.draw()
+            except (OSError, EOFError, AssertionError) as error:
+                said.seek(0)
+                last = " ".join(said.read().decode(errors="replace").split())[-300:]
+                raise Useless(f"a browser that draws here: {path} is installed, and {error}" + (f"; it says: {last}" if last else "")) from None
+            yield one
         finally:
             os.close(to_browser[1])
             with contextlib.suppress(ProcessLookupError):
                 os.killpg(process.pid, signal.SIGKILL)
-            process.wait()
+            process.wait(LONGEST)
             os.close(from_browser[0])
 
 
-def started(path: str, home: str, reads: int, writes: int) -> subprocess.Popen[bytes]:
+def started(path: str, home: str, reads: int, writes: int, said: IO[bytes]) -> subprocess.Popen[bytes]:
     """The browser's process, which reads commands from the descriptor 3 and writes answers to 4."""
-    line = f'exec 200<&{reads} 201>&{writes} 3<&200 4>&201 200<&- 201>&-; exec nice -n 19 "$0" "$@"'
+    line = f'exec 200<&{reads} 201>&{writes} 3<&200 4>&201 200<&- 201>&-; exec "$0" "$@"'
     return subprocess.Popen(["bash", "-c", line, path, *FLAGS, f"--user-data-dir={home}", "about:blank"], pass_fds=(reads, writes),
-                            stdin=subprocess.DEVNULL, stdout=subprocess.DEVNULL, stderr=subprocess.DEVNULL, start_new_session=True,
+                            stdin=subprocess.DEVNULL, stdout=subprocess.DEVNULL, stderr=said, start_new_session=True,
                             env={**os.environ, "HOME": home})

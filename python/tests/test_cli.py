@@ -64,20 +64,20 @@ def test_a_name_that_is_no_text(tmp_path: Path) -> None:
 def test_full_output() -> None:
     with open("/dev/full", "w") as full:
         ran = subprocess.run([str(TOP / "scicos-kit"), "numbers", str(TOP / "examples" / "loop.json")], stdout=full, stderr=subprocess.PIPE,
-                             text=True)
+                             text=True, timeout=120)
     assert ran.returncode == 4 and "standard output" in ran.stderr and "Traceback" not in ran.stderr
 
 
 def test_a_file_in_the_working_folder_shadows_nothing(tmp_path: Path) -> None:
     (tmp_path / "json.py").write_text("raise SystemExit('shadowed')")
-    ran = subprocess.run([str(TOP / "scicos-kit"), "numbers", str(TOP / "examples" / "loop.json")], cwd=tmp_path, capture_output=True, text=True)
+    ran = subprocess.run([str(TOP / "scicos-kit"), "numbers", str(TOP / "examples" / "loop.json")], cwd=tmp_path, capture_output=True, text=True, timeout=120)
     assert ran.returncode == 0 and ran.stderr == ""
 
 
 @pytest.mark.parametrize("words", [["lint", "first.json"], ["simulate", "first.json", "--until", "5"], ["--help"]])
 def test_closed_output(words: list[str], examples: Path) -> None:
     shell = 'script=$1; shift; exec "$script" "$@" >&-'
-    found = subprocess.run(["sh", "-c", shell, "sh", str(TOP / "scicos-kit"), *words], cwd=examples, capture_output=True, text=True)
+    found = subprocess.run(["sh", "-c", shell, "sh", str(TOP / "scicos-kit"), *words], cwd=examples, capture_output=True, text=True, timeout=120)
     assert (found.returncode, found.stderr) == (4, "scicos-kit: standard output is closed\n")
 
 

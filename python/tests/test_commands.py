@@ -6,12 +6,12 @@ import resource
 import signal
 import subprocess
 import sys
-import time
 from pathlib import Path
 
 import pytest
 from test_cli import TOP, kit
 from test_dump import COUNTER
+from waiting import running, until
 
 from scicos.program import Program
 
@@ -124,16 +124,15 @@ def test_ctrl_c_leaves_nothing(tmp_path: Path) -> None:
     temporary.mkdir()
     words = [str(TOP / "scicos-kit"), "simulate", THERMOSTAT, "--until", "1", "-o", str(tmp_path / "run.csv"), str(tmp_path / "in.csv")]
     (tmp_path / "in.csv").write_text("kitchen,study\n1,2\n")
-    process = subprocess.Popen(words, env={**os.environ, "SCICOS": str(slow), "TMPDIR": str(temporary)}, stderr=subprocess.PIPE, text=True)
-    while not (tmp_path / "pid").exists() or not (tmp_path / "pid").read_text():
-        assert process.poll() is None
-        time.sleep(0.05)
-    process.send_signal(signal.SIGINT)
-    said = process.communicate(timeout=60)[1]
+    pid = tmp_path / "pid"
+    with running(words, env={**os.environ, "SCICOS": str(slow), "TMPDIR": str(temporary)}, stderr=subprocess.PIPE) as process:
+        until(lambda: pid.exists() and pid.read_text(), process)
+        process.send_signal(signal.SIGINT)
+        said = process.communicate(timeout=60)[1]
     assert (process.returncode, said) == (130, "scicos-kit: ended by Ctrl-C\n")
     assert not (tmp_path / "run.csv").exists() and list(temporary.iterdir()) == []
     with pytest.raises(ProcessLookupError):
-        os.kill(int((tmp_path / "pid").read_text()), 0)
+        os.kill(int(pid.read_text()), 0)
 
 
 def test_a_disk_that_is_full_behind_some_lines(tmp_path: Path) -> None:

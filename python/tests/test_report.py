@@ -10,13 +10,13 @@ import shutil
 import signal
 import subprocess
 import sys
-import time
 from pathlib import Path
 from typing import Any
 
 import pytest
 from conftest import TOP
 from small import block, clock, constant, counter, event, gain, inside, sensor, total, wire, written
+from waiting import running, until
 
 import scicos as s
 from scicos import report_packing
@@ -233,10 +233,8 @@ def test_ctrl_c_leaves_nothing(program: Program, tmp_path: Path) -> None:
                     f"print('start', flush=True)\nopen({str(begun)!r}, 'w').close()\ntime.sleep(600)\n")
     slow.chmod(0o755)
     words = [str(TOP / "scicos-kit"), "report", str(EXAMPLES / "first.json"), str(EXAMPLES / "no-inputs.json"), "--until", "50", "-o", "page.html"]
-    ran = subprocess.Popen(words, cwd=tmp_path, env={**os.environ, "SCICOS": str(slow)}, stderr=subprocess.PIPE, text=True)
-    while not begun.exists():
-        assert ran.poll() is None
-        time.sleep(0.05)
-    ran.send_signal(signal.SIGINT)
-    told = ran.communicate(timeout=300)[1]
+    with running(words, cwd=tmp_path, env={**os.environ, "SCICOS": str(slow)}, stderr=subprocess.PIPE) as ran:
+        until(begun.exists, ran)
+        ran.send_signal(signal.SIGINT)
+        told = ran.communicate(timeout=60)[1]
     assert (ran.returncode, told) == (130, "scicos-kit: ended by Ctrl-C\n") and set(tmp_path.iterdir()) == {slow, begun}

@@ -1,13 +1,14 @@
 """The page of a report in a browser, which clicks, turns the wheel, drags, types and touches; what it shows is held against `vcdat`."""
 from __future__ import annotations
 
+import contextlib
 import json
 import shutil
 from collections.abc import Iterator
 from pathlib import Path
 
 import pytest
-from browsing import Browser, browser, found
+from browsing import Browser, Useless, browser, found
 from conftest import TOP
 
 import scicos as s
@@ -30,8 +31,12 @@ SHIFT = 8
 
 @pytest.fixture(scope="module")
 def chromium() -> Iterator[Browser]:
-    """A browser."""
-    with browser() as one:
+    """A browser; where it draws nothing on this machine, the tests are skipped."""
+    with contextlib.ExitStack() as stack:
+        try:
+            one = stack.enter_context(browser())
+        except Useless as useless:
+            pytest.skip(str(useless))
         yield one
 
 
@@ -306,6 +311,7 @@ def test_without_dot_blocks_are_chosen_in_lists(chromium: Browser, tool: Program
     assert chromium.faults() == []
 
 
+@pytest.mark.longest(400)
 def test_a_million_values(chromium: Browser, tool: Program, tmp_path: Path) -> None:
     design = json.loads((EXAMPLES / "first.json").read_text())
     design["objs"][0]["model"]["ipar"] = [1]

@@ -11,6 +11,7 @@ from pathlib import Path
 from typing import Any
 
 import pytest
+from waiting import of_command
 
 from scicos.errors import DataError, ReadError, WordsError
 from scicos.program import Program, ProgramError, Refusal, Refused
@@ -205,8 +206,7 @@ def test_what_interrupts_a_run_ends_the_program(tmp_path: Path, examples: Path) 
     fake = fakes(tmp_path, "print('event 5 1 1\\n' * 100000, flush=True); open(sys.argv[0] + '.pid', 'w').write(str(os.getpid())); time.sleep(600)")
     with pytest.raises(KeyboardInterrupt):
         simulate(examples / "first.json", until=1, program=fake, progress=interrupt)
-    left = subprocess.run(["pgrep", "-f", fake.path], capture_output=True, text=True).stdout
-    assert left == ""
+    assert of_command(fake.path) == []
 
 
 @pytest.fixture()

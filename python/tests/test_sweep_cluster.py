@@ -3,7 +3,9 @@ from __future__ import annotations
 
 import os
 import signal
+import socket
 import subprocess
+import sys
 from collections.abc import Iterator
 from pathlib import Path
 from typing import Any
@@ -12,6 +14,7 @@ import pytest
 from sweeping import ROWS, due, written
 from test_cli import TOP
 from test_sweep_journal import counting
+from waiting import running
 
 from scicos import sweep_workers
 from scicos.errors import MissingError
@@ -19,12 +22,40 @@ from scicos.program import Program
 from scicos.sweep import sweep
 
 distributed = pytest.importorskip("distributed")
+pytestmark = pytest.mark.longest(240)
 GAINS = [1, 2]
+PATIENCE = 60.0  # seconds in which a cluster of one worker has to answer
+TRY = """
+import distributed
+if __name__ == "__main__":
+    with distributed.LocalCluster(n_workers=1, threads_per_worker=1, dashboard_address=None) as cluster, distributed.Client(cluster) as client:
+        assert client.submit(int, "5").result() == 5
+"""
+
+
+def wrong(folder: Path) -> str:
+    """What keeps a cluster on this machine from working, if anything: it is tried in another process, which can be ended."""
+    try:
+        with socket.create_server(("127.0.0.1", 0)) as server, socket.create_connection(server.getsockname()[:2], timeout=5):
+            pass
+    except OSError as error:
+        return f"127.0.0.1 can't be reached: {error}"
+    script, said = folder / "try.py", folder / "said"
+    script.write_text(TRY)
+    with open(said, "wb") as file, running([sys.executable, str(script)], cwd=folder, stdin=subprocess.DEVNULL, stdout=file, stderr=file) as process:
+        try:
+            status = process.wait(PATIENCE)
+        except subprocess.TimeoutExpired:
+            return f"a cluster of one worker doesn't answer in {PATIENCE:g} seconds"
+    return "" if status == 0 else "a cluster of one worker ends with: " + " ".join(said.read_text(errors="replace").split())[-300:]
 
 
 @pytest.fixture(scope="module")
-def cluster(program: Program) -> Iterator[Any]:
+def cluster(program: Program, tmp_path_factory: pytest.TempPathFactory) -> Iterator[Any]:
     """A cluster of two workers, which find the program by the variable SCICOS; the tests use it up in their order."""
+    found = wrong(tmp_path_factory.mktemp("cluster"))
+    if found:
+        pytest.skip(f"a cluster that works here: distributed is installed, and {found}")
     with pytest.MonkeyPatch.context() as patch:
         patch.setenv("SCICOS", program.path)
         patch.setenv("PYTHONPATH", str(TOP / "python"))

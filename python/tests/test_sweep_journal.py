@@ -6,13 +6,13 @@ import os
 import resource
 import signal
 import subprocess
-import time
 from pathlib import Path
 from typing import Any
 
 import pytest
 from sweeping import DESIGN, ROWS, due, written
 from test_cli import TOP
+from waiting import none_left, running, until
 
 from scicos.errors import DataError, WriteError
 from scicos.journal import Journal
@@ -52,28 +52,16 @@ def is_right(table: str, count: int) -> bool:
     return len(lines) == len(rows) + 1 and all(line.startswith(row) for line, row in zip(lines[1:], rows))
 
 
-def none_left(session: int) -> None:
-    """Waits until no process of a session is left."""
-    for _ in range(300):
-        if not subprocess.run(["pgrep", "-s", str(session)], capture_output=True).stdout:
-            return
-        time.sleep(0.1)
-    pytest.fail("workers are left")
-
-
 @pytest.mark.parametrize("to_group", [False, True])
 def test_ended_by_ctrl_c_and_begun_again(to_group: bool, tmp_path: Path, program: Program) -> None:
     written(tmp_path, 10)
     slow, journal = counting(tmp_path, program, "sleep 0.1"), tmp_path / "table.csv.journal"
     words, temporary = words_of(tmp_path, "-o", "table.csv", "--workers", "2"), tmp_path / "temporary"
     temporary.mkdir()
-    process = subprocess.Popen(words, cwd=tmp_path, env={**os.environ, "SCICOS": slow.path, "TMPDIR": str(temporary)}, stderr=subprocess.PIPE,
-                               text=True, start_new_session=True)
-    while not journal.exists() or journal.read_bytes().count(b"\n") < 8:
-        assert process.poll() is None
-        time.sleep(0.02)
-    (os.killpg if to_group else os.kill)(process.pid, signal.SIGINT)
-    said = process.communicate(timeout=60)[1]
+    with running(words, cwd=tmp_path, env={**os.environ, "SCICOS": slow.path, "TMPDIR": str(temporary)}, stderr=subprocess.PIPE) as process:
+        until(lambda: journal.exists() and journal.read_bytes().count(b"\n") >= 8, process)
+        (os.killpg if to_group else os.kill)(process.pid, signal.SIGINT)
+        said = process.communicate(timeout=60)[1]
     kept = journal.read_bytes()
     assert process.returncode == 130 and kept.endswith(b"\n") and 8 <= kept.count(b"\n") < 32
     assert said == f"scicos-kit sweep: ended by Ctrl-C: {kept.count(10) - 2} of 30 runs are done, and kept in table.csv.journal: " \
@@ -225,10 +213,9 @@ def test_a_program_that_is_killed(tmp_path: Path, program: Program) -> None:
 def test_the_sweep_is_killed_and_its_workers_go(tmp_path: Path, program: Program) -> None:
     written(tmp_path, 10)
     slow = counting(tmp_path, program, "sleep 0.1")
-    process = subprocess.Popen(words_of(tmp_path, "-o", "table.csv", "--workers", "3"), cwd=tmp_path, env={**os.environ, "SCICOS": slow.path},
-                               stderr=subprocess.DEVNULL, start_new_session=True)
-    while not (tmp_path / "calls").exists():
-        time.sleep(0.02)
-    process.kill()
-    process.wait()
-    none_left(process.pid)
+    words = words_of(tmp_path, "-o", "table.csv", "--workers", "3")
+    with running(words, cwd=tmp_path, env={**os.environ, "SCICOS": slow.path}, stderr=subprocess.DEVNULL) as process:
+        until((tmp_path / "calls").exists, process)
+        process.kill()
+        process.wait(60)
+        none_left(process.pid)
