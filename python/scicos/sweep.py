@@ -23,10 +23,11 @@ from scicos.measures import Measure, count, first, greatest, last, least, measur
 from scicos.program import MOST_EVENTS, Program, find
 from scicos.runs import checked
 from scicos.sweep_designs import Parameters, Source
+from scicos.sweep_local import Local
 from scicos.sweep_plan import Plan, design_list, from_journal, head_of, rows_of
 from scicos.sweep_runs import FAILED, given_inputs
 from scicos.sweep_table import Row, Sweep
-from scicos.sweep_workers import Cluster, Local, Machine
+from scicos.sweep_workers import Cluster, Machine
 
 Progress = Callable[[int, int], None]
 __all__ = ["Ended", "Row", "Sweep", "count", "first", "greatest", "last", "least", "signal", "sweep"]
