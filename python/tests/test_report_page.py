@@ -331,7 +331,7 @@ def test_a_million_values(chromium: Browser, tool: Program, tmp_path: Path) -> N
         }
         return Math.min(...times);
     })()""")
-    assert took < 500  # milliseconds, on a machine that may be busy
+    assert took < 2000  # milliseconds, on a machine that may be slow and busy
     for tick in (0, 9, 654_321, 999_999):
         chromium.look(f"(() => {{ const box = document.querySelector('#tick'); box.value = '{tick}'; box.onchange(); }})()")
         chromium.settle()
