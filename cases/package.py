@@ -47,7 +47,8 @@ def too_long(text, seconds):
     """What is told of tests that took too long: which one was under way, the stacks, and the last lines."""
     lines = [line for line in text.split('\n') if not re.match(r'  File "[^"]*/(_pytest|pluggy)/', line)]
     begun = [line for line in lines if re.match(r'tests/\S+\.py::', line)]
-    return 'the tests of the package were ended behind %d seconds; under way was %s\n%s' % (seconds, begun[-1] if begun else 'none yet', '\n'.join(lines)[-6000:])
+    at = begun[-1] if begun else 'none yet'
+    return 'the tests of the package were ended behind %d seconds; under way was %s\n%s' % (seconds, at, '\n'.join(lines)[-6000:])
 
 
 def package(program):

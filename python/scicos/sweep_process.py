@@ -18,15 +18,11 @@ def begin(number: int) -> None:
     """Begins workers for the sweep at the other end of the socket of this number, and ends when all of them have
     ended."""
     signal.signal(signal.SIGCHLD, signal.SIG_DFL)
-    with socket.socket(fileno=number) as sweep:
-        while True:
-            with contextlib.suppress(ConnectionError):
-                said, sockets, _, _ = socket.recv_fds(sweep, 1, 1)
-                if said:
-                    _fork(sweep, sockets[0])
-                    _reap(os.WNOHANG)
-                    continue
-            break
+    signal.pthread_sigmask(signal.SIG_SETMASK, set())  # what the sweep blocks is nothing to the programs
+    with socket.socket(fileno=number) as sweep, contextlib.suppress(ConnectionError):
+        while (got := socket.recv_fds(sweep, 1, 1))[0]:
+            _fork(sweep, got[1][0])
+            _reap(os.WNOHANG)
     _reap(0)
 
 
