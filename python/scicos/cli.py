@@ -68,6 +68,12 @@ def called(name: str, rest: list[str]) -> int:
         return MissingError.status
 
 
+def drop_output() -> None:
+    """Lets go what couldn't be written to standard output; Python would try again at its end, and end with 120."""
+    with contextlib.suppress(OSError):
+        os.dup2(os.open(os.devnull, os.O_WRONLY), sys.stdout.fileno())
+
+
 def main(words: list[str] | None = None) -> int:
     """Runs `scicos-kit` on the words given, by default those of the command line, and gives its status."""
     words = sys.argv[1:] if words is None else words
@@ -92,11 +98,12 @@ def main(words: list[str] | None = None) -> int:
         sys.stderr.write("scicos-kit: ended by Ctrl-C\n")
         return 130
     except BrokenPipeError:  # who reads has gone, as `head`
-        with contextlib.suppress(OSError):
-            os.dup2(os.open(os.devnull, os.O_WRONLY), sys.stdout.fileno())
+        drop_output()
         return 4
     except OSError as error:
         sys.stderr.write(f"scicos-kit: {error.filename or 'standard output'}: {error.strerror}\n")
+        if error.filename is None:
+            drop_output()
         return 4
 
 

@@ -61,11 +61,12 @@ def test_a_name_that_is_no_text(tmp_path: Path) -> None:
     assert (ran.returncode, ran.stdout, ran.stderr) == (0, "1 1 HALT_f a\\ud800\n", "")
 
 
-def test_full_output() -> None:
+@pytest.mark.parametrize("unbuffered", ["", "1"])
+def test_full_output(unbuffered: str) -> None:
     with open("/dev/full", "w") as full:
         ran = subprocess.run([str(TOP / "scicos-kit"), "numbers", str(TOP / "examples" / "loop.json")], stdout=full, stderr=subprocess.PIPE,
-                             text=True, timeout=120)
-    assert ran.returncode == 4 and "standard output" in ran.stderr and "Traceback" not in ran.stderr
+                             text=True, timeout=120, env={**os.environ, "PYTHONUNBUFFERED": unbuffered})
+    assert (ran.returncode, ran.stderr) == (4, "scicos-kit: standard output: No space left on device\n")
 
 
 def test_a_file_in_the_working_folder_shadows_nothing(tmp_path: Path) -> None:

@@ -60,5 +60,5 @@ def test_processes_are_found(tmp_path: Path) -> None:
     path.chmod(0o755)
     with running([str(path)]) as process:
         until(lambda: len(of_session(process.pid)) == 2, process)
-        assert of_command(str(path)) == [process.pid]
+        until(lambda: of_command(str(path)) == [process.pid], process)  # a child that has just been forked has its parent's words
     until(lambda: of_session(process.pid) == [])
