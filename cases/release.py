@@ -4,10 +4,11 @@ import os
 import re
 import subprocess
 
-from lacking import lacks
+from lacking import lacks, untried
 
 TOP = os.path.join(os.path.dirname(os.path.abspath(__file__)), '..')
 RELEASED = os.path.join(TOP, 'release', 'scicos')
+EXAMPLES = os.path.join(TOP, 'examples')
 # Instructions that a processor of x86-64-v2 lacks: those of AVX and later begin with v, but for two older ones; and the newer ones on bits. A tzcnt is
 # none of them: an older processor reads it as a bsf, which gives the same where a bit is set, and a compiler writes it there for that.
 OLDER = {'verr', 'verw'}
@@ -46,10 +47,36 @@ def wrong_manifest(told):
     same = told['sources'] == summed
     wrong += [] if same else ['the sources are %s, and the release is of %s: tools/release makes it anew' % (summed, told['sources'])]
     wrong += [] if told['program'] == hashlib.sha256(content(RELEASED)).hexdigest() else ['its checksum']
-    if not lacks('whether the kit is that of the release', 'rt'):
-        kit = subprocess.run(['rt', 'version'], capture_output=True, text=True, timeout=60).stdout.strip()
-        wrong += [] if told['kit'] == kit else ['the kit is %s' % kit]
-    return wrong
+    return wrong + ([] if re.fullmatch(r'\S+ logic [0-9a-f]{16}', told['kit']) else ['the kit: %s' % told['kit']])
+
+
+def kit_here():
+    """The kit's line, or nothing where rt isn't installed."""
+    if lacks('whether the kit is that of the release', 'rt'):
+        return ''
+    return subprocess.run(['rt', 'version'], capture_output=True, text=True, timeout=60).stdout.strip()
+
+
+def answers(program):
+    """What a program answers on the diagrams of the examples: to each command that takes the diagram alone, and to a run."""
+    runs = []
+    for path in sorted(os.path.join(at, name) for at, _, names in os.walk(EXAMPLES) for name in names if name.endswith('.json') and 'inputs' not in name):
+        runs += [[word, path] for word in ('check', 'map', 'schedule', 'ccode')]
+        inputs = os.path.join(os.path.dirname(path), 'inputs.json')
+        columns = inputs if os.path.exists(inputs) else os.path.join(EXAMPLES, 'no-inputs.json')
+        runs += [[word, path, columns, '1000', '200'] for word in ('simulate', 'vcd')]
+    runs += [['host'], ['bulk', '1', '500']]
+    return [(it.returncode, it.stdout, it.stderr) for words in runs for it in [subprocess.run([program] + words, capture_output=True, timeout=120)]]
+
+
+def wrong_bytes(program, told):
+    """The program that is given has the bytes of the released one, where it was built with the kit that the manifest names; with another kit, its answers."""
+    kit = kit_here()
+    if kit and kit != told['kit']:
+        untried('whether the program has the bytes of release/scicos', 'the kit %s (this is %s): their answers are compared' % (told['kit'], kit))
+        given, due = answers(program), answers(RELEASED)
+        return [] if given == due and len({it[1] for it in due}) > 20 else ['%s answers otherwise than release/scicos' % program]
+    return [] if content(program) == content(RELEASED) else ['%s has other bytes than release/scicos: tools/release makes it anew' % program]
 
 
 def wrong_needs():
@@ -74,8 +101,8 @@ def wrong_paths():
 
 
 def release(program):
-    """The program that is given has the bytes of the released one, and so has what `./scicos` runs."""
-    wrong = [] if content(program) == content(RELEASED) else ['%s has other bytes than release/scicos: tools/release makes it anew' % program]
+    """The program that is given has the bytes of the released one, and `./scicos` runs that one."""
+    wrong = wrong_bytes(program, manifest())
     run = subprocess.run([os.path.join(TOP, 'scicos'), 'host'], stdin=subprocess.DEVNULL, capture_output=True, timeout=60)
     due = subprocess.run([RELEASED, 'host'], stdin=subprocess.DEVNULL, capture_output=True, timeout=60)
     wrong += [] if (run.stdout, run.stderr, run.returncode) == (due.stdout, b'', 0) else ['./scicos gives %r' % run.stderr]
