@@ -130,6 +130,24 @@ def program_names(program):
     return '; '.join(wrong) or ('' if len(PROGRAMS) == len(DIAGRAMS) else 'not each design has a program')
 
 
+def annotations(program):
+    """Without its lines of comments the annotated twin of each design's C is what `ccode` prints; the twin is C without a warning."""
+    wrong, is_bare = [], lacks('the annotated C as C', 'gcc')
+    with tempfile.TemporaryDirectory() as work:
+        for path in DIAGRAMS:
+            run = subprocess.run([os.path.join(TOP, 'tools', 'annotate'), path], capture_output=True, text=True, timeout=120)
+            due = subprocess.run([program, 'ccode', path], capture_output=True, text=True, timeout=120).stdout
+            lines = run.stdout.splitlines(keepends=True)
+            told = [line for line in lines if re.fullmatch(r' */\* .* \*/\n', line)]
+            functions = len(re.findall(r'^static void [fs]\d+', due, re.M))
+            same = ''.join(line for line in lines if line not in told) == due and len(told) > functions > 0 and not run.stderr
+            wrong += [] if same else ['%s: %r' % (path, run.stderr)]
+            with open(os.path.join(work, 'twin.c'), 'w') as file:
+                file.write(run.stdout)
+            wrong += [] if is_bare else [it for it in [compiled(FLAGS + SPARE + ['-c', '-o', 'o', 'twin.c'], work)] if it]
+    return '; '.join(wrong)
+
+
 def sizes(program):
     """The table of sizes has a row of five numbers for a diagram, and the one on the page is what is printed of the designs."""
     if lacks('tools/sizes', 'gcc', 'size'):
