@@ -54,7 +54,7 @@ def due(line):
 def cannot_run(name, line):
     """Whether something that a line calls isn't installed here, which is told."""
     called = WANTED & set(re.findall(r'[\w.+-]+', line)) | ({'gcc', 'size'} if line.startswith('tools/sizes') else set())
-    called |= {'gcc'} if line.startswith(('bench/generated', 'bench/c ', 'tools/refuse_memory')) else set()
+    called |= {'gcc'} if line.startswith(('bench/generated', 'bench/c ', 'bench/by_hand', 'tools/refuse_memory')) else set()
     return lacks('%s: %s' % (name, line), *sorted(called))
 
 
