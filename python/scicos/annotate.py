@@ -1,7 +1,7 @@
 """A twin of the generated C with comments: what each function and each value is in the drawing.
 
-Each comment is a line of its own. Without these lines the text is what `ccode` prints, byte for byte, so whatever
-is proved of that text holds of the twin, as compilers drop comments.
+Each comment is a line of its own. Without these lines the text is what `ccode` prints, byte for byte; what is
+proved is said of that text. A compiler takes both for the same program, since it drops comments.
 """
 from __future__ import annotations
 
@@ -26,7 +26,7 @@ def annotated(design: Design, program: str | os.PathLike[str] | Program | None =
         ..
         /* v1[1]: SUMMATION 3, output 1, int32[1x1] */
         ..
-        /* SUMMATION 3, object 3, counter.json:5 */
+        /* SUMMATION 3, object 3, counter.json:4 */
         static void f3(void) {
         ..
     """
