@@ -69,7 +69,7 @@ def trace_of(name):
 
 def furnish(program, work):
     """A folder in which the lines can be run: the program where they call it, the examples, the tools, and the files that a reader has of his own, as
-    the two that the page on targets shows in C."""
+    those that the page on targets shows in C."""
     os.makedirs(os.path.join(work, 'crates', 'scicos', 'out'))
     os.mkdir(os.path.join(work, 'release'))
     os.mkdir(os.path.join(work, 'inputs'))
@@ -81,7 +81,7 @@ def furnish(program, work):
     shutil.copy(os.path.join(EXAMPLES, 'first.json'), os.path.join(work, 'my-diagram.json'))
     shutil.copy(os.path.join(EXAMPLES, 'watchdog', 'diagram.json'), os.path.join(work, 'd.json'))
     shown = ['\n'.join(lines) + '\n' for word, lines in blocks(text_of(TOP, 'docs', 'SHIPPING.md')) if word == 'c']
-    for name, content in zip(('host.c', 'board.c'), shown):
+    for name, content in zip(('stepped.c', 'ticks.c', 'host.c', 'board.c'), shown):
         with open(os.path.join(work, name), 'w') as file:
             file.write(content)
     for name, gaps in (('one', [20, 70, -1]), ('two', [49, 51, 50, -1])):

@@ -86,14 +86,17 @@ def outside(content):
 
 
 def names_for(program, work):
-    """Writes the header of names that the page's host takes; tells what is wrong with that."""
+    """Writes the header of names and the program that the page's hosts take; tells what is wrong with that."""
+    with open(os.path.join(work, 'average.c'), 'wb') as file:
+        words = [program, 'ccode', os.path.join(EXAMPLES, 'moving-average', 'diagram.json')]
+        file.write(subprocess.run(words, capture_output=True, timeout=120).stdout)
     words = [os.path.join(TOP, 'scicos-kit'), 'header', os.path.join(EXAMPLES, 'moving-average', 'diagram.json'), '-o', os.path.join(work, 'average.h')]
     run = subprocess.run(words, capture_output=True, timeout=120, env=dict(os.environ, SCICOS=os.path.abspath(program)))
     return [] if run.returncode == 0 and run.stderr == b'' else [repr(run)]
 
 
 def targets(program):
-    """The host on the page is C, as is the board beside it, and the page tells of each function that a generated program declares."""
+    """The hosts on the page are C, as is the board beside them, and the page tells of each function that a generated program declares."""
     page = text(TOP, 'docs', 'SHIPPING.md')
     named = outside(text(EXAMPLES, 'primes.c'))
     wrong = ['%s is not on the page' % name for name in named if '| `%s(' % name not in page]
@@ -103,7 +106,7 @@ def targets(program):
             for number, part in enumerate(re.findall(r'^```c\n(.*?)^```$', page, re.M | re.S)):
                 with open(os.path.join(work, '%d.c' % number), 'w') as file:
                     file.write(part)
-                wrong.append(compiled(FLAGS + ['-c', '%d.c' % number], work))
+                wrong.append(compiled(FLAGS + SPARE + ['-I', '.', '-I', EXAMPLES, '-c', '%d.c' % number], work))
     return '; '.join(told for told in wrong + ([] if len(named) == 9 else ['not nine functions']) if told)
 
 

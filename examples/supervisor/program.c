@@ -18,6 +18,7 @@ static int64_t v7[2];
 static int64_t t1;
 static int64_t n1;
 static int64_t i1;
+static int64_t d2;
 static int64_t u1;
 static int64_t d1;
 static int64_t o1;
@@ -380,6 +381,10 @@ static void g3(void) {
       b1 = k1;
     }
   }
+  d2 = (-INT64_C(1));
+  if ((int64_t)(b1 >= INT64_C(0))) {
+    d2 = v6[b1];
+  }
 }
 static void s0(void) {
   sci_start();
@@ -514,6 +519,25 @@ static void s2(void) {
   v4[INT64_C(34)] = INT64_C(1);
   f35();
 }
+static void g4(void) {
+  if ((int64_t)(d2 < INT64_C(0))) {
+    sci_end(INT64_C(2));
+  }
+  if ((int64_t)(d2 > u1)) {
+    sci_end(INT64_C(3));
+  }
+  d1 = v6[b1];
+  v6[b1] = (-INT64_C(1));
+  g1();
+  if ((int64_t)(b1 == INT64_C(0))) {
+    s1();
+  }
+  if ((int64_t)(b1 == INT64_C(1))) {
+    s2();
+  }
+  g2();
+  g3();
+}
 void sci_main(void) {
   v1[INT64_C(5)] = INT64_C(1);
   v2[INT64_C(0)] = INT64_C(1);
@@ -523,24 +547,9 @@ void sci_main(void) {
   n1 = sci_limit();
   s0();
   g2();
+  g3();
   for (i1 = INT64_C(0); i1 < n1; i1 = i1 + INT64_C(1)) {
-    g3();
-    if ((int64_t)(b1 < INT64_C(0))) {
-      sci_end(INT64_C(2));
-    }
-    if ((int64_t)(v6[b1] > u1)) {
-      sci_end(INT64_C(3));
-    }
-    d1 = v6[b1];
-    v6[b1] = (-INT64_C(1));
-    g1();
-    if ((int64_t)(b1 == INT64_C(0))) {
-      s1();
-    }
-    if ((int64_t)(b1 == INT64_C(1))) {
-      s2();
-    }
-    g2();
+    g4();
   }
   sci_end(INT64_C(1));
 }

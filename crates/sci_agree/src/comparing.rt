@@ -140,7 +140,8 @@ impl<'a> Comparing<'a> {
 }
 
 impl<'a> Sink for Comparing<'a> {
-    ghost use Rattle.std.specs.Prelude.{◌≡◌, ◌<◌, [], length, false, IsOk, OnOk};
+    ghost use Rattle.std.specs.Prelude.{◌≡◌, ◌<◌, [], length, false, IsOk, OnOk, OnErr};
+    ghost use Rattle.sci_io.specs.Causes.{counted};
     ghost use Rattle.sci_io.specs.Taken.{Writes, before_text};
     ghost use Rattle.sci_agree.specs.Compared.{state_of};
 
@@ -149,6 +150,7 @@ impl<'a> Sink for Comparing<'a> {
     fn put(&mut self, piece: &[u8]) -> Result<(), Failed>
         requires { 0 < length piece.now }
         ensures written { Writes (state_of self.old) (state_of self.new) piece.now result }
+        ensures counted { OnErr result (self.new.faults ≡ counted self.old.faults) }
         ensures text { self.new.text ≡ self.old.text }
     {
         self.begun = true;
@@ -170,6 +172,10 @@ impl<'a> Sink for Comparing<'a> {
         ensures kept { self.new ≡ self.old }
     {
         Ok(())
+    }
+
+    fn take_unseen(&mut self) -> bool {
+        false
     }
 
     fn begin(&mut self)

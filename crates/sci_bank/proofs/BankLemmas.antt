@@ -27,7 +27,7 @@ use Rattle.sci_kinds.proofs.Elements.{gathered_values, listed_is, total_one, inp
 use Rattle.sci_kinds.proofs.Ranges.{cell_in_range, elem}
 use Rattle.sci_kinds.proofs.LawLemmas.{next_ahead, next_in_range, IsState-next, IsState-first_state}
 use Rattle.sci_kinds.proofs.LawProofs.{asks}
-use Rattle.sci_bank.specs.declared.rows.Row.{Row}
+use Rattle.sci_bank.specs.declared.instance.Instance.{Instance}
 use Rattle.sci_bank.specs.Bank.{row_in, no_row, AreRows, IsOfKind, first_row, row_after_update, Tells}
 use Rattle.sci_bank.specs.declared.Fate.TheVariants as Fate
 
@@ -129,21 +129,21 @@ each_set P xs i y d b h p k q = elim (cases_eq k i) [
   | inr r ↦ subst P (sym (get_or-set_other xs i k y d r)) (h k (subst (λ n. k < n) (length-set xs i y) q))
 ]
 
-pub AreRows-push : (k : Kind) (rows : List Row) (s : Spec) → AreRows k rows → typed s ≡ true → s.kind ≡ k → AreRows k (rows ++ first_row s ∷ [])
+pub AreRows-push : (k : Kind) (rows : List Instance) (s : Spec) → AreRows k rows → typed s ≡ true → s.kind ≡ k → AreRows k (rows ++ first_row s ∷ [])
 AreRows-push k rows s a t e = record {
-  typed_specs = each_push (λ (r : Row). typed r.spec ≡ true) rows (first_row s) no_row a.typed_specs t;
-  of_kind = each_push (λ (r : Row). r.spec.kind ≡ k) rows (first_row s) no_row a.of_kind e;
-  states = each_push (λ (r : Row). IsState r.spec r.state) rows (first_row s) no_row a.states (IsState-first_state s (asks s t));
+  typed_specs = each_push (λ (r : Instance). typed r.spec ≡ true) rows (first_row s) no_row a.typed_specs t;
+  of_kind = each_push (λ (r : Instance). r.spec.kind ≡ k) rows (first_row s) no_row a.of_kind e;
+  states = each_push (λ (r : Instance). IsState r.spec r.state) rows (first_row s) no_row a.states (IsState-first_state s (asks s t));
 }
 
-pub AreRows-set : (k : Kind) (rows : List Row) (slot m : ℕ) (u : List ℤ) → AreRows k rows → slot < length rows → Fills (entering (row_in rows slot).spec) u → AreRows k (set rows slot (row_after_update (row_in rows slot) m u))
+pub AreRows-set : (k : Kind) (rows : List Instance) (slot m : ℕ) (u : List ℤ) → AreRows k rows → slot < length rows → Fills (entering (row_in rows slot).spec) u → AreRows k (set rows slot (row_after_update (row_in rows slot) m u))
 AreRows-set k rows slot m u a p f =
     let r = row_in rows slot in
     let y = row_after_update r m u in
     record {
-      typed_specs = each_set (λ (r : Row). typed r.spec ≡ true) rows slot y no_row p a.typed_specs (a.typed_specs slot p);
-      of_kind = each_set (λ (r : Row). r.spec.kind ≡ k) rows slot y no_row p a.of_kind (a.of_kind slot p);
-      states = each_set (λ (r : Row). IsState r.spec r.state) rows slot y no_row p a.states (IsState-next r.spec (asks r.spec (a.typed_specs slot p)) r.state m u (a.states slot p) f);
+      typed_specs = each_set (λ (r : Instance). typed r.spec ≡ true) rows slot y no_row p a.typed_specs (a.typed_specs slot p);
+      of_kind = each_set (λ (r : Instance). r.spec.kind ≡ k) rows slot y no_row p a.of_kind (a.of_kind slot p);
+      states = each_set (λ (r : Instance). IsState r.spec r.state) rows slot y no_row p a.states (IsState-next r.spec (asks r.spec (a.typed_specs slot p)) r.state m u (a.states slot p) f);
     }
 
 -- a typed spec of a kind has what the kind asks
@@ -151,14 +151,14 @@ pub IsOfKind-spec : (k : Kind) (s : Spec) → typed s ≡ true → s.kind ≡ k 
 IsOfKind-spec k s t e = record { kind_is = e; is_typed = t; asks = subst (λ q. Asks q s) e (asks s t); small = size_small s t }
 
 -- the spec of a row is of the bank's kind
-pub IsOfKind-row : (k : Kind) (rows : List Row) (slot : ℕ) → AreRows k rows → slot < length rows → IsOfKind k (row_in rows slot).spec
+pub IsOfKind-row : (k : Kind) (rows : List Instance) (slot : ℕ) → AreRows k rows → slot < length rows → IsOfKind k (row_in rows slot).spec
 IsOfKind-row k rows slot a p = IsOfKind-spec k (row_in rows slot).spec (a.typed_specs slot p) (a.of_kind slot p)
 
 -- the same, of a row that was read
-pub kind_of_read : (k : Kind) (rows held : List Row) (slot : ℕ) (r : Row) → rows ≡ held → AreRows k rows → slot < length held → r ≡ get_or rows slot r → IsOfKind k r.spec
+pub kind_of_read : (k : Kind) (rows held : List Instance) (slot : ℕ) (r : Instance) → rows ≡ held → AreRows k rows → slot < length held → r ≡ get_or rows slot r → IsOfKind k r.spec
 kind_of_read k rows held slot r e a p q =
-    let l : slot < length rows = subst (λ (xs : List Row). slot < length xs) (sym e) p in
-    subst (λ (x : Row). IsOfKind k x.spec) (sym (q ∙ get_or_default rows slot r no_row l)) (IsOfKind-row k rows slot a l)
+    let l : slot < length rows = subst (λ (xs : List Instance). slot < length xs) (sym e) p in
+    subst (λ (x : Instance). IsOfKind k x.spec) (sym (q ∙ get_or_default rows slot r no_row l)) (IsOfKind-row k rows slot a l)
 
 -- the numbers that a state begins with are one for each value, or one for all
 starts : (k : Kind) (s : Spec) → Tests k s → Asks k s → length s.state ≢ 1 → length s.state ≡ state_len_of k s
@@ -172,9 +172,9 @@ pub starts_of : (s : Spec) → typed s ≡ true → length s.state ≢ 1 → len
 starts_of s h n = starts s.kind s (tests s.kind s h) (asks s h) n
 
 -- a row that was read is stepped
-pub AreRows-step : (k : Kind) (rows : List Row) (slot m : ℕ) (u : List ℤ) (r : Row) → AreRows k rows → slot < length rows → Fills (entering (row_in rows slot).spec) u → r ≡ get_or rows slot r → AreRows k (set rows slot (row_after_update r m u))
+pub AreRows-step : (k : Kind) (rows : List Instance) (slot m : ℕ) (u : List ℤ) (r : Instance) → AreRows k rows → slot < length rows → Fills (entering (row_in rows slot).spec) u → r ≡ get_or rows slot r → AreRows k (set rows slot (row_after_update r m u))
 AreRows-step k rows slot m u r a p f e =
-    subst (λ (q : Row). AreRows k (set rows slot (row_after_update q m u))) (sym (e ∙ get_or_default rows slot r no_row p)) (AreRows-set k rows slot m u a p f)
+    subst (λ (q : Instance). AreRows k (set rows slot (row_after_update q m u))) (sym (e ∙ get_or_default rows slot r no_row p)) (AreRows-set k rows slot m u a p f)
 
 -- ---- reads of the inputs
 

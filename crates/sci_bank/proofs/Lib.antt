@@ -1,3 +1,4 @@
 pub mod BankLemmas
 pub mod LibraryLemmas
 pub mod CallLemmas
+pub mod RunLemmas

@@ -11,7 +11,8 @@ use Rattle.sci_forms.specs.declared.Kind.{Kind}
 use Rattle.sci_forms.specs.declared.Kind.TheVariants.{Const, Summation, GainBlk, Product, AbsValue, Signum, MaxMin, Saturation, DeadBand, Convert, Mux, Demux, Extractor, LogicalOp, RelationalOp, Shift, BitSet, BitClear, ExtractBits, Switch2, Select, Logic, AndLog, Dollar, SampHold, Register, ModuloCount, GatedDelay, Sensor, EvtDly, EvtVarDly, IfThEl, ESelect, Halt}
 use Rattle.sci_forms.specs.Names.{kind_at}
 use Rattle.sci_bank.specs.Bank.{Meaning, no_bank}
-use Rattle.sci_bank.specs.Library.{kinds, place_of, bank_of, with_bank, Holds, AreInOrder, IsFull, next_of}
+use Rattle.sci_bank.specs.Library.{place_of, bank_of, with_bank, Holds, AreInOrder, IsFull, next_of}
+use Rattle.sci_forms.specs.Names.{kinds}
 
 -- ---- the banks of a library
 
@@ -56,7 +57,7 @@ total_all g f xs i all most p a = rw (sum_by-map g f xs) (rw (take_all i xs p) a
 -- ---- order
 
 -- a bank is replaced by one of the same kind
-in_order-with_bank : (banks new : List Meaning) (k : Kind) (b : Meaning) → Holds banks k → b.kind ≡ (bank_of banks k).kind → new ≡ with_bank banks k b → AreInOrder banks → AreInOrder new
+pub in_order-with_bank : (banks new : List Meaning) (k : Kind) (b : Meaning) → Holds banks k → b.kind ≡ (bank_of banks k).kind → new ≡ with_bank banks k b → AreInOrder banks → AreInOrder new
 in_order-with_bank banks new k b h e n o = rw n (λ i l.
     let less : i < length banks = subst (λ n. i < n) (length-set banks (place_of k) b) l in
     elim (cases_eq i (place_of k)) [

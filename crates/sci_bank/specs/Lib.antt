@@ -1,2 +1,4 @@
+pub mod Words
 pub mod Bank
 pub mod Library
+pub mod Runs

@@ -1,7 +1,8 @@
 // A box of a bank is a bank.
-use crate::{Bank, Fate};
+use crate::{Bank, Call, Fate, Stuck};
 use sci_base::NoMemory;
 use sci_kinds::{Kind, Spec};
+use sci_span::Place;
 
 impl Bank for Box<dyn Bank> {
     ghost meaning = { λ b. (Bank-box b).meaning b.value };
@@ -26,6 +27,10 @@ impl Bank for Box<dyn Bank> {
         (**self).out(slot, mask, ins, outs)
     }
 
+    fn out_run(&mut self, calls: &[Call], places: &[Place], values: &mut [i64]) -> Option<Stuck> {
+        (**self).out_run(calls, places, values)
+    }
+
     fn branch(&self, slot: usize, ins: &[i64]) -> u32 {
         (**self).branch(slot, ins)
     }
@@ -36,6 +41,10 @@ impl Bank for Box<dyn Bank> {
 
     fn update(&mut self, slot: usize, mask: u64, ins: &[i64]) {
         (**self).update(slot, mask, ins)
+    }
+
+    fn update_run(&mut self, calls: &[Call], places: &[Place], values: &[i64]) {
+        (**self).update_run(calls, places, values)
     }
 
     fn state_at(&self, slot: usize, i: usize) -> i64 {

@@ -6,7 +6,8 @@ ghost use Rattle.sci_bank.specs.Bank.{RunFits};
 
 use sci_base::Ty;
 use sci_base::bits::two_to;
-use sci_kinds::{Kind, Ports, Spec};
+use sci_forms::form::Mask;
+use sci_kinds::{Ports, Spec};
 
 /// Whether the `n` values from `start` on are there, and in range of the type.
 fn run_fits(t: Ty, values: &[i64], start: usize, n: usize) -> bool
@@ -47,9 +48,10 @@ pub fn fills(ports: &Ports, values: &[i64]) -> bool
 pub fn enters(spec: &Spec, values: &[i64]) -> bool
     ensures { IsTrue result ↔ Fills (entering spec.now) values.now }
 {
-    match spec.kind {
-        Kind::Sensor => fills(&spec.outs, values),
-        _ => fills(&spec.ins, values),
+    if spec.kind.is_sensor() {
+        fills(&spec.outs, values)
+    } else {
+        fills(&spec.ins, values)
     }
 }
 
@@ -60,9 +62,9 @@ pub fn masks(spec: &Spec, mask: u64) -> bool
     if !is_below(mask, spec.evtin) {
         return false;
     }
-    match spec.kind {
-        Kind::Select => mask != 0,
-        _ => true,
+    match spec.kind.form().mask {
+        Mask::Needed => mask != 0,
+        Mask::Unread | Mask::Read => true,
     }
 }
 

@@ -1,15 +1,19 @@
 // A bank over the functions of one kind.
-ghost use Rattle.std.specs.Prelude.{◌≡◌, ℕ, ◌+◌, ◌<◌, true, List, [], length, IfOk, OnErr, slice_set};
+ghost use Rattle.std.specs.Prelude.{◌≡◌, ℕ, ◌+◌, ◌<◌, true, List, [], ◌∷◌, length, IfOk, OnErr, slice_set};
+ghost use Rattle.sci_span.specs.Values.{gathered, AreWithin, IsLone};
+ghost use Rattle.sci_bank.specs.Runs.{IsWritten};
 ghost use Rattle.sci_forms.specs.Ports.{total, Fills};
 ghost use Rattle.sci_kinds.specs.Asks.{IsState, IsMask, entering_of};
 ghost use Rattle.sci_kinds.specs.Table.{branch, delay, out, state_len, first_state, next};
-ghost use Rattle.sci_bank.specs.Bank.{Meaning, IsOfKind, Tells, Held, row_in, row_after_update};
+ghost use Rattle.sci_bank.specs.Bank.{Meaning, IsOfKind, Tells, Held, counted, row_in, row_after_update};
 
-use crate::rows::Row;
+use crate::instance::Instance;
 use crate::rule::Rule;
-use crate::{Bank, Fate};
+use crate::words::Words;
+use crate::{Bank, Call, Fate, Stuck};
 use sci_base::{Ints, NoMemory};
 use sci_kinds::{Cell, Kind, Spec};
+use sci_span::{Entering, Place};
 use std::alloc::Global;
 use std::marker::Model;
 
@@ -18,7 +22,7 @@ use std::marker::Model;
 pub struct KindBank<R: Rule> {
     rule: R,
     alloc: Global,
-    rows: Vec<Row>,
+    rows: Vec<Instance>,
     outs: u64,
 }
 
@@ -55,13 +59,24 @@ impl<R: Rule> KindBank<R> {
     }
 }
 
+impl<R: Rule> KindBank<R> {
+    // Counts a call of `out`.
+    #[inline(always)]
+    fn count(&mut self)
+        ensures rows { self.new.rows ≡ self.old.rows }
+        ensures outs { self.new.outs ≡ counted self.old.outs }
+    {
+        self.outs = self.outs.saturating_add(1);
+    }
+}
+
 /// Fills the outputs of one instance.
 fn fill<R: Rule>(
     rule: &R,
-    spec: &Spec,
+    spec: &Words,
     state: &Ints,
     mask: u64,
-    ins: &[i64],
+    ins: &Entering,
     outs: &mut [i64],
 ) -> Fate
     requires typed { IsOfKind R.kind spec.now }
@@ -82,8 +97,46 @@ fn fill<R: Rule>(
     Fate::Done
 }
 
+/// What goes into a block whose inputs have one element each.
+#[inline(always)]
+fn entering<'a>(place: &'a Place, values: &'a [i64]) -> Entering<'a>
+    requires lone { IsLone place.now }
+    requires within { AreWithin values.now place.now.ins }
+    ensures { result ≡ gathered values.now place.now.ins }
+{
+    let Some(singles) = place.ins.singles() else {
+        unreachable!()
+    };
+    Entering::placed(values, singles)
+}
+
+/// Writes the one output of an instance, or none where it has none, at its place, on the values at the places of its inputs.
+#[inline(always)]
+fn fill_at<R: Rule>(rule: &R, row: &Instance, mask: u64, place: &Place, values: &mut [i64]) -> Fate
+    requires typed { IsOfKind R.kind row.now.spec }
+    requires state { IsState row.now.spec row.now.state }
+    requires mask { IsMask row.now.spec mask }
+    requires lone { IsLone place.now }
+    requires within { AreWithin values.old place.now.ins }
+    requires there { 0 < place.now.outs.len → place.now.outs.start < length values.old }
+    requires ins { Fills (entering_of R.kind row.now.spec) (gathered values.old place.now.ins) }
+    requires room { place.now.outs.len ≡ total row.now.spec.outs }
+    ensures answer { IsWritten (out row.now.spec row.now.state mask (gathered values.old place.now.ins)) place.now.outs.start values.old values.new result }
+{
+    if place.outs.len == 0 {
+        return Fate::Done;
+    }
+    let cell = rule.cell(&row.spec, &row.state, mask, &entering(place, values), 0);
+    match cell {
+        Cell::Value(v) => values[place.outs.start] = v,
+        Cell::Overflow => return Fate::Overflow,
+        Cell::Zero => return Fate::Zero,
+    }
+    Fate::Done
+}
+
 /// Steps the state of one instance.
-fn advance<R: Rule>(rule: &R, spec: &Spec, state: &mut Ints, mask: u64, ins: &[i64])
+fn advance<R: Rule>(rule: &R, spec: &Words, state: &mut Ints, mask: u64, ins: &Entering)
     requires typed { IsOfKind R.kind spec.now }
     requires state { IsState spec.now state.old }
     requires mask { IsMask spec.now mask }
@@ -114,9 +167,9 @@ impl<R: Rule> Bank for KindBank<R> {
 
     fn add(&mut self, spec: &Spec) -> Result<usize, NoMemory> {
         let slot = self.rows.len();
-        let copy = spec.copy(self.alloc)?;
+        let words = Words::of(spec.copy(self.alloc)?);
         let state = Ints::spread(self.alloc, &spec.state, spec.state_len())?;
-        self.rows.push(Row { spec: copy, state })?;
+        self.rows.push(Instance { spec: words, state })?;
         Ok(slot)
     }
 
@@ -124,22 +177,69 @@ impl<R: Rule> Bank for KindBank<R> {
     #[inline(never)]
     fn out(&mut self, slot: usize, mask: u64, ins: &[i64], outs: &mut [i64]) -> Fate {
         let row = &self.rows[slot];
-        let fate = fill(&self.rule, &row.spec, &row.state, mask, ins, outs);
-        self.outs = self.outs.saturating_add(1);
+        let fate = fill(
+            &self.rule,
+            &row.spec,
+            &row.state,
+            mask,
+            &Entering::of(ins),
+            outs,
+        );
+        self.count();
         fate
     }
 
+    #[inline(never)]
+    fn out_run(&mut self, calls: &[Call], places: &[Place], values: &mut [i64]) -> Option<Stuck> {
+        // the count is in its range
+        let _counted = self.outs;
+        for call in calls {
+            let row = &self.rows[call.slot];
+            let fate = fill_at(
+                &self.rule,
+                row,
+                call.mask,
+                &places[call.block as usize - 1],
+                values,
+            );
+            self.count();
+            if fate != Fate::Done {
+                return Some(Stuck {
+                    block: call.block,
+                    fate,
+                });
+            }
+        }
+        None
+    }
+
     fn branch(&self, slot: usize, ins: &[i64]) -> u32 {
-        self.rule.branch(&self.rows[slot].spec, ins)
+        self.rule.branch(&self.rows[slot].spec, &Entering::of(ins))
     }
 
     fn delay(&self, slot: usize, port: u32, ins: &[i64]) -> i64 {
-        self.rule.delay(&self.rows[slot].spec, port, ins)
+        self.rule
+            .delay(&self.rows[slot].spec, port, &Entering::of(ins))
     }
 
     fn update(&mut self, slot: usize, mask: u64, ins: &[i64]) {
         let row = &mut self.rows[slot];
-        advance(&self.rule, &row.spec, &mut row.state, mask, ins);
+        advance(
+            &self.rule,
+            &row.spec,
+            &mut row.state,
+            mask,
+            &Entering::of(ins),
+        );
+    }
+
+    #[inline(never)]
+    fn update_run(&mut self, calls: &[Call], places: &[Place], values: &[i64]) {
+        for call in calls {
+            let row = &mut self.rows[call.slot];
+            let ins = entering(&places[call.block as usize - 1], values);
+            advance(&self.rule, &row.spec, &mut row.state, call.mask, &ins);
+        }
     }
 
     fn state_at(&self, slot: usize, i: usize) -> i64 {

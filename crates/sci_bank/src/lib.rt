@@ -2,25 +2,31 @@
 #![tactic(auto)]
 
 ghost use Rattle.std.specs.Prelude.{◌≡◌, ℕ, ◌+◌, ◌<◌, true, List, length, IfOk, OnErr};
+ghost use Rattle.sci_base.specs.declared.Ty.{Ty};
 ghost use Rattle.sci_base.specs.Lists.{at};
-ghost use Rattle.sci_forms.specs.Forms.{is_sync, has_delay};
+ghost use Rattle.sci_forms.specs.Form.{is_sync, has_delay};
 ghost use Rattle.sci_forms.specs.Ports.{total, Fills};
 ghost use Rattle.sci_forms.specs.Typed.{typed};
 ghost use Rattle.sci_kinds.specs.Asks.{entering};
 ghost use Rattle.sci_kinds.specs.Table.{branch, delay, out, state_len};
-ghost use Rattle.sci_bank.specs.Bank.{Meaning, IsCall, Tells, row_at, spec_at, after_reset, after_add, after_out, after_update};
+ghost use Rattle.sci_bank.specs.Bank.{Meaning, IsCall, Tells, word_of, row_at, spec_at, after_reset, after_add, after_out, after_update};
+ghost use Rattle.sci_bank.specs.Runs.{run_of, calls_made, after_outs, EndsRun, after_updates, AreOfTypes, ArePlaced, MayRun};
 
-use sci_base::NoMemory;
+use sci_base::{NoMemory, StopWord};
 use sci_kinds::{Kind, Spec};
+use sci_span::Place;
 
 mod boxed;
 pub mod calls;
+mod instance;
 pub mod kind_bank;
 pub mod library;
 pub mod plain;
-pub mod rows;
 pub mod rule;
+mod runs;
 pub mod words;
+
+pub use runs::{Call, Stuck};
 
 /// How a call of `out` ended.
 #[derive(Clone, Copy, Debug, Drop, PartialEq, Eq)]
@@ -31,6 +37,19 @@ pub enum Fate {
     Overflow,
     /// The first element without a value has a divisor of 0.
     Zero,
+}
+
+impl Fate {
+    /// The word of the stop, where there is one.
+    pub fn word(self) -> Option<StopWord>
+        ensures { result ≡ word_of self }
+    {
+        match self {
+            Fate::Done => None,
+            Fate::Overflow => Some(StopWord::Overflow),
+            Fate::Zero => Some(StopWord::Zero),
+        }
+    }
 }
 
 /// The blocks of one kind. In every call `ins` holds all elements of all inputs in order, down the columns; for a sensor it is
@@ -66,6 +85,14 @@ pub trait Bank: Drop {
         ensures in_range { Fills (spec_at (meaning self.old) slot).outs outs.old → Fills (spec_at (meaning self.old) slot).outs outs.new }
         ensures counted { meaning self.new ≡ after_out (meaning self.old) };
 
+    /// Computes blocks one after the other as `out` does, each on the values at the places of its inputs, and writes what it has at the place of
+    /// its outputs, up to the first that has no values. Places are by block.
+    fn out_run(&mut self, calls: &[Call], places: &[Place], values: &mut [i64]) -> Option<Stuck>
+        requires { MayRun (meaning self.old) places.now values.old calls.now }
+        ensures ended { EndsRun (run_of (meaning self.old) places.now calls.now values.old) result values.new }
+        ensures in_range { (types : List Ty) → AreOfTypes types values.old → ArePlaced (meaning self.old) places.now types calls.now → AreOfTypes types values.new }
+        ensures counted { meaning self.new ≡ after_outs (meaning self.old) (calls_made (length calls.now) (run_of (meaning self.old) places.now calls.now values.old)) };
+
     /// The branch that a synchronous block takes, from 1.
     fn branch(&self, slot: usize, ins: &[i64]) -> u32
         requires known { slot < length (meaning self.now).rows }
@@ -84,6 +111,11 @@ pub trait Bank: Drop {
     fn update(&mut self, slot: usize, mask: u64, ins: &[i64])
         requires call { IsCall (meaning self.old).rows slot mask ins.now }
         ensures { meaning self.new ≡ after_update (meaning self.old) slot mask ins.now };
+
+    /// Steps the states of blocks one after the other as `update` does, each on the values at the places of its inputs.
+    fn update_run(&mut self, calls: &[Call], places: &[Place], values: &[i64])
+        requires { MayRun (meaning self.old) places.now values.now calls.now }
+        ensures { meaning self.new ≡ after_updates (meaning self.old) places.now values.now calls.now };
 
     /// Value `i` of an instance's state, counted from 0.
     fn state_at(&self, slot: usize, i: usize) -> i64

@@ -4,14 +4,16 @@ ghost use Rattle.sci_forms.specs.declared.Kind.{Kind};
 ghost use Rattle.sci_forms.specs.declared.spec.Spec.{Spec};
 ghost use Rattle.sci_forms.specs.Ports.{total, Fills};
 ghost use Rattle.sci_forms.specs.Words.{state_len_of};
-ghost use Rattle.sci_forms.specs.Forms.{is_sync, has_delay};
+ghost use Rattle.sci_forms.specs.Form.{is_sync, has_delay};
 ghost use Rattle.sci_kinds.specs.Asks.{IsState, IsMask, entering_of};
 ghost use Rattle.sci_kinds.specs.Table.{cell_of};
 ghost use Rattle.sci_bank.specs.Bank.{IsOfKind};
 
 use crate::rule::Rule;
+use crate::words::Words;
 use sci_base::Ints;
 use sci_kinds::{Cell, Kind, Spec};
+use sci_span::Entering;
 
 /// The function of a kind that has no state, no branch and no delay.
 pub trait CellRule: Drop {
@@ -22,7 +24,7 @@ pub trait CellRule: Drop {
     fn kind(&self) -> Kind
         ensures { result ≡ kind };
 
-    fn cell(&self, spec: &Spec, mask: u64, ins: &[i64], at: usize) -> Cell
+    fn cell(&self, spec: &Words, mask: u64, ins: &Entering, at: usize) -> Cell
         requires typed { IsOfKind kind spec.now }
         requires mask { IsMask spec.now mask }
         requires ins { Fills (entering_of kind spec.now) ins.now }
@@ -53,19 +55,20 @@ impl<C: CellRule> Rule for Plain<C> {
         self.rule.kind()
     }
 
-    fn cell(&self, spec: &Spec, _state: &Ints, mask: u64, ins: &[i64], at: usize) -> Cell {
+    #[inline(always)]
+    fn cell(&self, spec: &Words, _state: &Ints, mask: u64, ins: &Entering, at: usize) -> Cell {
         self.rule.cell(spec, mask, ins, at)
     }
 
-    fn next(&self, _spec: &Spec, _state: &Ints, _mask: u64, _ins: &[i64], _at: usize) -> i64 {
+    fn next(&self, _spec: &Words, _state: &Ints, _mask: u64, _ins: &Entering, _at: usize) -> i64 {
         0
     }
 
-    fn branch(&self, _spec: &Spec, _ins: &[i64]) -> u32 {
+    fn branch(&self, _spec: &Words, _ins: &Entering) -> u32 {
         1
     }
 
-    fn delay(&self, _spec: &Spec, _port: u32, _ins: &[i64]) -> i64 {
+    fn delay(&self, _spec: &Words, _port: u32, _ins: &Entering) -> i64 {
         -1
     }
 }

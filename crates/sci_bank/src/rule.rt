@@ -2,14 +2,16 @@
 ghost use Rattle.std.specs.Prelude.{◌≡◌, ◌<◌, true};
 ghost use Rattle.sci_forms.specs.declared.Kind.{Kind};
 ghost use Rattle.sci_forms.specs.Ports.{total, Fills};
-ghost use Rattle.sci_forms.specs.Forms.{is_sync, has_delay};
+ghost use Rattle.sci_forms.specs.Form.{is_sync, has_delay};
 ghost use Rattle.sci_forms.specs.Words.{state_len_of};
 ghost use Rattle.sci_kinds.specs.Asks.{IsState, IsMask, entering_of};
 ghost use Rattle.sci_kinds.specs.Table.{cell_of, next_of, branch_of, delay_of};
 ghost use Rattle.sci_bank.specs.Bank.{IsOfKind};
 
+use crate::words::Words;
 use sci_base::Ints;
-use sci_kinds::{Cell, Kind, Spec};
+use sci_kinds::{Cell, Kind};
+use sci_span::Entering;
 
 /// The functions of a kind, each of one element: `KindBank` makes a bank of them.
 pub trait Rule: Drop {
@@ -23,7 +25,7 @@ pub trait Rule: Drop {
         ensures { result ≡ kind };
 
     /// Element `at` of the outputs.
-    fn cell(&self, spec: &Spec, state: &Ints, mask: u64, ins: &[i64], at: usize) -> Cell
+    fn cell(&self, spec: &Words, state: &Ints, mask: u64, ins: &Entering, at: usize) -> Cell
         requires typed { IsOfKind kind spec.now }
         requires state { IsState spec.now state.now }
         requires mask { IsMask spec.now mask }
@@ -32,7 +34,7 @@ pub trait Rule: Drop {
         ensures { result ≡ cell_of kind spec.now state.now mask ins.now at };
 
     /// Value `at` of the next state.
-    fn next(&self, spec: &Spec, state: &Ints, mask: u64, ins: &[i64], at: usize) -> i64
+    fn next(&self, spec: &Words, state: &Ints, mask: u64, ins: &Entering, at: usize) -> i64
         requires typed { IsOfKind kind spec.now }
         requires state { IsState spec.now state.now }
         requires mask { IsMask spec.now mask }
@@ -41,14 +43,14 @@ pub trait Rule: Drop {
         ensures { result ≡ next_of kind spec.now state.now mask ins.now at };
 
     /// The branch that is taken.
-    fn branch(&self, spec: &Spec, ins: &[i64]) -> u32
+    fn branch(&self, spec: &Words, ins: &Entering) -> u32
         requires typed { IsOfKind kind spec.now }
         requires ins { Fills (entering_of kind spec.now) ins.now }
         requires sync { is_sync kind ≡ true }
         ensures { result ≡ branch_of kind spec.now ins.now };
 
     /// The delay of an activation output.
-    fn delay(&self, spec: &Spec, port: u32, ins: &[i64]) -> i64
+    fn delay(&self, spec: &Words, port: u32, ins: &Entering) -> i64
         requires typed { IsOfKind kind spec.now }
         requires ins { Fills (entering_of kind spec.now) ins.now }
         requires delayed { has_delay kind ≡ true }

@@ -10,12 +10,105 @@ ghost use Rattle.sci_kinds.specs.Table.{mode_of, fitted, quotient_cell, input};
 use sci_base::{Mode, Ty, fit, mul_fit};
 use sci_forms::values::is_equal;
 use sci_kinds::{Cell, Spec};
+use sci_span::Entering;
+use std::marker::Model;
+
+/// A spec whose first output is small, with what each call asks of it made ready: the type, its ends and the size of the first output, and the
+/// mode that parameter 0 names.
+#[derive(Drop)]
+pub struct Words {
+    ty: Ty,
+    mode: Mode,
+    low: i64,
+    high: i64,
+    size: usize,
+    spec: Spec,
+}
+
+impl Model for Words {
+    ghost use Rattle.sci_forms.specs.declared.spec.Spec.{Spec};
+    ghost use Rattle.sci_bank.specs.Words.{AreWords};
+
+    ghost Value = { Spec };
+
+    ghost view = { λ w. w.spec };
+
+    ghost invariant = { λ w. AreWords w.spec w.ty w.mode w.low w.high w.size };
+}
+
+impl Words {
+    /// The words of a spec.
+    pub fn of(spec: Spec) -> Words
+        requires { size spec ≤ 256 }
+        ensures { result ≡ spec }
+    {
+        let port = spec.outs.port(0);
+        let ty = port.kind_of_type();
+        Words {
+            ty,
+            mode: mode_of(spec.params.at(0)),
+            low: ty.low(),
+            high: ty.high(),
+            size: port.elements() as usize,
+            spec,
+        }
+    }
+
+    /// How many inputs there are.
+    pub fn in_count(&self) -> usize
+        ensures { result ≡ length self.now.ins }
+    {
+        self.spec.ins.len()
+    }
+
+    /// How many outputs there are.
+    pub fn out_count(&self) -> usize
+        ensures { result ≡ length self.now.outs }
+    {
+        self.spec.outs.len()
+    }
+
+    /// How many parameters there are.
+    pub fn param_count(&self) -> usize
+        ensures { result ≡ length self.now.params }
+    {
+        self.spec.params.len()
+    }
+
+    /// How many values the state has that the spec begins with.
+    pub fn state_count(&self) -> usize
+        ensures { result ≡ length self.now.state }
+    {
+        self.spec.state.len()
+    }
+
+    /// How many activation inputs there are.
+    pub fn evtin(&self) -> u32
+        ensures { result ≡ self.now.evtin }
+    {
+        self.spec.evtin
+    }
+
+    /// How many activation outputs there are.
+    pub fn evtout(&self) -> u32
+        ensures { result ≡ self.now.evtout }
+    {
+        self.spec.evtout
+    }
+}
 
 /// The type of the first output.
-pub fn out_type(spec: &Spec) -> Ty
+pub fn out_type(spec: &Words) -> Ty
     ensures { result ≡ out_type spec.now }
 {
-    spec.outs.port(0).kind_of_type()
+    spec.ty
+}
+
+/// The size of the first output.
+pub fn size(spec: &Words) -> usize
+    ensures { result ≡ size spec.now }
+{
+    spec.size
 }
 
 /// The mode of a code: 0 wraps, 1 saturates, 2 stops.
@@ -32,41 +125,42 @@ fn mode_of(code: i64) -> Mode
 }
 
 /// The mode that parameter 0 names.
-pub fn mode(spec: &Spec) -> Mode
+pub fn mode(spec: &Words) -> Mode
     ensures { result ≡ mode_of (param spec.now 0) }
 {
-    mode_of(param(spec, 0))
+    spec.mode
 }
 
 /// Parameter `k`, counted from 0.
-pub fn param(spec: &Spec, k: usize) -> i64
+pub fn param(spec: &Words, k: usize) -> i64
     ensures { result ≡ param spec.now k }
 {
-    spec.params.at(k)
+    spec.spec.params.at(k)
 }
 
 /// Element `e` of all the inputs' values.
-pub fn element(ins: &[i64], e: usize) -> i64
+#[inline(always)]
+pub fn element(ins: &Entering, e: usize) -> i64
     ensures { result ≡ at ins.now e }
 {
-    if e < ins.len() { ins[e] } else { 0 }
+    ins.at(e)
 }
 
 /// Element `e` of input `k`, of a block whose ports all have the size of the first output.
-pub fn input(spec: &Spec, ins: &[i64], k: usize, e: usize) -> i64
-    requires { size spec.now ≤ 256 }
+#[inline(always)]
+pub fn input(spec: &Words, ins: &Entering, k: usize, e: usize) -> i64
     ensures { result ≡ input (size spec.now) ins.now k e }
 {
-    let place = k as u128 * spec.outs.port(0).elements() + e as u128;
+    let place = k as u128 * spec.size as u128 + e as u128;
     if place < ins.len() as u128 {
-        ins[place as usize]
+        ins.get(place as usize)
     } else {
         0
     }
 }
 
 /// The same, and its range, of a block whose ports all have the type and the size of the first output.
-pub fn alike_input(spec: &Spec, ins: &[i64], k: usize, e: usize) -> i64
+pub fn alike_input(spec: &Words, ins: &Entering, k: usize, e: usize) -> i64
     requires small { size spec.now ≤ 256 }
     requires alike { IsAlikeSpec spec.now }
     requires filled { Fills spec.now.ins ins.now }
@@ -79,7 +173,7 @@ pub fn alike_input(spec: &Spec, ins: &[i64], k: usize, e: usize) -> i64
 }
 
 /// Element `e` of the only input, and its range, of a block whose ports have one type and one size.
-pub fn only_input(spec: &Spec, ins: &[i64], e: usize) -> i64
+pub fn only_input(spec: &Words, ins: &Entering, e: usize) -> i64
     requires alike { IsAlikeSpec spec.now }
     requires filled { Fills spec.now.ins ins.now }
     requires only { length spec.now.ins ≡ 1 }
@@ -100,13 +194,28 @@ pub fn cell_of(v: Option<i64>) -> Cell
     }
 }
 
-/// The fitted product of two numbers of a type.
-pub fn mul_cell(t: Ty, m: Mode, a: i64, b: i64) -> Cell
-    requires a { InRange t a }
-    requires b { InRange t b }
-    ensures { result ≡ fitted (fit t m (a *ℤ b)) }
+/// A number as a cell, fitted as parameter 0 says. Most numbers are in range, and then the mode need not be read.
+#[inline(always)]
+pub fn fitted_cell(spec: &Words, v: i64) -> Cell
+    ensures { result ≡ fitted (fit (out_type spec.now) (mode_of (param spec.now 0)) v) }
 {
-    cell_of(mul_fit(t, m, a, b))
+    if spec.low <= v && v <= spec.high {
+        return Cell::Value(v);
+    }
+    cell_of(fit(spec.ty, spec.mode, v))
+}
+
+/// The product of two numbers of the first output's type, fitted as parameter 0 says. Most products fit into 64 bits.
+#[inline(always)]
+pub fn product_cell(spec: &Words, a: i64, b: i64) -> Cell
+    requires a { InRange (out_type spec.now) a }
+    requires b { InRange (out_type spec.now) b }
+    ensures { result ≡ fitted (fit (out_type spec.now) (mode_of (param spec.now 0)) (a *ℤ b)) }
+{
+    match a.checked_mul(b) {
+        Some(v) => fitted_cell(spec, v),
+        None => cell_of(mul_fit(spec.ty, spec.mode, a, b)),
+    }
 }
 
 /// The fitted quotient of two numbers of a type, rounded toward zero.

@@ -4,7 +4,9 @@ ghost use Rattle.sci_forms.specs.declared.Kind.TheVariants.{AndLog as AndLogKind
 
 use sci_bank::kind_bank::KindBank;
 use sci_bank::plain::{CellRule, Plain};
-use sci_kinds::{Cell, Kind, Spec};
+use sci_bank::words::Words;
+use sci_kinds::{Cell, Kind};
+use sci_span::Entering;
 
 /// One element of the output.
 #[derive(Drop)]
@@ -24,7 +26,7 @@ impl CellRule for AndLogRule {
         Kind::AndLog
     }
 
-    fn cell(&self, _spec: &Spec, mask: u64, _ins: &[i64], _at: usize) -> Cell {
+    fn cell(&self, _spec: &Words, mask: u64, _ins: &Entering, _at: usize) -> Cell {
         if mask == 3 {
             Cell::Value(1)
         } else {

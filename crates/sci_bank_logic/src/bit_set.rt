@@ -8,10 +8,11 @@ ghost use Rattle.sci_forms.specs.declared.Kind.TheVariants.{BitSet as BitSetKind
 use crate::patterns::{number, pattern, place};
 use sci_bank::kind_bank::KindBank;
 use sci_bank::plain::{CellRule, Plain};
-use sci_bank::words::{only_input, out_type};
+use sci_bank::words::{Words, only_input, out_type};
 use sci_base::Ty;
 use sci_base::bits::set_bit;
-use sci_kinds::{Cell, Kind, Spec};
+use sci_kinds::{Cell, Kind};
+use sci_span::Entering;
 
 /// One element of the output.
 #[derive(Drop)]
@@ -40,7 +41,7 @@ impl CellRule for BitSetRule {
         Kind::BitSet
     }
 
-    fn cell(&self, spec: &Spec, _mask: u64, ins: &[i64], at: usize) -> Cell {
+    fn cell(&self, spec: &Words, _mask: u64, ins: &Entering, at: usize) -> Cell {
         with_bit(out_type(spec), only_input(spec, ins, at), place(spec, 0))
     }
 

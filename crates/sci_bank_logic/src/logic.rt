@@ -9,8 +9,9 @@ ghost use Rattle.sci_forms.specs.declared.Kind.TheVariants.{Logic as LogicKind};
 use crate::patterns::digit;
 use sci_bank::kind_bank::KindBank;
 use sci_bank::plain::{CellRule, Plain};
-use sci_bank::words::{element, param};
-use sci_kinds::{Cell, Kind, Spec};
+use sci_bank::words::{Words, element, param};
+use sci_kinds::{Cell, Kind};
+use sci_span::Entering;
 
 /// One element of the output.
 #[derive(Drop)]
@@ -20,7 +21,7 @@ pub struct LogicRule;
 pub type Logic = KindBank<Plain<LogicRule>>;
 
 /// The number whose binary digits are the truths of the inputs, the first the most significant.
-fn row(ins: &[i64], n: usize) -> usize
+fn row(ins: &Entering, n: usize) -> usize
     requires { n ≤ 8 }
     ensures value { result ≡ row_to (at ins.now) n }
     ensures below { result < 256 }
@@ -33,13 +34,13 @@ fn row(ins: &[i64], n: usize) -> usize
 }
 
 /// The entry of a row for one output.
-fn entry(spec: &Spec, row: usize, at: usize) -> Cell
+fn entry(spec: &Words, row: usize, at: usize) -> Cell
     requires rows { row < 256 }
     requires outs { length spec.now.outs ≤ 8 }
     requires at { at < length spec.now.outs }
     ensures { result ≡ Value (param spec.now (row * length spec.now.outs + at)) }
 {
-    Cell::Value(param(spec, row * spec.outs.len() + at))
+    Cell::Value(param(spec, row * spec.out_count() + at))
 }
 
 impl CellRule for LogicRule {
@@ -53,8 +54,8 @@ impl CellRule for LogicRule {
         Kind::Logic
     }
 
-    fn cell(&self, spec: &Spec, _mask: u64, ins: &[i64], at: usize) -> Cell {
-        entry(spec, row(ins, spec.ins.len()), at)
+    fn cell(&self, spec: &Words, _mask: u64, ins: &Entering, at: usize) -> Cell {
+        entry(spec, row(ins, spec.in_count()), at)
     }
 
     ghost no_state = { λ s. refl };

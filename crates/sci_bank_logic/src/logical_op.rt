@@ -10,10 +10,11 @@ ghost use Rattle.sci_forms.specs.declared.Kind.TheVariants.{LogicalOp as Logical
 use crate::patterns::{digit, number, ones, pattern, truth};
 use sci_bank::kind_bank::KindBank;
 use sci_bank::plain::{CellRule, Plain};
-use sci_bank::words::{alike_input, input, out_type, param};
+use sci_bank::words::{Words, alike_input, input, out_type, param};
 use sci_base::Ty;
 use sci_forms::values::is_equal;
-use sci_kinds::{Cell, Kind, Spec};
+use sci_kinds::{Cell, Kind};
+use sci_span::Entering;
 
 /// One element of the output.
 #[derive(Drop)]
@@ -45,12 +46,12 @@ fn logical(op: i64, n: usize, count: usize) -> bool
 }
 
 /// How many inputs are true at one element.
-fn true_inputs(spec: &Spec, ins: &[i64], at: usize) -> usize
+fn true_inputs(spec: &Words, ins: &Entering, at: usize) -> usize
     requires { size spec.now ≤ 256 }
     ensures { result ≡ count_to (λ k. input (size spec.now) ins.now k at) (length spec.now.ins) }
 {
     let mut count = 0;
-    for k in 0..spec.ins.len() {
+    for k in 0..spec.in_count() {
         count += digit(input(spec, ins, k, at));
     }
     count
@@ -99,7 +100,7 @@ fn neutral(t: Ty, join: Join) -> u64
 }
 
 /// The patterns of all inputs joined at one element.
-fn all_joined(spec: &Spec, ins: &[i64], at: usize, join: Join) -> u64
+fn all_joined(spec: &Words, ins: &Entering, at: usize, join: Join) -> u64
     requires typed { IsOfKind LogicalOpKind spec.now }
     requires ins { Fills spec.now.ins ins.now }
     requires at { at < total spec.now.outs }
@@ -107,14 +108,14 @@ fn all_joined(spec: &Spec, ins: &[i64], at: usize, join: Join) -> u64
 {
     let t = out_type(spec);
     let mut all = neutral(t, join);
-    for k in 0..spec.ins.len() {
+    for k in 0..spec.in_count() {
         all = joined(join, all, pattern(t, alike_input(spec, ins, k, at)));
     }
     all
 }
 
 /// The operation at each bit of the inputs' patterns.
-fn bitwise(spec: &Spec, ins: &[i64], at: usize, op: i64) -> Cell
+fn bitwise(spec: &Words, ins: &Entering, at: usize, op: i64) -> Cell
     requires typed { IsOfKind LogicalOpKind spec.now }
     requires ins { Fills spec.now.ins ins.now }
     requires at { at < total spec.now.outs }
@@ -140,10 +141,10 @@ impl CellRule for LogicalOpRule {
         Kind::LogicalOp
     }
 
-    fn cell(&self, spec: &Spec, _mask: u64, ins: &[i64], at: usize) -> Cell {
+    fn cell(&self, spec: &Words, _mask: u64, ins: &Entering, at: usize) -> Cell {
         let op = param(spec, 0);
         if is_equal(param(spec, 1), 0) {
-            Cell::Value(truth(logical(op, spec.ins.len(), true_inputs(spec, ins, at))))
+            Cell::Value(truth(logical(op, spec.in_count(), true_inputs(spec, ins, at))))
         } else {
             bitwise(spec, ins, at, op)
         }

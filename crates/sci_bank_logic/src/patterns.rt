@@ -5,11 +5,11 @@ ghost use Rattle.sci_base.specs.Bits.{pattern};
 ghost use Rattle.sci_forms.specs.Words.{param, out_type};
 ghost use Rattle.sci_kinds.specs.Table.{number, truth};
 
-use sci_bank::words::param;
+use sci_bank::words::{Words, param};
 use sci_base::Ty;
 use sci_base::bits::two_to;
 use sci_forms::values::is_equal;
-use sci_kinds::{Cell, Spec};
+use sci_kinds::Cell;
 
 /// How many patterns a type has.
 pub fn span(t: Ty) -> u64
@@ -56,7 +56,7 @@ pub fn number(t: Ty, p: u64) -> Cell
 }
 
 /// The place of a bit, or a number of places, that parameter `k` says.
-pub fn place(spec: &Spec, k: usize) -> u32
+pub fn place(spec: &Words, k: usize) -> u32
     requires { unsigned_abs (param spec.now k) < width (out_type spec.now) }
     ensures { result ≡ unsigned_abs (param spec.now k) }
 {

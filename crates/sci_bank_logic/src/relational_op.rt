@@ -6,8 +6,9 @@ ghost use Rattle.sci_forms.specs.declared.Kind.TheVariants.{RelationalOp as Rela
 use crate::patterns::truth;
 use sci_bank::kind_bank::KindBank;
 use sci_bank::plain::{CellRule, Plain};
-use sci_bank::words::{input, param};
-use sci_kinds::{Cell, Kind, Spec};
+use sci_bank::words::{Words, input, param};
+use sci_kinds::{Cell, Kind};
+use sci_span::Entering;
 
 /// One element of the output.
 #[derive(Drop)]
@@ -41,7 +42,7 @@ impl CellRule for RelationalOpRule {
         Kind::RelationalOp
     }
 
-    fn cell(&self, spec: &Spec, _mask: u64, ins: &[i64], at: usize) -> Cell {
+    fn cell(&self, spec: &Words, _mask: u64, ins: &Entering, at: usize) -> Cell {
         let a = input(spec, ins, 0, at);
         let b = input(spec, ins, 1, at);
         Cell::Value(truth(relation(param(spec, 0), a, b)))

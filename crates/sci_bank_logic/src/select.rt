@@ -5,8 +5,9 @@ ghost use Rattle.sci_forms.specs.declared.Kind.TheVariants.{Select as SelectKind
 
 use sci_bank::kind_bank::KindBank;
 use sci_bank::plain::{CellRule, Plain};
-use sci_bank::words::input;
-use sci_kinds::{Cell, Kind, Spec};
+use sci_bank::words::{Words, input};
+use sci_kinds::{Cell, Kind};
+use sci_span::Entering;
 
 /// One element of the output.
 #[derive(Drop)]
@@ -40,8 +41,8 @@ impl CellRule for SelectRule {
         Kind::Select
     }
 
-    fn cell(&self, spec: &Spec, mask: u64, ins: &[i64], at: usize) -> Cell {
-        Cell::Value(input(spec, ins, least_set(mask, spec.evtin), at))
+    fn cell(&self, spec: &Words, mask: u64, ins: &Entering, at: usize) -> Cell {
+        Cell::Value(input(spec, ins, least_set(mask, spec.evtin()), at))
     }
 
     ghost no_state = { λ s. refl };

@@ -9,11 +9,12 @@ ghost use Rattle.sci_forms.specs.declared.Kind.TheVariants.{Shift as ShiftKind};
 use crate::patterns::{number, ones, pattern};
 use sci_bank::kind_bank::KindBank;
 use sci_bank::plain::{CellRule, Plain};
-use sci_bank::words::{cell_of, only_input, out_type, param};
+use sci_bank::words::{Words, cell_of, only_input, out_type, param};
 use sci_base::bits::two_to;
 use sci_base::{Mode, Ty, fit};
 use sci_forms::values::is_equal;
-use sci_kinds::{Cell, Kind, Spec};
+use sci_kinds::{Cell, Kind};
+use sci_span::Entering;
 
 /// One element of the output.
 #[derive(Drop)]
@@ -88,7 +89,7 @@ impl CellRule for ShiftRule {
         Kind::Shift
     }
 
-    fn cell(&self, spec: &Spec, _mask: u64, ins: &[i64], at: usize) -> Cell {
+    fn cell(&self, spec: &Words, _mask: u64, ins: &Entering, at: usize) -> Cell {
         let v = only_input(spec, ins, at);
         let t = out_type(spec);
         if is_equal(param(spec, 1), 0) {

@@ -1,13 +1,13 @@
 // SWITCH2_m: the first or the third input, by the second against a threshold.
 ghost use Rattle.std.specs.Prelude.{refl, ◌≡◌, ◌≤◌};
-ghost use Rattle.sci_forms.specs.Words.{size};
 ghost use Rattle.sci_kinds.specs.Table.{switches};
 ghost use Rattle.sci_forms.specs.declared.Kind.TheVariants.{Switch2 as Switch2Kind};
 
 use sci_bank::kind_bank::KindBank;
 use sci_bank::plain::{CellRule, Plain};
-use sci_bank::words::{element, param};
-use sci_kinds::{Cell, Kind, Spec};
+use sci_bank::words::{Words, element, param, size};
+use sci_kinds::{Cell, Kind};
+use sci_span::Entering;
 
 /// One element of the output.
 #[derive(Drop)]
@@ -27,14 +27,6 @@ fn switches(code: i64, threshold: i64, v: i64) -> bool
     }
 }
 
-/// How many elements the output has.
-fn size(spec: &Spec) -> usize
-    requires { size spec.now ≤ 256 }
-    ensures { result ≡ size spec.now }
-{
-    spec.outs.port(0).elements() as usize
-}
-
 impl CellRule for Switch2Rule {
     ghost kind = { Switch2Kind };
 
@@ -46,7 +38,7 @@ impl CellRule for Switch2Rule {
         Kind::Switch2
     }
 
-    fn cell(&self, spec: &Spec, _mask: u64, ins: &[i64], at: usize) -> Cell {
+    fn cell(&self, spec: &Words, _mask: u64, ins: &Entering, at: usize) -> Cell {
         let size = size(spec);
         if switches(param(spec, 0), param(spec, 1), element(ins, size)) {
             Cell::Value(element(ins, at))

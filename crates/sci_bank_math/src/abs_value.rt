@@ -6,9 +6,10 @@ ghost use Rattle.sci_forms.specs.declared.Kind.TheVariants.{AbsValue as AbsValue
 
 use sci_bank::kind_bank::KindBank;
 use sci_bank::plain::{CellRule, Plain};
-use sci_bank::words::{cell_of, mode, only_input, out_type};
+use sci_bank::words::{Words, cell_of, mode, only_input, out_type};
 use sci_base::{Mode, Ty, fit};
-use sci_kinds::{Cell, Kind, Spec};
+use sci_kinds::{Cell, Kind};
+use sci_span::Entering;
 
 /// One element of the output.
 #[derive(Drop)]
@@ -40,7 +41,7 @@ impl CellRule for AbsValueRule {
         Kind::AbsValue
     }
 
-    fn cell(&self, spec: &Spec, _mask: u64, ins: &[i64], at: usize) -> Cell {
+    fn cell(&self, spec: &Words, _mask: u64, ins: &Entering, at: usize) -> Cell {
         abs_cell(out_type(spec), mode(spec), only_input(spec, ins, at))
     }
 

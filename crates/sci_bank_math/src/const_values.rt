@@ -4,8 +4,9 @@ ghost use Rattle.sci_forms.specs.declared.Kind.TheVariants.{Const as ConstKind};
 
 use sci_bank::kind_bank::KindBank;
 use sci_bank::plain::{CellRule, Plain};
-use sci_bank::words::param;
-use sci_kinds::{Cell, Kind, Spec};
+use sci_bank::words::{Words, param};
+use sci_kinds::{Cell, Kind};
+use sci_span::Entering;
 
 /// One element of the output.
 #[derive(Drop)]
@@ -25,8 +26,8 @@ impl CellRule for ConstRule {
         Kind::Const
     }
 
-    fn cell(&self, spec: &Spec, _mask: u64, _ins: &[i64], at: usize) -> Cell {
-        if spec.params.len() == 1 {
+    fn cell(&self, spec: &Words, _mask: u64, _ins: &Entering, at: usize) -> Cell {
+        if spec.param_count() == 1 {
             Cell::Value(param(spec, 0))
         } else {
             Cell::Value(param(spec, at))

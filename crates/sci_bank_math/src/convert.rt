@@ -4,9 +4,9 @@ ghost use Rattle.sci_forms.specs.declared.Kind.TheVariants.{Convert as ConvertKi
 
 use sci_bank::kind_bank::KindBank;
 use sci_bank::plain::{CellRule, Plain};
-use sci_bank::words::{cell_of, element, mode, out_type};
-use sci_base::fit;
-use sci_kinds::{Cell, Kind, Spec};
+use sci_bank::words::{Words, element, fitted_cell};
+use sci_kinds::{Cell, Kind};
+use sci_span::Entering;
 
 /// One element of the output.
 #[derive(Drop)]
@@ -26,8 +26,8 @@ impl CellRule for ConvertRule {
         Kind::Convert
     }
 
-    fn cell(&self, spec: &Spec, _mask: u64, ins: &[i64], at: usize) -> Cell {
-        cell_of(fit(out_type(spec), mode(spec), element(ins, at)))
+    fn cell(&self, spec: &Words, _mask: u64, ins: &Entering, at: usize) -> Cell {
+        fitted_cell(spec, element(ins, at))
     }
 
     ghost no_state = { λ s. refl };

@@ -6,9 +6,10 @@ ghost use Rattle.sci_forms.specs.declared.Kind.TheVariants.{DeadBand as DeadBand
 
 use sci_bank::kind_bank::KindBank;
 use sci_bank::plain::{CellRule, Plain};
-use sci_bank::words::{cell_of, mode, only_input, out_type, param};
+use sci_bank::words::{Words, cell_of, mode, only_input, out_type, param};
 use sci_base::{Mode, Ty, fit};
-use sci_kinds::{Cell, Kind, Spec};
+use sci_kinds::{Cell, Kind};
+use sci_span::Entering;
 
 /// One element of the output.
 #[derive(Drop)]
@@ -44,7 +45,7 @@ impl CellRule for DeadBandRule {
         Kind::DeadBand
     }
 
-    fn cell(&self, spec: &Spec, _mask: u64, ins: &[i64], at: usize) -> Cell {
+    fn cell(&self, spec: &Words, _mask: u64, ins: &Entering, at: usize) -> Cell {
         beyond_cell(
             out_type(spec),
             mode(spec),

@@ -6,8 +6,9 @@ ghost use Rattle.sci_forms.specs.declared.Kind.TheVariants.{Extractor as Extract
 
 use sci_bank::kind_bank::KindBank;
 use sci_bank::plain::{CellRule, Plain};
-use sci_bank::words::{element, param};
-use sci_kinds::{Cell, Kind, Spec};
+use sci_bank::words::{Words, element, param};
+use sci_kinds::{Cell, Kind};
+use sci_span::Entering;
 
 /// One element of the output.
 #[derive(Drop)]
@@ -17,7 +18,7 @@ pub struct ExtractorRule;
 pub type Extractor = KindBank<Plain<ExtractorRule>>;
 
 /// The element of this number, counted from 1.
-fn element_numbered(ins: &[i64], number: i64) -> Cell
+fn element_numbered(ins: &Entering, number: i64) -> Cell
     requires { pos 1 ≤ℤ number }
     ensures { result ≡ Value (at ins.now (unsigned_abs number - 1)) }
 {
@@ -35,7 +36,7 @@ impl CellRule for ExtractorRule {
         Kind::Extractor
     }
 
-    fn cell(&self, spec: &Spec, _mask: u64, ins: &[i64], at: usize) -> Cell {
+    fn cell(&self, spec: &Words, _mask: u64, ins: &Entering, at: usize) -> Cell {
         element_numbered(ins, param(spec, at))
     }
 

@@ -4,8 +4,9 @@ ghost use Rattle.sci_forms.specs.declared.Kind.TheVariants.{GainBlk as GainBlkKi
 
 use sci_bank::kind_bank::KindBank;
 use sci_bank::plain::{CellRule, Plain};
-use sci_bank::words::{mode, mul_cell, only_input, out_type, param};
-use sci_kinds::{Cell, Kind, Spec};
+use sci_bank::words::{Words, only_input, param, product_cell};
+use sci_kinds::{Cell, Kind};
+use sci_span::Entering;
 
 /// One element of the output.
 #[derive(Drop)]
@@ -25,13 +26,8 @@ impl CellRule for GainBlkRule {
         Kind::GainBlk
     }
 
-    fn cell(&self, spec: &Spec, _mask: u64, ins: &[i64], at: usize) -> Cell {
-        mul_cell(
-            out_type(spec),
-            mode(spec),
-            param(spec, 1),
-            only_input(spec, ins, at),
-        )
+    fn cell(&self, spec: &Words, _mask: u64, ins: &Entering, at: usize) -> Cell {
+        product_cell(spec, param(spec, 1), only_input(spec, ins, at))
     }
 
     ghost no_state = { λ s. refl };

@@ -6,9 +6,10 @@ ghost use Rattle.sci_forms.specs.declared.Kind.TheVariants.{MaxMin as MaxMinKind
 
 use sci_bank::kind_bank::KindBank;
 use sci_bank::plain::{CellRule, Plain};
-use sci_bank::words::{input, param};
+use sci_bank::words::{Words, input, param};
 use sci_forms::values::is_equal;
-use sci_kinds::{Cell, Kind, Spec};
+use sci_kinds::{Cell, Kind};
+use sci_span::Entering;
 
 /// One element of the output.
 #[derive(Drop)]
@@ -18,26 +19,26 @@ pub struct MaxMinRule;
 pub type MaxMin = KindBank<Plain<MaxMinRule>>;
 
 /// The least input at one element.
-fn least(spec: &Spec, ins: &[i64], at: usize) -> i64
+fn least(spec: &Words, ins: &Entering, at: usize) -> i64
     requires small { size spec.now ≤ 256 }
     requires some { 1 ≤ length spec.now.ins }
     ensures { result ≡ least_to (λ k. input (size spec.now) ins.now k at) (length spec.now.ins - 1) }
 {
     let mut least = input(spec, ins, 0, at);
-    for k in 1..spec.ins.len() {
+    for k in 1..spec.in_count() {
         least = least.min(input(spec, ins, k, at));
     }
     least
 }
 
 /// The greatest input at one element.
-fn greatest(spec: &Spec, ins: &[i64], at: usize) -> i64
+fn greatest(spec: &Words, ins: &Entering, at: usize) -> i64
     requires small { size spec.now ≤ 256 }
     requires some { 1 ≤ length spec.now.ins }
     ensures { result ≡ greatest_to (λ k. input (size spec.now) ins.now k at) (length spec.now.ins - 1) }
 {
     let mut greatest = input(spec, ins, 0, at);
-    for k in 1..spec.ins.len() {
+    for k in 1..spec.in_count() {
         greatest = greatest.max(input(spec, ins, k, at));
     }
     greatest
@@ -54,7 +55,7 @@ impl CellRule for MaxMinRule {
         Kind::MaxMin
     }
 
-    fn cell(&self, spec: &Spec, _mask: u64, ins: &[i64], at: usize) -> Cell {
+    fn cell(&self, spec: &Words, _mask: u64, ins: &Entering, at: usize) -> Cell {
         if is_equal(param(spec, 0), 1) {
             Cell::Value(least(spec, ins, at))
         } else {

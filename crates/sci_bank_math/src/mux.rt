@@ -4,8 +4,9 @@ ghost use Rattle.sci_forms.specs.declared.Kind.TheVariants.{Mux as MuxKind};
 
 use sci_bank::kind_bank::KindBank;
 use sci_bank::plain::{CellRule, Plain};
-use sci_bank::words::element;
-use sci_kinds::{Cell, Kind, Spec};
+use sci_bank::words::{Words, element};
+use sci_kinds::{Cell, Kind};
+use sci_span::Entering;
 
 /// One element of the output.
 #[derive(Drop)]
@@ -25,7 +26,7 @@ impl CellRule for MuxRule {
         Kind::Mux
     }
 
-    fn cell(&self, _spec: &Spec, _mask: u64, ins: &[i64], at: usize) -> Cell {
+    fn cell(&self, _spec: &Words, _mask: u64, ins: &Entering, at: usize) -> Cell {
         Cell::Value(element(ins, at))
     }
 

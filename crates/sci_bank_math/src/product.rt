@@ -4,9 +4,10 @@ ghost use Rattle.sci_forms.specs.declared.Kind.TheVariants.{Product as ProductKi
 
 use sci_bank::kind_bank::KindBank;
 use sci_bank::plain::{CellRule, Plain};
-use sci_bank::words::{alike_input, div_cell, mode, mul_cell, out_type, param};
+use sci_bank::words::{Words, alike_input, div_cell, mode, out_type, param, product_cell};
 use sci_forms::values::is_equal;
-use sci_kinds::{Cell, Kind, Spec};
+use sci_kinds::{Cell, Kind};
+use sci_span::Entering;
 
 /// One element of the output.
 #[derive(Drop)]
@@ -26,11 +27,11 @@ impl CellRule for ProductRule {
         Kind::Product
     }
 
-    fn cell(&self, spec: &Spec, _mask: u64, ins: &[i64], at: usize) -> Cell {
+    fn cell(&self, spec: &Words, _mask: u64, ins: &Entering, at: usize) -> Cell {
         let a = alike_input(spec, ins, 0, at);
         let b = alike_input(spec, ins, 1, at);
         if is_equal(param(spec, 1), 1) {
-            mul_cell(out_type(spec), mode(spec), a, b)
+            product_cell(spec, a, b)
         } else {
             div_cell(out_type(spec), mode(spec), a, b)
         }

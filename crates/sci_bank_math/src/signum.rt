@@ -5,8 +5,9 @@ ghost use Rattle.sci_forms.specs.declared.Kind.TheVariants.{Signum as SignumKind
 
 use sci_bank::kind_bank::KindBank;
 use sci_bank::plain::{CellRule, Plain};
-use sci_bank::words::element;
-use sci_kinds::{Cell, Kind, Spec};
+use sci_bank::words::{Words, element};
+use sci_kinds::{Cell, Kind};
+use sci_span::Entering;
 
 /// One element of the output.
 #[derive(Drop)]
@@ -39,7 +40,7 @@ impl CellRule for SignumRule {
         Kind::Signum
     }
 
-    fn cell(&self, _spec: &Spec, _mask: u64, ins: &[i64], at: usize) -> Cell {
+    fn cell(&self, _spec: &Words, _mask: u64, ins: &Entering, at: usize) -> Cell {
         Cell::Value(sign(element(ins, at)))
     }
 

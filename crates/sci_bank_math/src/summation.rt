@@ -9,10 +9,10 @@ ghost use Rattle.sci_forms.specs.declared.Kind.TheVariants.{Summation as Summati
 
 use sci_bank::kind_bank::KindBank;
 use sci_bank::plain::{CellRule, Plain};
-use sci_bank::words::{alike_input, cell_of, mode, out_type, param};
-use sci_base::fit;
+use sci_bank::words::{Words, alike_input, fitted_cell, param};
 use sci_forms::values::is_equal;
-use sci_kinds::{Cell, Kind, Spec};
+use sci_kinds::{Cell, Kind};
+use sci_span::Entering;
 
 /// One element of the output.
 #[derive(Drop)]
@@ -22,7 +22,7 @@ pub struct SummationRule;
 pub type Summation = KindBank<Plain<SummationRule>>;
 
 /// An element of input `k`, and its range. Most blocks have inputs of one element, whose places need not be worked out.
-fn term(spec: &Spec, ins: &[i64], k: usize, at: usize) -> i64
+fn term(spec: &Words, ins: &Entering, k: usize, at: usize) -> i64
     requires typed { IsOfKind SummationKind spec.now }
     requires ins { Fills spec.now.ins ins.now }
     requires port { k < length spec.now.ins }
@@ -30,14 +30,14 @@ fn term(spec: &Spec, ins: &[i64], k: usize, at: usize) -> i64
     ensures value { result ≡ input (size spec.now) ins.now k at }
     ensures in_range { InRange (out_type spec.now) result }
 {
-    if ins.len() == spec.ins.len() {
-        return ins[k];
+    if ins.len() == spec.in_count() {
+        return ins.get(k);
     }
     alike_input(spec, ins, k, at)
 }
 
 /// Input `k` with its sign.
-fn signed_term(spec: &Spec, ins: &[i64], k: usize, at: usize) -> i64
+fn signed_term(spec: &Words, ins: &Entering, k: usize, at: usize) -> i64
     requires typed { IsOfKind SummationKind spec.now }
     requires ins { Fills spec.now.ins ins.now }
     requires port { k < length spec.now.ins }
@@ -55,28 +55,17 @@ fn signed_term(spec: &Spec, ins: &[i64], k: usize, at: usize) -> i64
 }
 
 /// The exact sum at one element.
-fn signed_sum(spec: &Spec, ins: &[i64], at: usize) -> i64
+fn signed_sum(spec: &Words, ins: &Entering, at: usize) -> i64
     requires typed { IsOfKind SummationKind spec.now }
     requires ins { Fills spec.now.ins ins.now }
     requires at { at < total spec.now.outs }
     ensures { result ≡ sum_to (λ k. param spec.now (k + 1) *ℤ input (size spec.now) ins.now k at) (length spec.now.ins) }
 {
     let mut sum = 0i64;
-    for k in 0..spec.ins.len() {
+    for k in 0..spec.in_count() {
         sum += signed_term(spec, ins, k, at);
     }
     sum
-}
-
-/// A number as a cell, fitted. Most numbers are in range, and then the mode need not be read.
-fn fitted_cell(spec: &Spec, v: i64) -> Cell
-    ensures { result ≡ fitted (fit (out_type spec.now) (mode_of (param spec.now 0)) v) }
-{
-    let t = out_type(spec);
-    if t.holds(v) {
-        return Cell::Value(v);
-    }
-    cell_of(fit(t, mode(spec), v))
 }
 
 impl CellRule for SummationRule {
@@ -90,7 +79,7 @@ impl CellRule for SummationRule {
         Kind::Summation
     }
 
-    fn cell(&self, spec: &Spec, _mask: u64, ins: &[i64], at: usize) -> Cell {
+    fn cell(&self, spec: &Words, _mask: u64, ins: &Entering, at: usize) -> Cell {
         fitted_cell(spec, signed_sum(spec, ins, at))
     }
 

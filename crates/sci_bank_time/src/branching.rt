@@ -4,15 +4,17 @@ ghost use Rattle.sci_forms.specs.declared.Kind.{Kind};
 ghost use Rattle.sci_forms.specs.declared.spec.Spec.{Spec};
 ghost use Rattle.sci_forms.specs.Ports.{Fills};
 ghost use Rattle.sci_forms.specs.Words.{state_len_of};
-ghost use Rattle.sci_forms.specs.Forms.{has_delay};
+ghost use Rattle.sci_forms.specs.Form.{has_delay};
 ghost use Rattle.sci_kinds.specs.declared.Cell.TheVariants.{Value};
 ghost use Rattle.sci_kinds.specs.Asks.{entering_of};
 ghost use Rattle.sci_kinds.specs.Table.{cell_of, branch_of};
 ghost use Rattle.sci_bank.specs.Bank.{IsOfKind};
 
 use sci_bank::rule::Rule;
+use sci_bank::words::Words;
 use sci_base::Ints;
 use sci_kinds::{Cell, Kind, Spec};
+use sci_span::Entering;
 
 /// The function of a kind that has a branch, but no outputs, no state and no delay.
 pub trait BranchRule: Drop {
@@ -26,7 +28,7 @@ pub trait BranchRule: Drop {
         ensures { result ≡ kind };
 
     /// The branch that is taken, from 1.
-    fn branch(&self, spec: &Spec, ins: &[i64]) -> u32
+    fn branch(&self, spec: &Words, ins: &Entering) -> u32
         requires typed { IsOfKind kind spec.now }
         requires ins { Fills (entering_of kind spec.now) ins.now }
         ensures { result ≡ branch_of kind spec.now ins.now };
@@ -55,19 +57,19 @@ impl<B: BranchRule> Rule for Branching<B> {
         self.rule.kind()
     }
 
-    fn cell(&self, _spec: &Spec, _state: &Ints, _mask: u64, _ins: &[i64], _at: usize) -> Cell {
+    fn cell(&self, _spec: &Words, _state: &Ints, _mask: u64, _ins: &Entering, _at: usize) -> Cell {
         Cell::Value(0)
     }
 
-    fn next(&self, _spec: &Spec, _state: &Ints, _mask: u64, _ins: &[i64], _at: usize) -> i64 {
+    fn next(&self, _spec: &Words, _state: &Ints, _mask: u64, _ins: &Entering, _at: usize) -> i64 {
         0
     }
 
-    fn branch(&self, spec: &Spec, ins: &[i64]) -> u32 {
+    fn branch(&self, spec: &Words, ins: &Entering) -> u32 {
         self.rule.branch(spec, ins)
     }
 
-    fn delay(&self, _spec: &Spec, _port: u32, _ins: &[i64]) -> i64 {
+    fn delay(&self, _spec: &Words, _port: u32, _ins: &Entering) -> i64 {
         -1
     }
 }

@@ -4,15 +4,17 @@ ghost use Rattle.sci_forms.specs.declared.Kind.{Kind};
 ghost use Rattle.sci_forms.specs.declared.spec.Spec.{Spec};
 ghost use Rattle.sci_forms.specs.Ports.{Fills};
 ghost use Rattle.sci_forms.specs.Words.{state_len_of};
-ghost use Rattle.sci_forms.specs.Forms.{is_sync};
+ghost use Rattle.sci_forms.specs.Form.{is_sync};
 ghost use Rattle.sci_kinds.specs.declared.Cell.TheVariants.{Value};
 ghost use Rattle.sci_kinds.specs.Asks.{entering_of};
 ghost use Rattle.sci_kinds.specs.Table.{cell_of, delay_of};
 ghost use Rattle.sci_bank.specs.Bank.{IsOfKind};
 
 use sci_bank::rule::Rule;
+use sci_bank::words::Words;
 use sci_base::Ints;
 use sci_kinds::{Cell, Kind, Spec};
+use sci_span::Entering;
 
 /// The function of a kind that has a delay, but no outputs, no state and no branch.
 pub trait DelayRule: Drop {
@@ -26,7 +28,7 @@ pub trait DelayRule: Drop {
         ensures { result ≡ kind };
 
     /// The delay of an activation output, in ticks; -1 for none.
-    fn delay(&self, spec: &Spec, port: u32, ins: &[i64]) -> i64
+    fn delay(&self, spec: &Words, port: u32, ins: &Entering) -> i64
         requires typed { IsOfKind kind spec.now }
         requires ins { Fills (entering_of kind spec.now) ins.now }
         ensures { result ≡ delay_of kind spec.now port ins.now };
@@ -55,19 +57,19 @@ impl<D: DelayRule> Rule for Delayed<D> {
         self.rule.kind()
     }
 
-    fn cell(&self, _spec: &Spec, _state: &Ints, _mask: u64, _ins: &[i64], _at: usize) -> Cell {
+    fn cell(&self, _spec: &Words, _state: &Ints, _mask: u64, _ins: &Entering, _at: usize) -> Cell {
         Cell::Value(0)
     }
 
-    fn next(&self, _spec: &Spec, _state: &Ints, _mask: u64, _ins: &[i64], _at: usize) -> i64 {
+    fn next(&self, _spec: &Words, _state: &Ints, _mask: u64, _ins: &Entering, _at: usize) -> i64 {
         0
     }
 
-    fn branch(&self, _spec: &Spec, _ins: &[i64]) -> u32 {
+    fn branch(&self, _spec: &Words, _ins: &Entering) -> u32 {
         1
     }
 
-    fn delay(&self, spec: &Spec, port: u32, ins: &[i64]) -> i64 {
+    fn delay(&self, spec: &Words, port: u32, ins: &Entering) -> i64 {
         self.rule.delay(spec, port, ins)
     }
 }

@@ -4,9 +4,10 @@ ghost use Rattle.sci_forms.specs.declared.Kind.TheVariants.{Dollar as DollarKind
 
 use crate::stateful::{StateRule, Stateful};
 use sci_bank::kind_bank::KindBank;
-use sci_bank::words::element;
+use sci_bank::words::{Words, element};
 use sci_base::Ints;
-use sci_kinds::{Cell, Kind, Spec};
+use sci_kinds::{Cell, Kind};
+use sci_span::Entering;
 
 /// One element of the output, and of the next state.
 #[derive(Drop)]
@@ -26,11 +27,11 @@ impl StateRule for DollarRule {
         Kind::Dollar
     }
 
-    fn cell(&self, _spec: &Spec, state: &Ints, _mask: u64, _ins: &[i64], at: usize) -> Cell {
+    fn cell(&self, _spec: &Words, state: &Ints, _mask: u64, _ins: &Entering, at: usize) -> Cell {
         Cell::Value(state.at(at))
     }
 
-    fn next(&self, _spec: &Spec, _state: &Ints, _mask: u64, ins: &[i64], at: usize) -> i64 {
+    fn next(&self, _spec: &Words, _state: &Ints, _mask: u64, ins: &Entering, at: usize) -> i64 {
         element(ins, at)
     }
 

@@ -5,8 +5,9 @@ ghost use Rattle.sci_forms.specs.declared.Kind.TheVariants.{ESelect as ESelectKi
 
 use crate::branching::{BranchRule, Branching};
 use sci_bank::kind_bank::KindBank;
-use sci_bank::words::element;
-use sci_kinds::{Kind, Spec};
+use sci_bank::words::{Words, element};
+use sci_kinds::Kind;
+use sci_span::Entering;
 
 /// The branch.
 #[derive(Drop)]
@@ -39,8 +40,8 @@ impl BranchRule for ESelectRule {
         Kind::ESelect
     }
 
-    fn branch(&self, spec: &Spec, ins: &[i64]) -> u32 {
-        branch_at(element(ins, 0), spec.evtout)
+    fn branch(&self, spec: &Words, ins: &Entering) -> u32 {
+        branch_at(element(ins, 0), spec.evtout())
     }
 
     ghost no_values = { λ s x m u e. refl };

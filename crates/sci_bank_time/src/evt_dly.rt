@@ -4,8 +4,9 @@ ghost use Rattle.sci_forms.specs.declared.Kind.TheVariants.{EvtDly as EvtDlyKind
 
 use crate::delayed::{DelayRule, Delayed};
 use sci_bank::kind_bank::KindBank;
-use sci_bank::words::param;
-use sci_kinds::{Kind, Spec};
+use sci_bank::words::{Words, param};
+use sci_kinds::Kind;
+use sci_span::Entering;
 
 /// The delay.
 #[derive(Drop)]
@@ -25,7 +26,7 @@ impl DelayRule for EvtDlyRule {
         Kind::EvtDly
     }
 
-    fn delay(&self, spec: &Spec, _port: u32, _ins: &[i64]) -> i64 {
+    fn delay(&self, spec: &Words, _port: u32, _ins: &Entering) -> i64 {
         param(spec, 0)
     }
 

@@ -5,8 +5,9 @@ ghost use Rattle.sci_forms.specs.declared.Kind.TheVariants.{EvtVarDly as EvtVarD
 
 use crate::delayed::{DelayRule, Delayed};
 use sci_bank::kind_bank::KindBank;
-use sci_bank::words::element;
-use sci_kinds::{Kind, Spec};
+use sci_bank::words::{Words, element};
+use sci_kinds::Kind;
+use sci_span::Entering;
 
 /// The delay.
 #[derive(Drop)]
@@ -36,7 +37,7 @@ impl DelayRule for EvtVarDlyRule {
         Kind::EvtVarDly
     }
 
-    fn delay(&self, _spec: &Spec, _port: u32, ins: &[i64]) -> i64 {
+    fn delay(&self, _spec: &Words, _port: u32, ins: &Entering) -> i64 {
         delay_by(element(ins, 0))
     }
 

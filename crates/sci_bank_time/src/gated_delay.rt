@@ -6,9 +6,10 @@ ghost use Rattle.sci_forms.specs.declared.Kind.TheVariants.{GatedDelay as GatedD
 
 use crate::stateful::{StateRule, Stateful};
 use sci_bank::kind_bank::KindBank;
-use sci_bank::words::element;
+use sci_bank::words::{Words, element, size};
 use sci_base::Ints;
-use sci_kinds::{Cell, Kind, Spec};
+use sci_kinds::{Cell, Kind};
+use sci_span::Entering;
 
 /// One element of the output, and of the next state.
 #[derive(Drop)]
@@ -18,11 +19,11 @@ pub struct GatedDelayRule;
 pub type GatedDelay = KindBank<Stateful<GatedDelayRule>>;
 
 /// The second input's one element, which stands behind those of the first.
-fn gate(spec: &Spec, ins: &[i64]) -> i64
+fn gate(spec: &Words, ins: &Entering) -> i64
     requires { size spec.now ≤ 256 }
     ensures { result ≡ at ins.now (size spec.now) }
 {
-    element(ins, spec.outs.port(0).elements() as usize)
+    element(ins, size(spec))
 }
 
 /// A number where the gate is positive, and else 0.
@@ -43,11 +44,11 @@ impl StateRule for GatedDelayRule {
         Kind::GatedDelay
     }
 
-    fn cell(&self, spec: &Spec, state: &Ints, _mask: u64, ins: &[i64], at: usize) -> Cell {
+    fn cell(&self, spec: &Words, state: &Ints, _mask: u64, ins: &Entering, at: usize) -> Cell {
         Cell::Value(gated(gate(spec, ins), state.at(at)))
     }
 
-    fn next(&self, _spec: &Spec, _state: &Ints, _mask: u64, ins: &[i64], at: usize) -> i64 {
+    fn next(&self, _spec: &Words, _state: &Ints, _mask: u64, ins: &Entering, at: usize) -> i64 {
         element(ins, at)
     }
 

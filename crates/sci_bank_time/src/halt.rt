@@ -4,7 +4,9 @@ ghost use Rattle.sci_forms.specs.declared.Kind.TheVariants.{Halt as HaltKind};
 
 use sci_bank::kind_bank::KindBank;
 use sci_bank::plain::{CellRule, Plain};
-use sci_kinds::{Cell, Kind, Spec};
+use sci_bank::words::Words;
+use sci_kinds::{Cell, Kind};
+use sci_span::Entering;
 
 /// A kind without outputs.
 #[derive(Drop)]
@@ -24,7 +26,7 @@ impl CellRule for HaltRule {
         Kind::Halt
     }
 
-    fn cell(&self, _spec: &Spec, _mask: u64, _ins: &[i64], _at: usize) -> Cell {
+    fn cell(&self, _spec: &Words, _mask: u64, _ins: &Entering, _at: usize) -> Cell {
         Cell::Value(0)
     }
 

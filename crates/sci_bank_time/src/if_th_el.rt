@@ -4,8 +4,9 @@ ghost use Rattle.sci_forms.specs.declared.Kind.TheVariants.{IfThEl as IfThElKind
 
 use crate::branching::{BranchRule, Branching};
 use sci_bank::kind_bank::KindBank;
-use sci_bank::words::element;
-use sci_kinds::{Kind, Spec};
+use sci_bank::words::{Words, element};
+use sci_kinds::Kind;
+use sci_span::Entering;
 
 /// The branch.
 #[derive(Drop)]
@@ -25,7 +26,7 @@ impl BranchRule for IfThElRule {
         Kind::IfThEl
     }
 
-    fn branch(&self, _spec: &Spec, ins: &[i64]) -> u32 {
+    fn branch(&self, _spec: &Words, ins: &Entering) -> u32 {
         if 0 < element(ins, 0) { 1 } else { 2 }
     }
 

@@ -5,9 +5,10 @@ ghost use Rattle.sci_forms.specs.declared.Kind.TheVariants.{ModuloCount as Modul
 
 use crate::stateful::{StateRule, Stateful};
 use sci_bank::kind_bank::KindBank;
-use sci_bank::words::param;
+use sci_bank::words::{Words, param};
 use sci_base::Ints;
-use sci_kinds::{Cell, Kind, Spec};
+use sci_kinds::{Cell, Kind};
+use sci_span::Entering;
 
 /// The output and the next state.
 #[derive(Drop)]
@@ -41,11 +42,11 @@ impl StateRule for ModuloCountRule {
         Kind::ModuloCount
     }
 
-    fn cell(&self, _spec: &Spec, state: &Ints, _mask: u64, _ins: &[i64], _at: usize) -> Cell {
+    fn cell(&self, _spec: &Words, state: &Ints, _mask: u64, _ins: &Entering, _at: usize) -> Cell {
         Cell::Value(state.at(0))
     }
 
-    fn next(&self, spec: &Spec, state: &Ints, _mask: u64, _ins: &[i64], _at: usize) -> i64 {
+    fn next(&self, spec: &Words, state: &Ints, _mask: u64, _ins: &Entering, _at: usize) -> i64 {
         counted(state.at(0), param(spec, 0))
     }
 

@@ -4,9 +4,10 @@ ghost use Rattle.sci_forms.specs.declared.Kind.TheVariants.{Register as Register
 
 use crate::stateful::{StateRule, Stateful};
 use sci_bank::kind_bank::KindBank;
-use sci_bank::words::element;
+use sci_bank::words::{Words, element};
 use sci_base::Ints;
-use sci_kinds::{Cell, Kind, Spec};
+use sci_kinds::{Cell, Kind};
+use sci_span::Entering;
 
 /// The output, and one value of the next state.
 #[derive(Drop)]
@@ -26,12 +27,12 @@ impl StateRule for RegisterRule {
         Kind::Register
     }
 
-    fn cell(&self, _spec: &Spec, state: &Ints, _mask: u64, _ins: &[i64], _at: usize) -> Cell {
+    fn cell(&self, _spec: &Words, state: &Ints, _mask: u64, _ins: &Entering, _at: usize) -> Cell {
         Cell::Value(state.at(0))
     }
 
-    fn next(&self, spec: &Spec, state: &Ints, _mask: u64, ins: &[i64], at: usize) -> i64 {
-        let len = spec.state.len();
+    fn next(&self, spec: &Words, state: &Ints, _mask: u64, ins: &Entering, at: usize) -> i64 {
+        let len = spec.state_count();
         if at + 1 < len {
             state.at(at + 1)
         } else {

@@ -3,14 +3,16 @@ ghost use Rattle.std.specs.Prelude.{◌≡◌, ◌<◌, false};
 ghost use Rattle.sci_forms.specs.declared.Kind.{Kind};
 ghost use Rattle.sci_forms.specs.Ports.{total, Fills};
 ghost use Rattle.sci_forms.specs.Words.{state_len_of};
-ghost use Rattle.sci_forms.specs.Forms.{is_sync, has_delay};
+ghost use Rattle.sci_forms.specs.Form.{is_sync, has_delay};
 ghost use Rattle.sci_kinds.specs.Asks.{IsState, IsMask, entering_of};
 ghost use Rattle.sci_kinds.specs.Table.{cell_of, next_of};
 ghost use Rattle.sci_bank.specs.Bank.{IsOfKind};
 
 use sci_bank::rule::Rule;
+use sci_bank::words::Words;
 use sci_base::Ints;
-use sci_kinds::{Cell, Kind, Spec};
+use sci_kinds::{Cell, Kind};
+use sci_span::Entering;
 
 /// The functions of a kind that has a state, but no branch and no delay.
 pub trait StateRule: Drop {
@@ -24,7 +26,7 @@ pub trait StateRule: Drop {
         ensures { result ≡ kind };
 
     /// Element `at` of the outputs.
-    fn cell(&self, spec: &Spec, state: &Ints, mask: u64, ins: &[i64], at: usize) -> Cell
+    fn cell(&self, spec: &Words, state: &Ints, mask: u64, ins: &Entering, at: usize) -> Cell
         requires typed { IsOfKind kind spec.now }
         requires state { IsState spec.now state.now }
         requires mask { IsMask spec.now mask }
@@ -33,7 +35,7 @@ pub trait StateRule: Drop {
         ensures { result ≡ cell_of kind spec.now state.now mask ins.now at };
 
     /// Value `at` of the next state.
-    fn next(&self, spec: &Spec, state: &Ints, mask: u64, ins: &[i64], at: usize) -> i64
+    fn next(&self, spec: &Words, state: &Ints, mask: u64, ins: &Entering, at: usize) -> i64
         requires typed { IsOfKind kind spec.now }
         requires state { IsState spec.now state.now }
         requires mask { IsMask spec.now mask }
@@ -63,19 +65,21 @@ impl<S: StateRule> Rule for Stateful<S> {
         self.rule.kind()
     }
 
-    fn cell(&self, spec: &Spec, state: &Ints, mask: u64, ins: &[i64], at: usize) -> Cell {
+    #[inline(always)]
+    fn cell(&self, spec: &Words, state: &Ints, mask: u64, ins: &Entering, at: usize) -> Cell {
         self.rule.cell(spec, state, mask, ins, at)
     }
 
-    fn next(&self, spec: &Spec, state: &Ints, mask: u64, ins: &[i64], at: usize) -> i64 {
+    #[inline(always)]
+    fn next(&self, spec: &Words, state: &Ints, mask: u64, ins: &Entering, at: usize) -> i64 {
         self.rule.next(spec, state, mask, ins, at)
     }
 
-    fn branch(&self, _spec: &Spec, _ins: &[i64]) -> u32 {
+    fn branch(&self, _spec: &Words, _ins: &Entering) -> u32 {
         1
     }
 
-    fn delay(&self, _spec: &Spec, _port: u32, _ins: &[i64]) -> i64 {
+    fn delay(&self, _spec: &Words, _port: u32, _ins: &Entering) -> i64 {
         -1
     }
 }

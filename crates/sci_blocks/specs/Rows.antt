@@ -5,7 +5,7 @@ use Rattle.sci_base.specs.Plain.{Fields}
 use Rattle.sci_base.specs.Outcome.{Outcome}
 use Rattle.sci_forms.specs.declared.broken.Broken.{Broken}
 use Rattle.sci_forms.specs.declared.forms.Counts.{Counts}
-use Rattle.sci_forms.specs.Forms.{counts, or_else, within}
+use Rattle.sci_forms.specs.Forms.{or_else, within}
 use Rattle.sci_forms.specs.Broken.{violation_at}
 use Rattle.sci_check.specs.Check.{shape, bad}
 use Rattle.sci_blocks.specs.declared.class.PortClass.TheVariants.{Input, Output, ActivationInput, ActivationOutput}
@@ -28,7 +28,12 @@ pass_through gui =
     if bytes_eq gui (codes "CLKGOTO") then Some (Giver Activation) else
     if bytes_eq gui (codes "CLKFROM") then Some (Taker Activation) else None
 
--- the least and the most of inputs, outputs, activation inputs, activation outputs; the block that stands for an input of the
+-- the least and the most of inputs, outputs, activation inputs, activation outputs
+abbrev pub counts : ℕ → ℕ → ℕ → ℕ → ℕ → ℕ → ℕ → ℕ → Counts
+counts a b c d e f g h =
+    record { ins_least = a; ins_most = b; outs_least = c; outs_most = d; evtin_least = e; evtin_most = f; evtout_least = g; evtout_most = h }
+
+-- so many does a pass-through object ask for; the block that stands for an input of the
 -- superblock has an output, and the other way round; an object that gives a tag has an input alone, one that takes a tag an output
 abbrev pub row : PassThrough → Counts
 row Split = counts 1 1 1 64 0 0 0 0

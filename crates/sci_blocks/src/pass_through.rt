@@ -1,6 +1,6 @@
 // Pass-through objects.
 ghost use Rattle.std.specs.Prelude.{◌≡◌};
-ghost use Rattle.sci_forms.specs.Forms.{counts};
+ghost use Rattle.sci_blocks.specs.Rows.{counts};
 
 use crate::class::{LinkType, PortClass};
 use sci_forms::Counts;

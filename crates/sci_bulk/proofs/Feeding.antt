@@ -6,7 +6,8 @@ use Rattle.sci_base.specs.Outcome.{Outcome, ◌>>=◌}
 use Rattle.sci_diagram.specs.Objects.{Objects, objects_of}
 use Rattle.sci_forms.specs.declared.spec.Spec.{Spec}
 use Rattle.sci_net.specs.declared.Wire.{Wire}
-use Rattle.sci_net.specs.Parts.{numbered, no_spec, is_sensor}
+use Rattle.sci_net.specs.Parts.{numbered, no_spec}
+use Rattle.sci_forms.specs.Form.{is_sensor}
 use Rattle.sci_blocks.specs.declared.class.PortClass.TheVariants.{Input, Output, ActivationInput, ActivationOutput}
 use Rattle.sci_blocks.specs.Blocks.{Placed, placed, parts_of}
 use Rattle.sci_blocks.specs.Wiring.{links_of}

@@ -13,7 +13,8 @@ use Rattle.sci_forms.proofs.TestLemmas.{nat_lt_told}
 use Rattle.sci_net.specs.declared.Source.{Source}
 use Rattle.sci_net.specs.declared.Source.TheVariants.{Start, Port}
 use Rattle.sci_net.specs.declared.Feed.{Feed}
-use Rattle.sci_net.specs.Parts.{Parts, spec_of, is_sensor}
+use Rattle.sci_net.specs.Parts.{Parts, spec_of}
+use Rattle.sci_forms.specs.Form.{is_sensor}
 use Rattle.sci_net.specs.Sources.{sources_of, source_of}
 use Rattle.sci_reaction.specs.Active.{set_off}
 use Rattle.sci_reaction.specs.Memory.{Memory, Columns, next_value}

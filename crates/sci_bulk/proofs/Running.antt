@@ -6,7 +6,7 @@ use Rattle.sci_base.specs.declared.Mode.TheVariants.{Wrap}
 use Rattle.sci_base.specs.Fit.{fit, wrap, in_range}
 use Rattle.sci_diagram.specs.Objects.{objects_of}
 use Rattle.sci_forms.specs.declared.spec.Spec.{Spec}
-use Rattle.sci_forms.specs.Forms.{is_sync}
+use Rattle.sci_forms.specs.Form.{is_sync}
 use Rattle.sci_forms.specs.Words.{out_type, size, param}
 use Rattle.sci_kinds.specs.declared.Cell.{Cell}
 use Rattle.sci_kinds.specs.declared.Cell.TheVariants.{Value}
@@ -15,10 +15,12 @@ use Rattle.sci_base.specs.Lists.{at}
 use Rattle.sci_net.specs.declared.Source.{Source}
 use Rattle.sci_net.specs.declared.Source.TheVariants.{Start, Port}
 use Rattle.sci_net.specs.declared.Feed.{Feed}
-use Rattle.sci_net.specs.Parts.{Parts, numbered, no_spec, spec_of, wire_of, is_sensor, IsActivationInput}
+use Rattle.sci_net.specs.Parts.{Parts, numbered, no_spec, spec_of, wire_of, IsActivationInput}
+use Rattle.sci_forms.specs.Form.{is_sensor}
 use Rattle.sci_net.specs.Sources.{sources_from, sources_of}
 use Rattle.sci_reaction.specs.Links.{Feeds}
-use Rattle.sci_run.specs.Activity.{Activity, is_halt, halts_from}
+use Rattle.sci_run.specs.Activity.{Activity, halts_from}
+use Rattle.sci_forms.specs.Form.{is_halt}
 use Rattle.sci_run.specs.Programs.{firing_of}
 use Rattle.sci_blocks.specs.Blocks.{Placed}
 use Rattle.sci_flat.specs.Flat.{blocks, IsWire, IsFeed, IsFlatNet}

@@ -14,7 +14,8 @@ use Rattle.sci_infer.specs.Answer.{IsAnswer}
 use Rattle.sci_net.specs.declared.Source.{Source}
 use Rattle.sci_net.specs.declared.Source.TheVariants.{Port}
 use Rattle.sci_net.specs.declared.Feed.{Feed}
-use Rattle.sci_net.specs.Parts.{Parts, IsBlock, spec_of, is_sensor}
+use Rattle.sci_net.specs.Parts.{Parts, IsBlock, spec_of}
+use Rattle.sci_forms.specs.Form.{is_sensor}
 use Rattle.sci_net.specs.Sources.{sources_of}
 use Rattle.sci_reaction.specs.Links.{SuppliesThrough, Feeds}
 use Rattle.sci_reaction.specs.Active.{IsSync}

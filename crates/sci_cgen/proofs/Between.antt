@@ -8,7 +8,7 @@ use Rattle.sci_net.specs.Parts.{Parts, column_of, numbered, spec_of}
 use Rattle.sci_reaction.specs.Memory.{Columns}
 use Rattle.sci_run.specs.Run.{State}
 use Rattle.sci_due.specs.Due.{best as chosen_name, scan as scan_name, now as now_name}
-use Rattle.sci_cgen.specs.Names.{actives, branches, fired_name, halt_name}
+use Rattle.sci_cgen.specs.Names.{actives, branches, fired_name, next_date, halt_name}
 use Rattle.sci_cgen.specs.Program.{port_count}
 use Rattle.sci_cgen.specs.Shows.{ShowsColumns, ShowsState}
 use Rattle.sci_cgen.proofs.Staying.{values_stay, states_stay, pending_stays, bounds_stay, room_stays}
@@ -19,7 +19,8 @@ columns_stay n i cursor w w' same s =
 
 -- beside the table of due dates and the date
 abbrev pub is_between : Name → Bool
-is_between x = same_name chosen_name x || (same_name scan_name x || (same_name actives x || (same_name branches x || same_name fired_name x)))
+is_between x =
+    same_name chosen_name x || (same_name scan_name x || (same_name actives x || (same_name branches x || (same_name fired_name x || same_name next_date x))))
 
 -- a text that assigns less
 pub alone_wider : (some more : Name → Bool) (w w' : World) → ((y : Name) → more y ≡ false → some y ≡ false) → LeftAlone (assigns_only some) w w'

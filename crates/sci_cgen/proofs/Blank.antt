@@ -16,7 +16,7 @@ use Rattle.c_steps.proofs.Memory.{name_same, other_name, other_number}
 use Rattle.c_steps.proofs.Programs.{first_there}
 use Rattle.sci_cgen_blocks.specs.Texts.{values, states, masks, scratch_name}
 use Rattle.sci_due.specs.Due.{dates, orders, best as chosen_name, scan as scan_name, now as now_name, last as programmed_name, delay as delay_name}
-use Rattle.sci_cgen.specs.Names.{actives, branches, limit_name, until_name, fired_name, halt_name}
+use Rattle.sci_cgen.specs.Names.{actives, branches, limit_name, until_name, fired_name, next_date, halt_name}
 use Rattle.sci_cgen.specs.Program.{has_sync, has_halt, port_count, states_before, array, a_scalar, declared_where, scratch_declared, scratch_count, declarations, program}
 
 pub record IsBlank (n : Parts) (scratch : ℕ) (i : Columns) (w : World) : Type 0 where
@@ -30,6 +30,7 @@ pub record IsBlank (n : Parts) (scratch : ℕ) (i : Columns) (w : World) : Type 
   pub scratch_names : (k : ℕ) → 1 ≤ k → k ≤ scratch → get w (scratch_name k) 0 ≡ Some (pos 0)
   pub limit : get w limit_name 0 ≡ Some (pos 0)
   pub fired : get w fired_name 0 ≡ Some (pos 0)
+  pub coming : get w next_date 0 ≡ Some (pos 0)
   pub until : 1 ≤ port_count n → get w until_name 0 ≡ Some (pos 0)
   pub now : 1 ≤ port_count n → get w now_name 0 ≡ Some (pos 0)
   pub programmed : 1 ≤ port_count n → get w programmed_name 0 ≡ Some (pos 0)
@@ -117,7 +118,7 @@ module _ (n : Parts) (rows : List (List Entry)) where
   from_scalars = declared_where (nat_lt 0 (port_count n)) scalars ++ from_halt
 
   abbrev from_limit : List Declared
-  from_limit = a_scalar limit_name ∷ a_scalar fired_name ∷ from_scalars
+  from_limit = a_scalar limit_name ∷ a_scalar fired_name ∷ a_scalar next_date ∷ from_scalars
 
   abbrev from_scratch : List Declared
   from_scratch = scratch_declared (scratch_count n rows (length n.specs)) ++ from_limit
@@ -142,7 +143,7 @@ module _ (n : Parts) (rows : List (List Entry)) where
       regrouped (array values (all_elements n.specs) ∷ array states (states_before n.specs (length n.specs)) ∷ array masks (length n.specs) ∷ [])
       (declared_where (nat_lt 0 (length n.specs)) (array actives (length n.specs) ∷ [])) (declared_where (has_sync n) (array branches (length n.specs) ∷ []))
       (declared_where (nat_lt 0 (port_count n)) table) (scratch_declared (scratch_count n rows (length n.specs)))
-      (a_scalar limit_name ∷ a_scalar fired_name ∷ [])
+      (a_scalar limit_name ∷ a_scalar fired_name ∷ a_scalar next_date ∷ [])
       (declared_where (nat_lt 0 (port_count n)) scalars) from_halt
 
   -- a name that isn't declared before the table, before scratch, or before the scalars
@@ -164,10 +165,10 @@ module _ (n : Parts) (rows : List (List Entry)) where
       ∙ skip x (scratch_declared (scratch_count n rows (length n.specs))) from_limit (not_scratch x (scratch_count n rows (length n.specs)) s))
 
   to_scalars : (x : Name) → same_name values x || (same_name states x || (same_name masks x || (same_name actives x || same_name branches x))) ≡ false
-      → is_in x table ≡ false → is_scratch x ≡ false → is_in x (a_scalar limit_name ∷ a_scalar fired_name ∷ []) ≡ false → nat_lt 0 (port_count n) ≡ true
+      → is_in x table ≡ false → is_scratch x ≡ false → is_in x (a_scalar limit_name ∷ a_scalar fired_name ∷ a_scalar next_date ∷ []) ≡ false → nat_lt 0 (port_count n) ≡ true
       → places from_values x ≡ places (scalars ++ from_halt) x
   to_scalars x h t s f some =
-      to_limit x h t s ∙ (skip x (a_scalar limit_name ∷ a_scalar fired_name ∷ []) from_scalars f
+      to_limit x h t s ∙ (skip x (a_scalar limit_name ∷ a_scalar fired_name ∷ a_scalar next_date ∷ []) from_scalars f
       ∙ take_where (nat_lt 0 (port_count n)) x scalars from_halt some)
 
   -- ---- all is 0
@@ -180,7 +181,7 @@ module _ (n : Parts) (rows : List (List Entry)) where
 
   scalar_zero : (i : Columns) (x : Name) → same_name values x ||
       (same_name states x || (same_name masks x || (same_name actives x || same_name branches x))) ≡ false
-      → is_in x table ≡ false → is_scratch x ≡ false → is_in x (a_scalar limit_name ∷ a_scalar fired_name ∷ []) ≡ false → places (scalars ++ from_halt) x ≡ 1
+      → is_in x table ≡ false → is_scratch x ≡ false → is_in x (a_scalar limit_name ∷ a_scalar fired_name ∷ a_scalar next_date ∷ []) ≡ false → places (scalars ++ from_halt) x ≡ 1
       → 1 ≤ port_count n → get (first_world (program n rows) i) x 0 ≡ Some (pos 0)
   scalar_zero i x h t s f one some =
       zero_at i x 0 1 (to_scalars x h t s f (lt-ltb 0 (port_count n) (omega (arith, some))) ∙ one) (omega arith)
@@ -208,6 +209,7 @@ module _ (n : Parts) (rows : List (List Entry)) where
         ∙ scratch_there k (scratch_count n rows (length n.specs)) from_limit lo hi)) (omega arith);
     limit = zero_at i limit_name 0 1 (to_limit limit_name refl refl refl) (omega arith);
     fired = zero_at i fired_name 0 1 (to_limit fired_name refl refl refl) (omega arith);
+    coming = zero_at i next_date 0 1 (to_limit next_date refl refl refl) (omega arith);
     until = scalar_zero i until_name refl refl refl refl refl;
     now = scalar_zero i now_name refl refl refl refl refl;
     programmed = scalar_zero i programmed_name refl refl refl refl refl;
@@ -215,7 +217,7 @@ module _ (n : Parts) (rows : List (List Entry)) where
     delay = scalar_zero i delay_name refl refl refl refl refl;
     scan = scalar_zero i scan_name refl refl refl refl refl;
     halt = λ h. zero_at i halt_name 0 1
-        (to_limit halt_name refl refl refl ∙ (skip halt_name (a_scalar limit_name ∷ a_scalar fired_name ∷ []) from_scalars refl
+        (to_limit halt_name refl refl refl ∙ (skip halt_name (a_scalar limit_name ∷ a_scalar fired_name ∷ a_scalar next_date ∷ []) from_scalars refl
         ∙ (skip_where (nat_lt 0 (port_count n)) halt_name scalars from_halt refl
         ∙ ap (λ (t : Bool). places (declared_where t (a_scalar halt_name ∷ [])) halt_name) h))) (omega arith);
     left = refl;

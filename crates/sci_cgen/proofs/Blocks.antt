@@ -5,7 +5,7 @@ use Rattle.std.proofs.lemmas.Bool.{cases_eq, cond-false}
 use Rattle.sci_base.specs.Fit.{int_eq}
 use Rattle.sci_forms.specs.declared.ports.Port.{Port as Output}
 use Rattle.sci_forms.specs.Ports.{elements}
-use Rattle.sci_forms.specs.Forms.{is_sync, has_state}
+use Rattle.sci_forms.specs.Form.{is_sync, has_state}
 use Rattle.sci_kinds.specs.Table.{first_state, first_held}
 use Rattle.sci_places.specs.Flat.{start_of}
 use Rattle.sci_net.specs.declared.Source.{Source}
@@ -13,7 +13,7 @@ use Rattle.sci_net.specs.declared.Source.TheVariants.{Start, Port}
 use Rattle.sci_net.specs.Parts.{Parts, IsBlock, spec_of}
 use Rattle.sci_net.specs.Sources.{sources_of, source_of}
 use Rattle.sci_reaction.specs.Schedule.{Guard, Entry, blocks_of}
-use Rattle.sci_run.specs.Activity.{is_halt}
+use Rattle.sci_forms.specs.Form.{is_halt}
 use Rattle.c_ast.specs.declared.Name.{Name}
 use Rattle.c_ast.specs.declared.Op.TheVariants.{Lt, Gt}
 use Rattle.c_ast.specs.Syntax.{Exp, bin, var, scalar, cell, finish, Statement, set, ask, choice, loop, call, tell, Block, done, next, Function}
@@ -23,11 +23,10 @@ use Rattle.c_steps.proofs.Memory.{and_left, and_right, other_name}
 use Rattle.sci_cgen_blocks.specs.Texts.{values, states, masks, body_text, next_text, branch_expression}
 use Rattle.sci_cgen_blocks.specs.Meant.{body_may, next_may}
 use Rattle.sci_cgen_blocks.proofs.Assigned.{body_within, next_within}
-use Rattle.sci_due.specs.Due.{dates, orders, best as chosen_name, scan as scan_name}
-use Rattle.sci_due.specs.Texts.{at_best}
-use Rattle.sci_cgen.specs.Names.{branches, until_name, halt_name, block_name, settle_name, choose_name}
-use Rattle.sci_cgen.specs.Program.{natural, one, is_active, mark, is_taken, end_where, has_halt, texts, text_where, only_where, port_count, places_of, is_scheduled, block_function, with_bit, with_bits, guard_text, call_text, entry_text, header_text, source_function, clear_text, has_sync, elements_shown, outputs_shown, values_shown, delay_text, state_text, halt_text, settle_text, halted_text, fire_text, event_text, turn_text, begun_text, list_begun, held_begun, state_begun, firing_at, programmed_before, firing_begun, source_begun, outset_text, main_text, functions_upto, functions_where, other_functions, functions}
-use Rattle.sci_cgen.proofs.Parted.{reads, masked, guarded, called, all_shown, all_delays, all_states, all_halts, all_held, first_states, all_begun, until_asked, where_ports, fires_source, running, own, blocks, sources, before}
+use Rattle.sci_due.specs.Due.{dates, orders, scan as scan_name}
+use Rattle.sci_cgen.specs.Names.{branches, until_name, next_date, halt_name, block_name, settle_name, choose_name}
+use Rattle.sci_cgen.specs.Program.{natural, one, is_active, mark, is_taken, end_where, has_halt, texts, text_where, only_where, port_count, places_of, is_scheduled, block_function, with_bit, with_bits, guard_text, call_text, entry_text, header_text, source_function, clear_text, has_sync, elements_shown, outputs_shown, values_shown, delay_text, state_text, halt_text, settle_text, halted_text, fire_text, event_text, turn_text, first_text, begun_text, list_begun, held_begun, state_begun, firing_at, programmed_before, firing_begun, source_begun, outset_text, begin_text, main_text, functions_upto, functions_where, other_functions, called_functions, event_function, functions}
+use Rattle.sci_cgen.proofs.Parted.{reads, masked, guarded, called, all_shown, all_delays, all_states, all_halts, all_held, first_states, all_begun, until_asked, where_ports, fires_source, starting, running, own, blocks, sources, before}
 use Rattle.sci_cgen.specs.Laws.{calls_in_statement, calls_in, calls_in_functions, named_so, count_of, entries_of, ProgramHasBlockFunctions}
 
 -- ---- calls in texts
@@ -206,20 +205,19 @@ module _ (n : Parts) (rows : List (List Entry)) (b : ℕ) where
   fire_none =
       omega (
         arith,
-        joined_none name (upto fires_source (port_count n)) (one (call settle_name)) (upto_none name fires_source (port_count n) (λ k. refl))
-            refl,
+        joined_none name (upto fires_source (port_count n)) (next (call settle_name) (one (call choose_name)))
+            (upto_none name fires_source (port_count n) (λ k. refl)) refl,
       )
 
   abbrev early : Block
-  early = end_where (bin Lt (var chosen_name) (natural 0)) 2
+  early = end_where (bin Lt (var next_date) (natural 0)) 2
 
   abbrev late : Block
-  late = end_where (bin Gt (at_best dates) (var until_name)) 3
+  late = end_where (bin Gt (var next_date) (var until_name)) 3
 
   event_none : calls_in name (event_text n) ≡ 0
   event_none =
-      either_none name (nat_lt 0 (port_count n)) (next (call choose_name) (joined early (joined late (fire_text n)))) (one (tell (finish (natural 2))))
-      (omega (arith, fire_none)) refl
+      either_none name (nat_lt 0 (port_count n)) (joined early (joined late (fire_text n))) (one (tell (finish (natural 2)))) (omega (arith, fire_none)) refl
 
   halted_none : calls_in name (halted_text n) ≡ 0
   halted_none = where_none name (has_halt n) halts refl
@@ -227,10 +225,16 @@ module _ (n : Parts) (rows : List (List Entry)) (b : ℕ) where
   turn_none : calls_in name (turn_text n) ≡ 0
   turn_none = joined_none name (halted_text n) (event_text n) halted_none event_none
 
+  first_none : calls_in name (first_text n) ≡ 0
+  first_none = either_none name (nat_lt 0 (port_count n)) (one (call choose_name)) (one (set (scalar next_date) (number (negsuc 0)))) refl refl
+
+  begin_none : calls_in name (begin_text n) ≡ 0
+  begin_none = joined_none name (outset_text n) (starting n) (outset_none name n) (omega (arith, first_none))
+
   main_none : calls_in name (main_text n) ≡ 0
   main_none =
-      joined_none name (outset_text n) (running n) (outset_none name n)
-      (omega (arith, turn_none, joined_none name (halted_text n) (one (tell (finish (natural 1)))) halted_none refl))
+      joined_none name (begin_text n) (running n) begin_none
+      (omega (arith, joined_none name (halted_text n) (one (tell (finish (natural 1)))) halted_none refl))
 
   -- ---- calls in functions
 
@@ -303,11 +307,13 @@ module _ (n : Parts) (rows : List (List Entry)) (b : ℕ) where
   all_calls enough =
       omega (
         arith,
+        calls_both (called_functions n rows) (event_function n ∷ []),
         calls_both (blocks n rows ++ other_functions n) (sources n rows),
         calls_both (blocks n rows) (other_functions n),
         block_calls (length n.specs),
         other_calls,
         sources_calls (length (sources_of n)) (omega (arith, enough)),
+        turn_none,
         main_none,
         ap (λ (k : ℕ). entries_of b (take k rows)) (sym enough) ∙ ap (entries_of b) (take_whole rows),
       )
@@ -353,9 +359,10 @@ module _ (n : Parts) (rows : List (List Entry)) (b : ℕ) where
 
   all_named : IsBlock n b → named_so name (functions n rows) ≡ block_function n rows b ∷ []
   all_named is =
-      named_both (blocks n rows ++ other_functions n) (sources n rows)
-      ∙ (ap (λ (l : List Function). l ++ named_so name (sources n rows)) (named_both (blocks n rows) (other_functions n))
-      ∙ rw (blocks_named is.least (length n.specs) is.most, other_named, sources_named (length (sources_of n))) refl)
+      named_both (called_functions n rows) (event_function n ∷ [])
+      ∙ (ap (λ (l : List Function). l ++ []) (named_both (blocks n rows ++ other_functions n) (sources n rows))
+      ∙ (ap (λ (l : List Function). (l ++ named_so name (sources n rows)) ++ []) (named_both (blocks n rows) (other_functions n))
+      ∙ rw (blocks_named is.least (length n.specs) is.most, other_named, sources_named (length (sources_of n))) refl))
 
   only_one : (g f : Function) → Contains (g ∷ []) f → g ≡ f
   only_one g f (zero, l, e) = e

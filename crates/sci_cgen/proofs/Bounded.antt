@@ -7,7 +7,7 @@ use Rattle.sci_base.specs.Fit.{int_eq}
 use Rattle.sci_base.specs.Lists.{at}
 use Rattle.sci_forms.specs.declared.ports.Port.{Port as Output}
 use Rattle.sci_forms.specs.Ports.{elements, total, type_at}
-use Rattle.sci_forms.specs.Forms.{is_sync, has_state}
+use Rattle.sci_forms.specs.Form.{is_sync, has_state}
 use Rattle.sci_forms.specs.Typed.{typed}
 use Rattle.sci_forms.specs.Words.{out_type}
 use Rattle.sci_kinds.specs.Table.{first_state, first_held}
@@ -26,7 +26,7 @@ use Rattle.sci_reaction.specs.Links.{IsSource}
 use Rattle.sci_reaction.specs.Schedule.{Guard, Entry, IsSchedule, IsRow, IsEntry, branch_of}
 use Rattle.sci_reaction.proofs.Rows.{Contains-mid}
 use Rattle.sci_reaction.proofs.Sources.{sources_are}
-use Rattle.sci_run.specs.Activity.{is_halt}
+use Rattle.sci_forms.specs.Form.{is_halt}
 use Rattle.sci_run.specs.Laws.{AreLoopFree}
 use Rattle.sci_run.proofs.Ordered.{typed_firing}
 use Rattle.c_ast.specs.declared.Name.{Name}
@@ -41,9 +41,10 @@ use Rattle.sci_cgen_blocks.proofs.KindLaws.{cell_reads_law}
 use Rattle.sci_cgen_blocks.proofs.NextStates.{next_reads_law}
 use Rattle.sci_due.specs.Due.{dates, orders, best as chosen_name, scan as scan_name, now as now_name, last as programmed_name, delay as delay_name}
 use Rattle.sci_due.specs.Texts.{at_best, better_exp, program_text}
-use Rattle.sci_cgen.specs.Names.{actives, branches, limit_name, until_name, fired_name, halt_name, settle_name, choose_name}
-use Rattle.sci_cgen.specs.Program.{natural, one, texts, text_where, only_where, port_count, places_of, states_before, is_scheduled, block_function, reads_mask, is_active, mark, mask_cell, with_bit, with_bits, is_taken, guard_text, call_text, entry_text, header_text, source_function, has_sync, has_halt, clear_text, choose_text, elements_shown, outputs_shown, values_shown, delay_text, state_text, halt_text, settle_text, end_where, halted_text, fire_text, event_text, begun_text, list_begun, held_begun, state_begun, firing_at, is_programmed, programmed_before, firing_begun, source_begun, outset_text, main_text, array, declared_where, a_scalar, scratch_count, scratch_declared, declarations, functions_upto, functions_where, other_functions, program}
-use Rattle.sci_cgen.proofs.Parted.{value_arrays, active_array, branch_array, due_arrays, limit_scalars, event_scalars, halt_scalar, reads, masked, guarded, called, all_shown, all_delays, all_states, all_halts, all_held, first_states, all_begun, until_asked, where_ports, fires_source, running, blocks, sources, settle_function, clear_function, choose_function, before}
+use Rattle.sci_cgen.specs.Names.{actives, branches, limit_name, until_name, fired_name, next_date, halt_name, settle_name, choose_name}
+use Rattle.sci_cgen.specs.Program.{natural, one, texts, text_where, only_where, port_count, places_of, states_before, is_scheduled, block_function, is_active, mark, mask_cell, with_bit, with_bits, is_taken, guard_text, call_text, entry_text, header_text, source_function, has_sync, has_halt, clear_text, choose_text, elements_shown, outputs_shown, values_shown, delay_text, state_text, halt_text, settle_text, end_where, halted_text, fire_text, event_text, turn_text, first_text, begin_text, begun_text, list_begun, held_begun, state_begun, firing_at, is_programmed, programmed_before, firing_begun, source_begun, outset_text, main_text, array, declared_where, a_scalar, scratch_count, scratch_declared, declarations, functions_upto, functions_where, other_functions, called_functions, event_function, program}
+use Rattle.sci_forms.specs.Form.{reads_mask}
+use Rattle.sci_cgen.proofs.Parted.{value_arrays, active_array, branch_array, due_arrays, limit_scalars, event_scalars, halt_scalar, reads, masked, guarded, called, all_shown, all_delays, all_states, all_halts, all_held, first_states, all_begun, until_asked, where_ports, fires_source, starting, running, blocks, sources, settle_function, clear_function, choose_function, before}
 use Rattle.sci_cgen.proofs.Marks.{few_small}
 use Rattle.sci_cgen.proofs.Entries.{few_inputs, block_here, mask_few}
 use Rattle.sci_cgen.proofs.Sizes.{few_outputs, port_has_delay, few_ports, few_all_states, state_within, in_bounds, scratch_few, is_spelled}
@@ -106,13 +107,17 @@ is_chosen : (k : ℕ) → k < 2 ^ 63 → IsExp (bin Eq (var chosen_name) (natura
 unfolding IsExp
 is_chosen k h = ((refl, omega arith), h)
 
-none_chosen : IsExp (bin Lt (var chosen_name) (natural 0))
+some_chosen : IsExp (bin Ge (var chosen_name) (natural 0))
 unfolding IsExp
-none_chosen = (chosen_is_name, zero_small)
+some_chosen = (chosen_is_name, zero_small)
 
-too_late : IsExp (bin Gt (at_best dates) (var until_name))
+none_pending : IsExp (bin Lt (var next_date) (natural 0))
 unfolding IsExp
-too_late = (((refl, omega arith), (refl, omega arith)), (refl, omega arith))
+none_pending = ((refl, omega arith), zero_small)
+
+too_late : IsExp (bin Gt (var next_date) (var until_name))
+unfolding IsExp
+too_late = ((refl, omega arith), (refl, omega arith))
 
 is_date : IsExp (at_best dates)
 unfolding IsExp
@@ -376,7 +381,7 @@ module _ (n : Parts) (net : IsNet n) where
         (let few = few_ports n net in omega (arith, few)),
         ((is_better, ((((refl, omega arith), is_var scan_name (refl, omega arith)), tt)), tt), tt),
       ),
-      tt,
+      (((refl, omega arith), minus_one), ((some_chosen, (((refl, omega arith), is_date), tt), tt), tt)),
     ),
   )
 
@@ -386,32 +391,33 @@ module _ (n : Parts) (net : IsNet n) where
   halted_fits d = where_fits (suc (suc d)) (has_halt n) (end_where (var halt_name) 0)
       (λ q. end_fits d (var halt_name) 0 (is_var halt_name (refl, omega arith)) (omega arith))
 
-  fire_fits : BlockFits 15 (fire_text n)
+  fire_fits : BlockFits 16 (fire_text n)
   fire_fits = (
     ((refl, omega arith), is_date),
     (
       (((refl, omega arith), is_var chosen_name (refl, omega arith)), minus_one),
       (
         (refl, omega arith),
-        joined_fits 15 (upto fires_source (port_count n)) (one (call settle_name)) (upto_fits 15 fires_source (port_count n) (λ k l.
+        joined_fits 16 (upto fires_source (port_count n)) (next (call settle_name) (one (call choose_name)))
+            (upto_fits 16 fires_source (port_count n) (λ k l.
             let few = few_ports n net in
             ((is_chosen (suc k - 1) (omega (arith, l, few)), ((refl, omega (arith, l, few)), tt), tt), tt)))
-            ((refl, omega arith), tt),
+            ((refl, omega arith), ((refl, omega arith), tt)),
       ),
     ),
   )
 
-  event_fits : BlockFits 15 (event_text n)
+  event_fits : BlockFits 16 (event_text n)
   event_fits = by_ports (nat_lt 0 (port_count n))
     where
-      by_ports : (t : Bool) → BlockFits 15 (if t then next (call choose_name) (joined (end_where (bin Lt (var chosen_name) (natural 0)) 2)
-          (joined (end_where (bin Gt (at_best dates) (var until_name)) 3) (fire_text n)))
+      by_ports : (t : Bool) → BlockFits 16 (if t then joined (end_where (bin Lt (var next_date) (natural 0)) 2)
+          (joined (end_where (bin Gt (var next_date) (var until_name)) 3) (fire_text n))
           else one (tell (finish (natural 2))))
-      by_ports true = (
-        (refl, omega arith),
-        ((none_chosen, (is_small 2 (omega arith), tt), tt), ((too_late, (is_small 3 (omega arith), tt), tt), fire_fits)),
-      )
+      by_ports true = ((none_pending, (is_small 2 (omega arith), tt), tt), ((too_late, (is_small 3 (omega arith), tt), tt), fire_fits))
       by_ports false = (is_small 2 (omega arith), tt)
+
+  turn_fits : BlockFits 16 (turn_text n)
+  turn_fits = joined_fits 16 (halted_text n) (event_text n) (halted_fits 14) event_fits
 
   begun_fits : (a : Name) (k : ℕ) (z : ℤ) → IsName a → k < 2 ^ 63 → negsuc 4294967295 ≤ℤ z → z ≤ℤ pos 4294967295 → BlockFits 16 (begun_text a k z)
   begun_fits a k z h l lo hi = where_fits 16 (not (int_eq z (pos 0))) (one (set (cell a (natural k)) (number z)))
@@ -478,20 +484,23 @@ module _ (n : Parts) (net : IsNet n) where
       (where_fits 16 (nat_lt 0 (port_count n)) (until_asked n) (λ q.
       (((refl, omega arith), is_small (programmed_before n (length (sources_of n))) (omega (arith, programmed, few))), (((refl, omega arith), tt), tt))))))
 
+  first_fits_here : BlockFits 16 (first_text n)
+  first_fits_here = by_ports (nat_lt 0 (port_count n))
+    where
+      by_ports : (t : Bool) → BlockFits 16 (if t then one (call choose_name) else one (set (scalar next_date) (number (negsuc 0))))
+      by_ports true = ((refl, omega arith), tt)
+      by_ports false = (((refl, omega arith), minus_one), tt)
+
+  begin_fits : BlockFits 16 (begin_text n)
+  begin_fits =
+      joined_fits 16 (outset_text n) (starting n) outset_fits
+      (((refl, omega arith), tt), ((refl, omega arith), ((refl, omega arith), first_fits_here)))
+
   main_fits : BlockFits 16 (main_text n)
   main_fits =
-      joined_fits 16 (outset_text n) (running n) outset_fits (
-        ((refl, omega arith), tt),
-        (
-          (refl, omega arith),
-          (
-            (refl, omega arith),
-            (
-              ((refl, omega arith), (refl, omega arith), joined_fits 15 (halted_text n) (event_text n) (halted_fits 13) event_fits),
-              joined_fits 16 (halted_text n) (one (tell (finish (natural 1)))) (halted_fits 14) (is_small 1 (omega arith), tt),
-            ),
-          ),
-        ),
+      joined_fits 16 (begin_text n) (running n) begin_fits (
+        ((refl, omega arith), (refl, omega arith), ((refl, omega arith), tt)),
+        joined_fits 16 (halted_text n) (one (tell (finish (natural 1)))) (halted_fits 14) (is_small 1 (omega arith), tt),
       )
 
   -- ---- the program
@@ -560,8 +569,8 @@ module _ (n : Parts) (net : IsNet n) where
       (array_then dates (port_count n) (array orders (port_count n) ∷ []) (refl, omega arith) ports
       (array_then orders (port_count n) [] (refl, omega arith) ports e)) in
       let d5 = scratch_fit (scratch_count n rows (length n.specs)) (scratch_few n rows (length n.specs)) in
-      let d6 : All IsDeclared limit_scalars = scalar_then limit_name (a_scalar fired_name ∷ []) (refl, omega arith)
-      (scalar_then fired_name [] (refl, omega arith) e) in
+      let d6 : All IsDeclared limit_scalars = scalar_then limit_name (a_scalar fired_name ∷ a_scalar next_date ∷ []) (refl, omega arith)
+      (scalar_then fired_name (a_scalar next_date ∷ []) (refl, omega arith) (scalar_then next_date [] (refl, omega arith) e)) in
       let d7 = all_where (nat_lt 0 (port_count n)) event_scalars events_fit in
       let d8 = all_where (has_halt n) halt_scalar (scalar_then halt_name [] (refl, omega arith) e) in
       let p2 = value_arrays n ++ declared_where (nat_lt 0 (length n.specs)) (active_array n) in
@@ -602,10 +611,12 @@ module _ (n : Parts) (net : IsNet n) where
   pub is_whole : (rows : List (List Entry)) → AreLoopFree n → IsSchedule n rows → IsWhole (program n rows)
   is_whole rows free schedule = record {
     decls = declarations_fit rows;
-    funcs = all_both IsFunction (blocks n rows ++ other_functions n) (sources n rows)
+    funcs = all_both IsFunction (called_functions n rows) (event_function n ∷ [])
+        (all_both IsFunction (blocks n rows ++ other_functions n) (sources n rows)
         (all_both IsFunction (blocks n rows) (other_functions n)
         (upto_functions_fit (λ k. block_function n rows (suc k)) (length n.specs) (block_function_fits rows)) other_functions_fit)
         (upto_functions_fit (source_function n rows) (length (sources_of n)) (λ i l.
-        ((refl, (let few = few_ports n net in omega (arith, l, few))), is_body (source_function n rows i).body (source_fits rows free schedule i l))));
+        ((refl, (let few = few_ports n net in omega (arith, l, few))), is_body (source_function n rows i).body (source_fits rows free schedule i l)))))
+        (All-cons IsFunction (event_function n) [] ((refl, omega arith), is_body (turn_text n) turn_fits) (All-nil IsFunction));
     main = is_body (main_text n) main_fits;
   }

@@ -9,9 +9,9 @@ use Rattle.c_ast.specs.Syntax.{Function}
 use Rattle.c_mean.specs.Meaning.{World, Around, Ran, going, quietly, run_block, same_name}
 use Rattle.c_steps.specs.Programs.{surroundings, is_defined}
 use Rattle.c_steps.proofs.Memory.{other_number}
-use Rattle.c_steps.proofs.Programs.{call_is, defined_joined}
-use Rattle.sci_cgen.specs.Names.{source_name, settle_name, clear_name, choose_name}
-use Rattle.sci_cgen.specs.Program.{port_count, block_function, source_function, row_text, settle_text, clear_text, choose_text, functions_upto, functions_where, other_functions, functions}
+use Rattle.c_steps.proofs.Programs.{call_is, calls_stay, defined_joined}
+use Rattle.sci_cgen.specs.Names.{source_name, settle_name, clear_name, choose_name, event_name}
+use Rattle.sci_cgen.specs.Program.{port_count, block_function, source_function, row_text, settle_text, clear_text, choose_text, functions_upto, functions_where, other_functions, called_functions, event_function, turn_text, functions}
 
 -- the functions of blocks, and those before the function of source k
 abbrev pub block_functions : Parts → List (List Entry) → List Function
@@ -71,7 +71,7 @@ no_source n rows x h (suc m) =
 
 module _ (n : Parts) (rows : List (List Entry)) (last most : ℤ) where
   abbrev env : Around
-  env = surroundings (functions n rows) last most
+  env = surroundings (called_functions n rows) last most
 
   abbrev sources : List Function
   sources = functions_upto (source_function n rows) (length (sources_of n))
@@ -90,7 +90,7 @@ module _ (n : Parts) (rows : List (List Entry)) (last most : ℤ) where
       )
     where
       placed : (rest : List Function) → sources ≡ functions_upto (source_function n rows) k ++ source_function n rows k ∷ rest
-          → functions n rows ≡ before_source n rows k ++ source_function n rows k ∷ rest
+          → called_functions n rows ≡ before_source n rows k ++ source_function n rows k ∷ rest
       placed rest e =
           append_assoc (block_functions n rows) (other_functions n) sources
           ∙ (ap (λ (fs : List Function). block_functions n rows ++ (other_functions n ++ fs)) e
@@ -124,7 +124,7 @@ module _ (n : Parts) (rows : List (List Entry)) (last most : ℤ) where
 
   -- where events fire
   module _ (some : 1 ≤ port_count n) where
-    functions_are : functions n rows ≡ block_functions n rows ++ settle_function ∷ clear_function ∷ choose_function ∷ sources
+    functions_are : called_functions n rows ≡ block_functions n rows ++ settle_function ∷ clear_function ∷ choose_function ∷ sources
     functions_are =
         append_assoc (block_functions n rows) (other_functions n) sources
         ∙ ap (λ (t : Bool). block_functions n rows ++ settle_function ∷ (functions_where t (clear_function ∷ choose_function ∷ []) ++ sources))
@@ -191,3 +191,15 @@ module _ (n : Parts) (rows : List (List Entry)) (last most : ℤ) where
     source = λ k l. let c = source_called k l in (c.0, ap run_of c.1);
     settling = let c = settle_called in (c.0, ap run_of c.1);
   }
+
+  -- ---- in sci_main
+
+  abbrev main : Around
+  main = surroundings (functions n rows) last most
+
+  -- other calls mean there what they do in the function of one event
+  pub same_call : (f : Name) → same_name event_name f ≡ false → main.calls f ≡ env.calls f
+  same_call f h = calls_stay f (called_functions n rows) (event_function n ∷ []) last most (ap (λ (t : Bool). t || false) h)
+
+  pub event_called : (number : ℕ) × (main.calls event_name ≡ Some (run_block env number (turn_text n)))
+  event_called = call_is (called_functions n rows) (event_function n) [] last most refl

@@ -13,7 +13,8 @@ use Rattle.sci_kinds.specs.Asks.{IsMask}
 use Rattle.sci_kinds.specs.Table.{Answer, Values, NoFit, NoQuotient, cell_of, gathered, out}
 use Rattle.sci_kinds.proofs.Elements.{gathered_same}
 use Rattle.sci_net.specs.declared.Source.{Source}
-use Rattle.sci_net.specs.Parts.{Parts, IsBlock, IsInput, IsOutput, IsSensor, numbered, spec_of, wire_of, output_of, column_of, is_sensor}
+use Rattle.sci_net.specs.Parts.{Parts, IsBlock, IsInput, IsOutput, IsSensor, numbered, spec_of, wire_of, output_of, column_of}
+use Rattle.sci_forms.specs.Form.{is_sensor}
 use Rattle.sci_net.specs.Net.{IsNet}
 use Rattle.sci_reaction.specs.Links.{SuppliesThrough}
 use Rattle.sci_reaction.specs.Active.{Possible}
@@ -38,7 +39,8 @@ use Rattle.sci_cgen_blocks.specs.Texts.{values, masks, scratch_name, input_place
 use Rattle.sci_cgen_blocks.specs.Meant.{Holds, IsFed, IsApart, Answers, TakesFirst}
 use Rattle.sci_cgen_blocks.specs.Laws.{ValuesLaw, SensorLaw}
 use Rattle.sci_cgen_blocks.proofs.Sensing.{is_kind, sensor_column, sensor_out}
-use Rattle.sci_cgen.specs.Program.{places_of, reads_mask}
+use Rattle.sci_cgen.specs.Program.{places_of}
+use Rattle.sci_forms.specs.Form.{is_read, reads_mask}
 use Rattle.sci_cgen.specs.Shows.{ShowsColumns}
 use Rattle.sci_cgen.specs.Passes.{ShowsNet, HasCalled, Gives, RunsBody, AreCalled}
 use Rattle.sci_cgen.proofs.Given.{input_start, input_shown}
@@ -175,7 +177,7 @@ module _ (n : Parts) (net : IsNet n) (scratch : ℕ) (i : Columns) (m : Memory) 
     unread_mask : reads_mask (spec_of n b).kind ≡ false → IsMask (spec_of n b) 0
     unread_mask off = record {
       few = pow_pos (spec_of n b).evtin;
-      some = λ select. absurd (true≢false (ap reads_mask (sym select) ∙ off));
+      some = λ needed. absurd (true≢false (ap is_read (sym needed) ∙ off));
     }
 
     body_gives : ValuesLaw → (env : Around) (k : ℕ)

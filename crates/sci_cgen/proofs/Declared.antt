@@ -13,8 +13,8 @@ use Rattle.c_ast.specs.Rules.{same_name, kind_in, kind_of}
 use Rattle.c_steps.proofs.Memory.{other_name, other_number, not_same}
 use Rattle.sci_cgen_blocks.specs.Texts.{scratch_name}
 use Rattle.sci_cgen_blocks.proofs.WholeRules.{declaring, AreNew, sizes, AreNewFunctions, declaring_functions}
-use Rattle.sci_cgen.specs.Names.{block_name, source_name}
-use Rattle.sci_cgen.specs.Program.{has_sync, has_halt, port_count, states_before, a_scalar, declared_where, scratch_declared, scratch_count, declarations, functions_upto, functions_where, other_functions, source_function}
+use Rattle.sci_cgen.specs.Names.{block_name, source_name, event_name}
+use Rattle.sci_cgen.specs.Program.{has_sync, has_halt, port_count, states_before, a_scalar, declared_where, scratch_declared, scratch_count, declarations, functions_upto, functions_where, other_functions, source_function, event_function}
 use Rattle.sci_cgen.proofs.Parted.{value_arrays, active_array, branch_array, due_arrays, limit_scalars, event_scalars, halt_scalar, own, blocks, sources, before}
 use Rattle.sci_cgen.proofs.Sizes.{few_ports, few_all_states, scratch_few}
 
@@ -108,7 +108,7 @@ module _ (n : Parts) where
             refl,
             (
               refl,
-              (refl, (refl, (refl, (refl, (refl, (refl, (refl, (refl, (refl, (refl, (refl, (refl, (refl, (refl, tt)))))))))))))),
+              (refl, (refl, (refl, (refl, (refl, (refl, (refl, (refl, (refl, (refl, (refl, (refl, (refl, (refl, (refl, tt))))))))))))))),
             ),
           ),
         ),
@@ -228,7 +228,7 @@ module _ (n : Parts) (rows : List (List Entry)) where
           refl,
           (
             refl,
-            (refl, (refl, (refl, (refl, (refl, (refl, (refl, (refl, (refl, (refl, (refl, (refl, (refl, (refl, (refl, tt))))))))))))))),
+            (refl, (refl, (refl, (refl, (refl, (refl, (refl, (refl, (refl, (refl, (refl, (refl, (refl, (refl, (refl, (refl, tt)))))))))))))))),
           ),
         ),
       ),
@@ -270,3 +270,19 @@ module _ (n : Parts) (rows : List (List Entry)) where
       by_test : (t : Bool) (j : ℕ) → AreOther (source_name j) (functions_where t (before n))
       by_test true j = (refl, (refl, tt))
       by_test false j = tt
+
+  pub third_new : AreNewFunctions (event_function n ∷ [])
+      (declaring_functions (sources n rows) (declaring_functions (blocks n rows ++ other_functions n) variables))
+  third_new = (
+    none_behind (sources n rows) (declaring_functions (blocks n rows ++ other_functions n) variables) event_name
+        (other_upto event_name (source_function n rows) (length (sources_of n)) (λ j l. refl))
+        (none_behind (blocks n rows ++ other_functions n) variables event_name
+        (other_both event_name (blocks n rows) (other_functions n) (other_upto event_name (own n rows) (length n.specs) (λ j l. refl))
+        (refl, by_test (nat_lt 0 (port_count n))))
+        (no_variable event_name refl)),
+    tt,
+  )
+    where
+      by_test : (t : Bool) → AreOther event_name (functions_where t (before n))
+      by_test true = (refl, (refl, tt))
+      by_test false = tt

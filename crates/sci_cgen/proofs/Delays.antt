@@ -9,7 +9,8 @@ use Rattle.std.proofs.lemmas.List.Elements.{Contains-get_or}
 use Rattle.sci_forms.specs.declared.Kind.{Kind}
 use Rattle.sci_forms.specs.declared.Kind.TheVariants.{EvtDly, EvtVarDly, IfThEl, ESelect}
 use Rattle.sci_forms.specs.declared.spec.Spec.{Spec}
-use Rattle.sci_forms.specs.Forms.{is_sync, has_delay, counts_of}
+use Rattle.sci_forms.specs.Forms.{counts_of}
+use Rattle.sci_forms.specs.Form.{is_sync, has_delay}
 use Rattle.sci_forms.specs.Typed.{typed, formed_of, counted}
 use Rattle.sci_kinds.specs.Table.{delay}
 use Rattle.sci_kinds.proofs.LawProofs.{delay_law}
@@ -93,7 +94,7 @@ delay_most n net (suc k) p u = elim (cases_lt k (length n.specs)) [
 
 module _ (env : Around) (n : Parts) (net : IsNet n) (scratch date : ℕ) (x y : Signals) (active : Activity) (p : Pending) (w : World) (in_range : AreInRange n y)
     (values : ShowsValues n y w) (states : ShowsStates n x w) (room : HasRoom n scratch w) (marked : ShowsActive n active w)
-    (ports : AreOfPorts (port_count n) p.events) (soon : date ≤ 2 ^ 62) (small : p.programmed + port_count n < 2 ^ 62) where
+    (ports : AreOfPorts (port_count n) p.events) (soon : date ≤ 2 ^ 62) (small : suc (p.programmed + port_count n) < 2 ^ 63) where
   -- the delay of an output, on the values of the reaction
   abbrev full : Feed → ℤ
   full q = delay (spec_of n q.block) q.port (all_inputs (spec_of n q.block) (input_in n y q.block))

@@ -8,7 +8,7 @@ use Rattle.c_ast.specs.Syntax.{Function}
 use Rattle.c_ast.specs.View.{function_of}
 use Rattle.sci_net.specs.Parts.{Parts}
 use Rattle.sci_reaction.specs.Schedule.{Entry}
-use Rattle.sci_sched.specs.declared.schedule.Entry.{Entry as Kept}
+use Rattle.sci_reaction.specs.declared.entry.Entry.{Entry as Kept}
 use Rattle.sci_sched.specs.Plain.{row_of, lists_of}
 use Rattle.sci_cgen.specs.Program.{functions_upto, block_function}
 use Rattle.sci_cgen.specs.Built.{AreMarked, AreNamed, marked_function}

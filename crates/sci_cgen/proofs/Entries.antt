@@ -22,7 +22,7 @@ use Rattle.sci_reaction.specs.Schedule.{Guard, Entry, blocks_of, branch_of, IsRo
 use Rattle.sci_reaction.proofs.Bits.{bits_of, bits_of-at, bits_below}
 use Rattle.sci_reaction.proofs.Spreading.{Spread-block}
 use Rattle.sci_reaction.proofs.Rows.{Contains-mid, Contains-has, Sorted, once, block_in, row_plan, feeds_within, IsPlan, IsFit}
-use Rattle.sci_cgen.specs.Program.{reads_mask}
+use Rattle.sci_forms.specs.Form.{reads_mask}
 use Rattle.sci_cgen.proofs.Marks.{IsGuarding}
 
 -- a number without bits from k on

@@ -16,7 +16,7 @@ use Rattle.c_steps.specs.Places.{get, Puts, is_scratch, same_place}
 use Rattle.c_steps.proofs.Memory.{other_name, same_apart, put_elsewhere, has_puts}
 use Rattle.sci_cgen_blocks.specs.Texts.{values, masks}
 use Rattle.sci_cgen.specs.Names.{actives, branches}
-use Rattle.sci_cgen.specs.Program.{reads_mask}
+use Rattle.sci_forms.specs.Form.{reads_mask}
 use Rattle.sci_cgen.specs.Shows.{ShowsValues, ShowsActive, ShowsBranches, ShowsColumns, HasRoom, ShowsPass, is_worked}
 use Rattle.sci_cgen.specs.Passes.{HasCalled}
 use Rattle.sci_cgen.proofs.Marks.{IsMarked}

@@ -8,23 +8,25 @@ use Rattle.sci_forms.specs.declared.Kind.TheVariants.{Dollar, Register, ModuloCo
 use Rattle.sci_forms.specs.declared.ports.Port.{Port}
 use Rattle.sci_forms.specs.declared.spec.Spec.{Spec}
 use Rattle.sci_forms.specs.Ports.{port_at, elements, total, before}
-use Rattle.sci_forms.specs.Forms.{has_state, has_delay}
+use Rattle.sci_forms.specs.Form.{has_state, has_delay}
 use Rattle.sci_forms.specs.Words.{state_len_of}
 use Rattle.sci_kinds.specs.Asks.{laid}
 use Rattle.sci_kinds.proofs.Elements.{listed_at}
 use Rattle.sci_net.specs.Parts.{Parts, IsBlock, IsInput, IsOutput, numbered, no_wire, spec_of, wire_of, output_of}
 use Rattle.sci_net.specs.Net.{IsNet}
 use Rattle.sci_reaction.specs.Equations.{Signals, input_in, output_among, all_inputs}
-use Rattle.sci_places.specs.declared.span.Span.{Span}
+use Rattle.sci_span.specs.declared.span.Span.{Span}
 use Rattle.sci_places.specs.Flat.{start_of}
-use Rattle.sci_places.specs.Layout.{no_span, output_span}
+use Rattle.sci_places.specs.Layout.{output_span}
+use Rattle.sci_span.specs.Values.{no_span}
 use Rattle.sci_places.proofs.Lists.{up_to}
 use Rattle.c_mean.specs.Meaning.{World}
 use Rattle.c_steps.specs.Places.{get}
 use Rattle.sci_cgen_blocks.specs.Recipes.{scratch_of}
 use Rattle.sci_cgen_blocks.specs.Texts.{values, states, input_place}
 use Rattle.sci_cgen_blocks.specs.Meant.{Holds, IsAny}
-use Rattle.sci_cgen.specs.Program.{places_of, reads_mask}
+use Rattle.sci_cgen.specs.Program.{places_of}
+use Rattle.sci_forms.specs.Form.{reads_mask}
 use Rattle.sci_cgen.specs.Shows.{ShowsValues, HasRoom}
 
 -- ---- the values on all inputs

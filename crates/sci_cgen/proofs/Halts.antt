@@ -5,7 +5,8 @@ use Rattle.std.proofs.lemmas.List.Elements.{Contains-get_or}
 use Rattle.sci_forms.specs.declared.spec.Spec.{Spec}
 use Rattle.sci_net.specs.Parts.{Parts, IsBlock, spec_of, no_spec}
 use Rattle.sci_reaction.proofs.Lists.{any_from}
-use Rattle.sci_run.specs.Activity.{Activity, is_halt, halts_from, halts}
+use Rattle.sci_run.specs.Activity.{Activity, halts_from, halts}
+use Rattle.sci_forms.specs.Form.{is_halt}
 use Rattle.c_ast.specs.declared.Name.{Name}
 use Rattle.c_ast.specs.Syntax.{scalar, set, done}
 use Rattle.c_mean.specs.Meaning.{World, same_name, truth, Around, run_block}

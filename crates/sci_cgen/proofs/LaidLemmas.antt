@@ -13,10 +13,11 @@ use Rattle.sci_net.specs.Sources.{source_of}
 use Rattle.sci_reaction.specs.Schedule.{Guard, Entry, IsEntry, IsGuard, IsRow, IsSchedule}
 use Rattle.sci_reaction.proofs.Spreading.{Spread-block}
 use Rattle.sci_reaction.proofs.Rows.{block_in}
-use Rattle.sci_sched.specs.declared.schedule.Entry.{Entry as Kept}
-use Rattle.sci_sched.specs.Plain.{entry_of, row_of, lists_of}
+use Rattle.sci_reaction.specs.declared.entry.Entry.{Entry as Kept}
+use Rattle.sci_sched.specs.Plain.{row_of, lists_of}
+use Rattle.sci_reaction.specs.Kept.{entry_of}
 use Rattle.sci_sched.specs.Answer.{IsPlan}
-use Rattle.sci_places.specs.declared.span.Span.{Span}
+use Rattle.sci_span.specs.declared.span.Span.{Span}
 use Rattle.sci_places.specs.Flat.{start_of}
 use Rattle.sci_places.specs.Layout.{output_span, input_spans}
 use Rattle.sci_places.proofs.Inputs.{output_within}

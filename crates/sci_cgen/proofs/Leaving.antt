@@ -5,13 +5,13 @@ use Rattle.std.specs.Int.{bit_at}
 use Rattle.sci_forms.specs.declared.ports.Port.{Port as Output}
 use Rattle.sci_forms.specs.declared.spec.Spec.{Spec}
 use Rattle.sci_forms.specs.Ports.{elements}
-use Rattle.sci_forms.specs.Forms.{is_sync, has_state}
+use Rattle.sci_forms.specs.Form.{is_sync, has_state}
 use Rattle.sci_net.specs.declared.Source.{Source}
 use Rattle.sci_net.specs.declared.Source.TheVariants.{Start, Port}
 use Rattle.sci_net.specs.Parts.{Parts, spec_of}
 use Rattle.sci_net.specs.Sources.{sources_of, source_of}
 use Rattle.sci_reaction.specs.Schedule.{Guard, Entry}
-use Rattle.sci_run.specs.Activity.{is_halt}
+use Rattle.sci_forms.specs.Form.{is_halt}
 use Rattle.sci_places.specs.Flat.{start_of}
 use Rattle.c_ast.specs.declared.Name.{Name}
 use Rattle.c_ast.specs.Syntax.{Exp, Statement, scalar, cell, set, ask, choice, loop, call, tell, Block, done, next, Function}
@@ -29,7 +29,8 @@ use Rattle.sci_cgen_blocks.specs.Laws.{MayLaw}
 use Rattle.sci_due.specs.Due.{best as chosen_name}
 use Rattle.sci_due.specs.Texts.{program_text}
 use Rattle.sci_cgen.specs.Names.{branches, limit_name, until_name, fired_name, halt_name, clear_name, choose_name}
-use Rattle.sci_cgen.specs.Program.{port_count, natural, one, is_active, is_taken, reads_mask, text_where, only_where, each_block, each_port, texts, mark, with_bit, with_bits, guard_text, call_text, entry_text, header_text, row_text, elements_shown, outputs_shown, values_shown, delay_text, state_text, halt_text, settle_text, clear_text, choose_text, places_of, is_scheduled, block_function, source_function, functions_upto, functions_where, other_functions}
+use Rattle.sci_cgen.specs.Program.{port_count, natural, one, is_active, is_taken, text_where, only_where, each_block, each_port, texts, mark, with_bit, with_bits, guard_text, call_text, entry_text, header_text, row_text, elements_shown, outputs_shown, values_shown, delay_text, state_text, halt_text, settle_text, clear_text, choose_text, places_of, is_scheduled, block_function, source_function, functions_upto, functions_where, other_functions}
+use Rattle.sci_forms.specs.Form.{reads_mask}
 use Rattle.sci_cgen.proofs.Ready.{is_of_run, reacting}
 use Rattle.sci_cgen.proofs.Called.{block_functions, before_source, AreReactions}
 

@@ -19,6 +19,7 @@ pub mod Between
 pub mod Clear
 pub mod Turns
 pub mod Running
+pub mod Starting
 pub mod Begun
 pub mod Blank
 pub mod Outset
@@ -32,6 +33,7 @@ pub mod Parted
 pub mod Sizes
 pub mod Blocks
 pub mod Bounded
+pub mod Layers
 pub mod Declared
 pub mod Ruled
 pub mod Whole

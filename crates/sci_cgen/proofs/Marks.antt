@@ -8,7 +8,7 @@ use Rattle.std.proofs.lemmas.Bool.{cases_lt}
 use Rattle.std.proofs.lemmas.Nat.{pow_pos, pow_below, or_lt, or_shifted, or_comm, mod-pow-add}
 use Rattle.std.proofs.lemmas.Nat.Bits.{bit_at_or, bit_at-lt, same_from_bits}
 use Rattle.sci_base.specs.Bits.{set_bit}
-use Rattle.sci_forms.specs.Forms.{is_sync}
+use Rattle.sci_forms.specs.Form.{is_sync}
 use Rattle.sci_net.specs.Parts.{Parts, IsBlock, spec_of}
 use Rattle.sci_reaction.specs.Equations.{input_in, branch_on}
 use Rattle.sci_reaction.specs.Schedule.{Guard, Entry}
@@ -28,7 +28,8 @@ use Rattle.c_steps.proofs.Steps.{cell_runs, done_leads, joined_leads, test_runs,
 use Rattle.sci_cgen_blocks.specs.Texts.{masks}
 use Rattle.sci_cgen_blocks.proofs.Patterns.{set_sum}
 use Rattle.sci_cgen.specs.Names.{actives, branches}
-use Rattle.sci_cgen.specs.Program.{natural, one, texts, text_where, reads_mask, mark, mask_cell, with_bit, with_bits, is_taken, guard_text}
+use Rattle.sci_cgen.specs.Program.{natural, one, texts, text_where, mark, mask_cell, with_bit, with_bits, is_taken, guard_text}
+use Rattle.sci_forms.specs.Form.{reads_mask}
 use Rattle.sci_cgen.specs.Shows.{ShowsBranches, branch_so_far}
 
 -- ---- bits

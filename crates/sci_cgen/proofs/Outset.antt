@@ -36,7 +36,7 @@ use Rattle.c_steps.proofs.Frames.{alone_all, alone_then, puts_alone}
 use Rattle.sci_cgen_blocks.specs.Texts.{values, states}
 use Rattle.sci_due.specs.Due.{dates, orders, last as programmed_name, now as now_name}
 use Rattle.sci_due.specs.Laws.{AreOfPorts, ShowsPending}
-use Rattle.sci_cgen.specs.Names.{limit_name, until_name, fired_name, halt_name}
+use Rattle.sci_cgen.specs.Names.{limit_name, until_name, fired_name, next_date, halt_name}
 use Rattle.sci_cgen.specs.Program.{natural, one, text_where, each_block, each_port, port_count, states_before, places_of, held_begun, state_begun, source_begun, programmed_before, outset_text}
 use Rattle.sci_cgen.specs.Shows.{ShowsValues, ShowsStates, ShowsColumns, HasRoom, ShowsState}
 use Rattle.sci_cgen.proofs.Firings.{is_table, HasBegun, few_before, firings_lead}
@@ -373,5 +373,8 @@ module _ (n : Parts) (net : IsNet n) (scratch : ℕ) (i : Columns) (until limit 
     soon = omega arith;
   }
 
-  pub fired_there : Has w' fired_name 0
-  fired_there = zero_there fired_name 0 blank.fired
+  pub none_fired : get w' fired_name 0 ≡ Some (pos 0)
+  none_fired = alone.same fired_name 0 refl ∙ blank.fired
+
+  pub coming_there : Has w' next_date 0
+  coming_there = zero_there next_date 0 blank.coming

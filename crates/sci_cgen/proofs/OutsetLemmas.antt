@@ -10,7 +10,8 @@ use Rattle.sci_forms.specs.declared.spec.Spec.{Spec}
 use Rattle.sci_forms.specs.Ports.{total, type_at}
 use Rattle.sci_forms.specs.Typed.{typed}
 use Rattle.sci_forms.specs.Words.{out_type, state_len_of}
-use Rattle.sci_kinds.specs.Table.{held_of, first_held, first_state}
+use Rattle.sci_kinds.specs.Table.{first_held, first_state}
+use Rattle.sci_forms.specs.Words.{held_of}
 use Rattle.sci_kinds.proofs.Elements.{listed_at}
 use Rattle.sci_kinds.proofs.LawProofs.{first_held_law}
 use Rattle.sci_net.specs.declared.Feed.{Feed}

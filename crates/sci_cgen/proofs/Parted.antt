@@ -10,8 +10,9 @@ use Rattle.c_ast.specs.Syntax.{var, bin, scalar, cell, until, limit, finish, set
 use Rattle.c_steps.specs.Texts.{joined}
 use Rattle.sci_cgen_blocks.specs.Texts.{values, states, masks}
 use Rattle.sci_due.specs.Due.{dates, orders, best as chosen_name, scan as scan_name, now as now_name, last as programmed_name, delay as delay_name}
-use Rattle.sci_cgen.specs.Names.{actives, branches, limit_name, until_name, fired_name, halt_name, source_name, clear_name, settle_name, choose_name}
-use Rattle.sci_cgen.specs.Program.{natural, one, array, a_scalar, states_before, texts, text_where, only_where, each_block, each_port, port_count, is_active, reads_mask, guard_text, call_text, clear_text, choose_text, settle_text, values_shown, delay_text, state_text, halt_text, halted_text, turn_text, held_begun, state_begun, source_begun, programmed_before, block_function, source_function, functions_upto}
+use Rattle.sci_cgen.specs.Names.{actives, branches, limit_name, until_name, fired_name, next_date, halt_name, source_name, clear_name, settle_name, choose_name, event_name}
+use Rattle.sci_cgen.specs.Program.{natural, one, array, a_scalar, states_before, texts, text_where, only_where, each_block, each_port, port_count, is_active, guard_text, call_text, clear_text, choose_text, settle_text, values_shown, delay_text, state_text, halt_text, halted_text, first_text, held_begun, state_begun, source_begun, programmed_before, block_function, source_function, functions_upto}
+use Rattle.sci_forms.specs.Form.{reads_mask}
 
 -- ---- of an entry
 
@@ -66,10 +67,12 @@ fires_source k = only_where (bin Eq (var chosen_name) (natural (suc k - 1))) (on
 abbrev pub ending : Parts → Block
 ending n = joined (halted_text n) (one (tell (finish (natural 1))))
 
+-- behind what is there before the run
+abbrev pub starting : Parts → Block
+starting n = next (ask (scalar limit_name) limit) (next (call (source_name 0)) (next (call settle_name) (first_text n)))
+
 abbrev pub running : Parts → Block
-running n =
-    next (ask (scalar limit_name) limit) (next (call (source_name 0)) (next (call settle_name)
-    (next (loop fired_name (bounds.Var limit_name) (turn_text n)) (ending n))))
+running n = next (loop fired_name (bounds.Var limit_name) (one (call event_name))) (ending n)
 
 -- ---- functions
 
@@ -109,7 +112,7 @@ abbrev pub due_arrays : Parts → List Declared
 due_arrays n = array dates (port_count n) ∷ array orders (port_count n) ∷ []
 
 abbrev pub limit_scalars : List Declared
-limit_scalars = a_scalar limit_name ∷ a_scalar fired_name ∷ []
+limit_scalars = a_scalar limit_name ∷ a_scalar fired_name ∷ a_scalar next_date ∷ []
 
 abbrev pub event_scalars : List Declared
 event_scalars = a_scalar until_name ∷ a_scalar now_name ∷ a_scalar programmed_name ∷ a_scalar chosen_name ∷ a_scalar delay_name ∷ a_scalar scan_name ∷ []

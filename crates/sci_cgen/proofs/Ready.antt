@@ -1,5 +1,5 @@
 -- A reaction of the program: the memory that it goes from, and what it comes to.
-use Rattle.std.specs.Prelude.{◌≡◌, ℕ, ◌+◌, ◌<◌, ◌≤◌, ◌^◌, Bool, false, true, not, ◌||◌, nat_eq, List, length}
+use Rattle.std.specs.Prelude.{◌≡◌, ℕ, suc, ◌+◌, ◌<◌, ◌≤◌, ◌^◌, Bool, false, true, not, ◌||◌, nat_eq, List, length}
 use Rattle.sci_base.specs.declared.observation.Obs.{Obs}
 use Rattle.sci_base.specs.declared.observation.StopWord.{StopWord}
 use Rattle.sci_net.specs.Parts.{Parts}
@@ -30,7 +30,7 @@ pub record IsReady (n : Parts) (scratch : ℕ) (i : Columns) (until limit date :
   pub goes_on : halts n st.active ≡ false
   pub memory : IsMemory n st.memory
   pub ports : AreOfPorts (port_count n) st.pending.events
-  pub few : st.pending.programmed + port_count n < 2 ^ 62
+  pub few : suc (st.pending.programmed + port_count n) < 2 ^ 63
   pub soon : date ≤ 2 ^ 62
 
 -- what no reaction assigns: the bounds, how many events have fired, and which was chosen

@@ -7,11 +7,12 @@ use Rattle.sci_base.specs.declared.observation.StopWord.{StopWord}
 use Rattle.sci_forms.specs.declared.Kind.{Kind}
 use Rattle.sci_forms.specs.declared.Kind.TheVariants.{Select, AndLog}
 use Rattle.sci_forms.specs.Ports.{Fills}
-use Rattle.sci_forms.specs.Forms.{is_sync}
+use Rattle.sci_forms.specs.Form.{is_sync}
 use Rattle.sci_kinds.specs.Asks.{IsMask}
 use Rattle.sci_net.specs.declared.Source.{Source}
 use Rattle.sci_net.specs.declared.Source.TheVariants.{Start, Port}
-use Rattle.sci_net.specs.Parts.{Parts, IsBlock, IsSensor, numbered, spec_of, column_of, is_sensor}
+use Rattle.sci_net.specs.Parts.{Parts, IsBlock, IsSensor, numbered, spec_of, column_of}
+use Rattle.sci_forms.specs.Form.{is_sensor}
 use Rattle.sci_net.specs.Net.{IsNet}
 use Rattle.sci_reaction.specs.Depends.{IsLoopFree}
 use Rattle.sci_reaction.specs.Memory.{Memory, Columns, IsMemory, AreColumns}
@@ -36,7 +37,8 @@ use Rattle.sci_cgen_blocks.specs.Texts.{states as states_name, branch_expression
 use Rattle.sci_cgen_blocks.specs.Laws.{BranchLaw}
 use Rattle.sci_due.specs.Due.{now as now_name}
 use Rattle.sci_cgen.specs.Names.{branches, block_name}
-use Rattle.sci_cgen.specs.Program.{natural, one, texts, text_where, only_where, places_of, reads_mask, is_active, call_text, entry_text, row_text}
+use Rattle.sci_cgen.specs.Program.{natural, one, texts, text_where, only_where, places_of, is_active, call_text, entry_text, row_text}
+use Rattle.sci_forms.specs.Form.{reads_mask}
 use Rattle.sci_cgen.specs.Shows.{ShowsStates, ShowsBranches, ShowsPass, branch_so_far}
 use Rattle.sci_cgen.specs.Passes.{IsDated, ShowsNet, HasCalled, Gives, AreCalled, cursors, HasPassed, PassStops, Passes}
 use Rattle.sci_cgen.proofs.Marks.{IsMarked, entry_marks}

@@ -8,11 +8,13 @@ use Rattle.c_steps.specs.Texts.{joined, upto}
 use Rattle.sci_forms.specs.declared.spec.Spec.{Spec}
 use Rattle.sci_forms.specs.Typed.{typed}
 use Rattle.sci_reaction.specs.Schedule.{Guard, Entry}
-use Rattle.sci_sched.specs.declared.schedule.Guard.{Guard as KeptGuard}
-use Rattle.sci_sched.specs.declared.schedule.Entry.{Entry as KeptEntry}
-use Rattle.sci_sched.specs.Plain.{guard_of, guards_of, entry_of, row_of}
+use Rattle.sci_reaction.specs.declared.entry.Guard.{Guard as KeptGuard}
+use Rattle.sci_reaction.specs.declared.entry.Entry.{Entry as KeptEntry}
+use Rattle.sci_sched.specs.Plain.{row_of}
+use Rattle.sci_reaction.specs.Kept.{guard_of, guards_of, entry_of}
 use Rattle.sci_cgen_blocks.proofs.Written.{joined_assoc, joined_done, all_dropped}
-use Rattle.sci_cgen.specs.Program.{texts, text_where, reads_mask}
+use Rattle.sci_cgen.specs.Program.{texts, text_where}
+use Rattle.sci_forms.specs.Form.{reads_mask}
 use Rattle.sci_cgen.proofs.Marks.{few_small}
 use Rattle.sci_cgen.proofs.Entries.{few_inputs}
 

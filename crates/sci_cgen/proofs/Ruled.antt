@@ -6,7 +6,7 @@ use Rattle.std.proofs.lemmas.List.Elements.{Contains-get_or}
 use Rattle.sci_forms.specs.declared.ports.Port.{Port as Output}
 use Rattle.sci_forms.specs.declared.spec.Spec.{Spec}
 use Rattle.sci_forms.specs.Ports.{elements}
-use Rattle.sci_forms.specs.Forms.{is_sync, has_state}
+use Rattle.sci_forms.specs.Form.{is_sync, has_state}
 use Rattle.sci_net.specs.declared.Source.{Source}
 use Rattle.sci_net.specs.declared.Source.TheVariants.{Start, Port}
 use Rattle.sci_net.specs.Parts.{Parts, IsBlock, spec_of, no_spec}
@@ -17,7 +17,7 @@ use Rattle.sci_reaction.specs.Depends.{IsLoopFree}
 use Rattle.sci_reaction.specs.Links.{IsSource}
 use Rattle.sci_reaction.proofs.Sources.{sources_are}
 use Rattle.sci_reaction.specs.Schedule.{Guard, Entry, IsSchedule, IsRow}
-use Rattle.sci_run.specs.Activity.{is_halt}
+use Rattle.sci_forms.specs.Form.{is_halt}
 use Rattle.sci_run.specs.Laws.{AreLoopFree}
 use Rattle.c_ast.specs.declared.Name.{Name}
 use Rattle.c_ast.specs.declared.Bound.TheVariants as bounds
@@ -33,7 +33,7 @@ use Rattle.sci_cgen_blocks.specs.Keeping.{Scene, IsScalar, IsArray, ReadsWell, B
 use Rattle.sci_cgen_blocks.proofs.TextRules.{joined_keep, upto_keeps, body_keeps, next_keeps, delay_keeps, branch_keeps}
 use Rattle.sci_cgen_blocks.proofs.WholeRules.{IsKnown, AreKnown, calls_well}
 use Rattle.sci_due.specs.Due.{dates, orders, best as chosen_name, scan as scan_name, now as now_name, last as programmed_name, delay as delay_name}
-use Rattle.sci_cgen.specs.Names.{actives, branches, limit_name, until_name, fired_name, halt_name, block_name}
+use Rattle.sci_cgen.specs.Names.{actives, branches, limit_name, until_name, fired_name, next_date, halt_name, block_name}
 use Rattle.sci_cgen.specs.Program.{natural, one, texts, text_where, only_where, port_count, places_of, is_scheduled, block_function, source_function, is_active, mark, with_bit, with_bits, guard_text, call_text, entry_text, header_text, has_sync, has_halt, clear_text, choose_text, elements_shown, outputs_shown, values_shown, delay_text, state_text, halt_text, settle_text}
 use Rattle.sci_cgen.proofs.Parted.{reads, masked, guarded, called, all_shown, all_delays, all_states, all_halts}
 use Rattle.sci_cgen.proofs.Marks.{IsGuarding}
@@ -52,6 +52,7 @@ pub record Finds (n : Parts) (scratch : ℕ) (c : Scene) : Type 0 where
   pub scratch_names : (k : ℕ) → 1 ≤ k → k ≤ scratch → IsScalar c (scratch_name k)
   pub limit : IsScalar c limit_name
   pub fired : IsScalar c fired_name
+  pub next_date : IsScalar c next_date
   pub until : 1 ≤ port_count n → IsScalar c until_name
   pub now : 1 ≤ port_count n → IsScalar c now_name
   pub programmed : 1 ≤ port_count n → IsScalar c programmed_name
@@ -247,7 +248,8 @@ module _ (n : Parts) (net : IsNet n) (scratch : ℕ) (kinds : Name → Option Ki
         let d = finds.dates l in
         let o = finds.orders l in
         let k = finds.scan l in
-        let b = finds.chosen l in (
+        let b = finds.chosen l in
+        let t = finds.next_date in (
           ((b, (refl, refl)), tt),
           (
             (
@@ -263,7 +265,7 @@ module _ (n : Parts) (net : IsNet n) (scratch : ℕ) (kinds : Name → Option Ki
                 tt,
               ),
             ),
-            tt,
+            (((t, (refl, refl)), tt), (((b, tt), (((t, (refl, refl)), (d, b)), tt), tt), tt)),
           ),
         )
 

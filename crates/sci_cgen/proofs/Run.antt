@@ -1,4 +1,5 @@
--- What the program means.
+-- What the program means, run by main or stepped by its host.
+use Rattle.std.proofs.Common.{refl}
 use Rattle.sci_cgen_blocks.specs.Laws.{ValuesLaw, SensorLaw, BranchLaw, MayLaw}
 use Rattle.sci_cgen_blocks.proofs.KindLaws.{cell_law, cell_reads_law}
 use Rattle.sci_cgen_blocks.proofs.Bodies.{body_answers}
@@ -7,7 +8,10 @@ use Rattle.sci_cgen_blocks.proofs.Effects.{branch_term_law}
 use Rattle.sci_cgen_blocks.proofs.NextTexts.{branch_is}
 use Rattle.sci_cgen_blocks.proofs.Assigned.{body_within, next_within}
 use Rattle.sci_cgen.specs.Laws.{ProgramMeansRun}
-use Rattle.sci_cgen.proofs.Means.{ReactionsGo, program_means}
+use Rattle.sci_cgen.specs.Program.{begin_text}
+use Rattle.sci_cgen.specs.Stepping.{ProgramSteps}
+use Rattle.sci_cgen.proofs.Parted.{ending}
+use Rattle.sci_cgen.proofs.Means.{ReactionsGo, program_means, program_waits, program_steps}
 use Rattle.sci_cgen.proofs.Reacting.{reactions_go}
 
 -- ---- the texts of blocks
@@ -33,3 +37,19 @@ unfolding ReactionsGo
 program_means_run n rows i until limit st how os net free schedule columns late most finish =
     program_means n rows i until limit net free columns late most
     (λ react settle are. reactions_go values_law sensor_law branch_law may_law n rows i until limit net free schedule columns react settle are) finish
+
+-- Begun and then stepped by its host, it observes the reactions of start and of as many events, or all of a run that has fewer.
+pub program_can_step : ProgramSteps
+unfolding ReactionsGo
+program_can_step n rows net free schedule = record {
+  begin = begin_text n;
+  parted = record { rest = ending n; is = refl };
+  waits = λ i until most k st seen columns late few r all.
+      program_waits n rows i until most net free columns late
+      (λ react settle are. reactions_go values_law sensor_law branch_law may_law n rows i until most net free schedule columns react settle are) k few st seen
+      r all;
+  ends = λ i until most k st how os columns late few finish told.
+      program_steps n rows i until most net free columns late
+      (λ react settle are. reactions_go values_law sensor_law branch_law may_law n rows i until most net free schedule columns react settle are) k few finish
+      told;
+}

@@ -10,7 +10,8 @@ use Rattle.sci_forms.specs.declared.spec.Spec.{Spec}
 use Rattle.sci_kinds.specs.Table.{next_of}
 use Rattle.sci_kinds.proofs.Elements.{listed_at}
 use Rattle.sci_net.specs.declared.Source.{Source}
-use Rattle.sci_net.specs.Parts.{Parts, IsBlock, numbered, spec_of, is_sensor, column_of}
+use Rattle.sci_net.specs.Parts.{Parts, IsBlock, numbered, spec_of, column_of}
+use Rattle.sci_forms.specs.Form.{is_sensor}
 use Rattle.sci_net.specs.Net.{IsNet}
 use Rattle.sci_net.specs.Sources.{source_of}
 use Rattle.sci_reaction.specs.Memory.{Memory, Columns, IsMemory}
@@ -79,7 +80,7 @@ next_unmasked _ s x m u i = refl
 
 module _ (env : Around) (n : Parts) (net : IsNet n) (scratch : ℕ) (i : Columns) (until limit date : ℕ) (s : Source) (st : State) (row : List Entry)
     (before w : World) (row_is : IsRow n s row) (in_range : IsMemory n st.memory) (shows : ShowsState n scratch i until limit (at_date date st) before)
-    (halted : halts n st.active ≡ false) (soon : date ≤ 2 ^ 62) (small : st.pending.programmed + port_count n < 2 ^ 62)
+    (halted : halts n st.active ≡ false) (soon : date ≤ 2 ^ 62) (small : suc (st.pending.programmed + port_count n) < 2 ^ 63)
     (ports : AreOfPorts (port_count n) st.pending.events) (passed : HasPassed n scratch i st.memory s row before w) (memory : Memory)
     (next : IsNextMemory n st.memory s passed.found.values memory) where
   abbrev y : Signals
@@ -262,7 +263,7 @@ module _ (env : Around) (n : Parts) (net : IsNet n) (scratch : ℕ) (i : Columns
 -- The text behind a pass observes the values of the active blocks, and leads to the memory behind the reaction.
 module _ (env : Around) (n : Parts) (net : IsNet n) (scratch : ℕ) (i : Columns) (until limit date : ℕ) (s : Source) (st : State) (row : List Entry)
     (before w : World) (row_is : IsRow n s row) (in_range : IsMemory n st.memory) (shows : ShowsState n scratch i until limit (at_date date st) before)
-    (halted : halts n st.active ≡ false) (soon : date ≤ 2 ^ 62) (small : st.pending.programmed + port_count n < 2 ^ 62)
+    (halted : halts n st.active ≡ false) (soon : date ≤ 2 ^ 62) (small : suc (st.pending.programmed + port_count n) < 2 ^ 63)
     (ports : AreOfPorts (port_count n) st.pending.events) (passed : HasPassed n scratch i st.memory s row before w) where
   pub settles : (k : ℕ) → Settles n scratch i until limit date s st (run_block env k (settle_text n) w)
   settles k =

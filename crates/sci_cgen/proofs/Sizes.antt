@@ -12,7 +12,8 @@ use Rattle.sci_forms.specs.declared.Kind.{Kind}
 use Rattle.sci_forms.specs.declared.Kind.TheVariants.{Const, Dollar, GatedDelay, Register, ModuloCount, EvtDly, EvtVarDly, IfThEl, ESelect, LogicalOp, Shift}
 use Rattle.sci_forms.specs.declared.spec.Spec.{Spec}
 use Rattle.sci_forms.specs.Ports.{total, elements, port_at}
-use Rattle.sci_forms.specs.Forms.{counts_of, is_sync, has_delay}
+use Rattle.sci_forms.specs.Forms.{counts_of}
+use Rattle.sci_forms.specs.Form.{is_sync, has_delay}
 use Rattle.sci_forms.specs.Typed.{typed}
 use Rattle.sci_forms.specs.Words.{out_type, size, state_len_of}
 use Rattle.sci_kinds.specs.Asks.{Asks}
@@ -25,8 +26,9 @@ use Rattle.sci_net.specs.Parts.{Parts, IsBlock, IsInput, numbered, spec_of, wire
 use Rattle.sci_net.specs.Net.{IsNet, all_elements}
 use Rattle.sci_net.specs.Sources.{sources_of, source_of}
 use Rattle.sci_net.proofs.TypedSpecs.{all_typed, sources_few}
-use Rattle.sci_places.specs.Layout.{output_span, no_span}
-use Rattle.sci_places.specs.declared.span.Span.{Span}
+use Rattle.sci_places.specs.Layout.{output_span}
+use Rattle.sci_span.specs.Values.{no_span}
+use Rattle.sci_span.specs.declared.span.Span.{Span}
 use Rattle.sci_places.proofs.Inputs.{output_within}
 use Rattle.sci_places.proofs.Outputs.{block_within}
 use Rattle.sci_reaction.specs.Links.{IsSource}

@@ -4,7 +4,7 @@ use Rattle.std.specs.Prelude.{◌||◌}
 use Rattle.std.proofs.lemmas.Bool.{cases_lt}
 use Rattle.sci_base.specs.Lists.{at}
 use Rattle.sci_forms.specs.declared.spec.Spec.{Spec}
-use Rattle.sci_forms.specs.Forms.{has_state}
+use Rattle.sci_forms.specs.Form.{has_state}
 use Rattle.sci_forms.specs.Words.{state_len_of}
 use Rattle.sci_kinds.specs.Table.{next_of}
 use Rattle.sci_kinds.specs.Asks.{IsState}

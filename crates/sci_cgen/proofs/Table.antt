@@ -51,7 +51,7 @@ pub record HasDelayed (n : Parts) (most : ℕ) (p : Pending) (w w' : World) : Ty
   pub ports : AreOfPorts (port_count n) p.events
   pub few : p.programmed ≤ most
 
-module _ (env : Around) (n : Parts) (date most : ℕ) (soon : date ≤ 2 ^ 62) (small : most < 2 ^ 62) where
+module _ (env : Around) (n : Parts) (date most : ℕ) (soon : date ≤ 2 ^ 62) (small : suc most < 2 ^ 63) where
   port_leads : (i : ℕ) (q : Feed) (p : Pending) (a : Bool) (z : ℤ) (k : ℕ) (w : World) → 1 ≤ i → i ≤ port_count n → p.programmed ≤ most
       → AreOfPorts (port_count n) p.events
       → ShowsPending (port_count n) p w → get w now_name 0 ≡ Some (pos date) → Has w delay_name 0 → get w actives (q.block - 1) ≡ Some (truth a)
@@ -87,7 +87,7 @@ module _ (env : Around) (n : Parts) (date most : ℕ) (soon : date ≤ 2 ^ 62) (
 
 -- ---- all ports
 
-module _ (env : Around) (n : Parts) (date most : ℕ) (soon : date ≤ 2 ^ 62) (small : most + port_count n < 2 ^ 62) (p : Pending) (w0 : World)
+module _ (env : Around) (n : Parts) (date most : ℕ) (soon : date ≤ 2 ^ 62) (small : suc (most + port_count n) < 2 ^ 63) (p : Pending) (w0 : World)
     (active : ℕ → Bool) (full : Feed → ℤ)
     (few : p.programmed ≤ most) (ports : AreOfPorts (port_count n) p.events) (shows : ShowsPending (port_count n) p w0)
     (now_is : get w0 now_name 0 ≡ Some (pos date)) (there : Has w0 delay_name 0)

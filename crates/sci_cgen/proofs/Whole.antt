@@ -18,7 +18,7 @@ use Rattle.c_ast.specs.declared.Bound.TheVariants as bounds
 use Rattle.c_ast.specs.declared.events.Kind.{Kind}
 use Rattle.c_ast.specs.declared.events.Opened.{Opened}
 use Rattle.c_ast.specs.declared.events.Opened.TheVariants.{Branch, Turn}
-use Rattle.c_ast.specs.Syntax.{bin, var, cell, set, call, tell, finish, next, Declared, Function}
+use Rattle.c_ast.specs.Syntax.{bin, var, scalar, cell, set, call, tell, finish, next, Declared, Function}
 use Rattle.c_ast.specs.declared.Op.TheVariants.{Lt, Gt}
 use Rattle.c_ast.specs.Rules.{Routine, same_name, kind_in, kind_of, is_scalar, is_array, is_hit, KeepsRules}
 use Rattle.c_steps.specs.Texts.{number, joined, upto}
@@ -26,16 +26,16 @@ use Rattle.c_steps.proofs.Memory.{name_eq, name_same}
 use Rattle.sci_cgen_blocks.specs.Texts.{values, states, masks, scratch_name}
 use Rattle.sci_cgen_blocks.specs.Keeping.{Scene, ReadsWell, BlockKeeps, CallsWell}
 use Rattle.sci_cgen_blocks.proofs.TextRules.{joined_keep, upto_keeps}
-use Rattle.sci_cgen_blocks.proofs.WholeRules.{declaring, AreNew, IsKnown, AreKnown, AllKeep, calls_well, program_keeps}
+use Rattle.sci_cgen_blocks.proofs.WholeRules.{declaring, AreNew, IsKnown, AreKnown, AllKeep, calls_well}
 use Rattle.sci_due.specs.Due.{dates, orders, best as chosen_name, scan as scan_name, now as now_name, last as programmed_name, delay as delay_name}
-use Rattle.sci_due.specs.Texts.{at_best}
-use Rattle.sci_cgen.specs.Names.{actives, branches, limit_name, until_name, fired_name, halt_name, block_name, source_name, clear_name, settle_name, choose_name}
-use Rattle.sci_cgen.specs.Program.{natural, one, port_count, places_of, has_sync, has_halt, states_before, array, a_scalar, declared_where, scratch_declared, scratch_count, declarations, functions_upto, functions_where, other_functions, source_function, end_where, halted_text, fire_text, event_text, begun_text, list_begun, held_begun, state_begun, firing_at, programmed_before, firing_begun, source_begun, outset_text, main_text, program}
+use Rattle.sci_cgen.specs.Names.{actives, branches, limit_name, until_name, fired_name, next_date, halt_name, block_name, source_name, clear_name, settle_name, choose_name, event_name}
+use Rattle.sci_cgen.specs.Program.{natural, one, port_count, places_of, has_sync, has_halt, states_before, array, a_scalar, declared_where, scratch_declared, scratch_count, declarations, functions_upto, functions_where, other_functions, source_function, end_where, halted_text, fire_text, event_text, turn_text, first_text, begin_text, event_function, begun_text, list_begun, held_begun, state_begun, firing_at, programmed_before, firing_begun, source_begun, outset_text, main_text, program}
 use Rattle.sci_cgen.specs.Laws.{ProgramIsWhole}
-use Rattle.sci_cgen.proofs.Parted.{value_arrays, active_array, branch_array, due_arrays, limit_scalars, event_scalars, halt_scalar, all_held, first_states, all_begun, until_asked, where_ports, fires_source, running, own, blocks, sources, before}
+use Rattle.sci_cgen.proofs.Parted.{value_arrays, active_array, branch_array, due_arrays, limit_scalars, event_scalars, halt_scalar, all_held, first_states, all_begun, until_asked, where_ports, fires_source, starting, running, own, blocks, sources, before}
+use Rattle.sci_cgen.proofs.Layers.{program_keeps}
 use Rattle.sci_cgen.proofs.Sizes.{scratch_enough}
 use Rattle.sci_cgen.proofs.Bounded.{is_whole}
-use Rattle.sci_cgen.proofs.Declared.{variables_new, sizes_few, first_new, second_new}
+use Rattle.sci_cgen.proofs.Declared.{variables_new, sizes_few, first_new, second_new, third_new}
 use Rattle.sci_cgen.proofs.Ruled.{Finds, may_assign, in_functions, where_keeps, block_keeps, settle_keeps, clear_keeps, choose_keeps, source_keeps}
 
 -- ---- what is declared
@@ -169,6 +169,7 @@ module _ (n : Parts) (rows : List (List Entry)) where
         (among_right (a_scalar (scratch_name k)) p4 (scratch_declared scratch) (among_scratch k scratch lo hi)));
     limit = a_number limit_name (from6 (a_scalar limit_name) (among_right (a_scalar limit_name) p5 limit_scalars (inl refl)));
     fired = a_number fired_name (from6 (a_scalar fired_name) (among_right (a_scalar fired_name) p5 limit_scalars (inr (inl refl))));
+    next_date = a_number next_date (from6 (a_scalar next_date) (among_right (a_scalar next_date) p5 limit_scalars (inr (inr (inl refl)))));
     until = λ l. a_number until_name (event_there until_name l (inl refl));
     now = λ l. a_number now_name (event_there now_name l (inr (inl refl)));
     programmed = λ l. a_number programmed_name (event_there programmed_name l (inr (inr (inl refl))));
@@ -266,74 +267,93 @@ module _ (n : Parts) (net : IsNet n) (scratch : ℕ) (kinds : Name → Option Ki
     halted_keeps opens =
         where_keeps c opens (has_halt n) (end_where (var halt_name) 0) (λ q. ((finds.halt q, (tt, tt), tt), tt))
 
-    module _ (settle : IsKnown may_assign 1 routines settle_name)
-        (others : 1 ≤ port_count n → IsKnown may_assign 1 routines clear_name × IsKnown may_assign 1 routines choose_name)
-        (source : (i : ℕ) → i < length (sources_of n) → IsKnown may_assign 2 routines (source_name i)) where
+    module _ (settle : IsKnown may_assign 1 routines settle_name) (choose : 1 ≤ port_count n → IsKnown may_assign 1 routines choose_name)
+        (source : IsKnown may_assign 2 routines (source_name 0)) (event : IsKnown may_assign 3 routines event_name) where
       call_keeps : (opens : List Opened) (d : ℕ) (f : Name) → IsKnown may_assign d routines f → d < 64 → list_any (is_hit may_assign) opens ≡ false
           → CallsWell c opens f
       call_keeps opens d f known deep apart = calls_well c opens may_assign d f known deep (λ x h. refl) apart
 
-      fire_keeps : 1 ≤ port_count n → BlockKeeps c turning (fire_text n)
-      fire_keeps l = (
-        ((finds.now l, (refl, refl)), (finds.dates l, finds.chosen l)),
-        (
-          ((finds.dates l, (refl, refl), finds.chosen l), tt),
-          (
-            call_keeps turning 1 clear_name (others l).0 (omega arith) refl,
-            joined_keep c turning (upto fires_source (port_count n)) (one (call settle_name))
-                (upto_keeps c turning fires_source (port_count n) (λ k q. (
-                  (
-                    (finds.chosen l, tt),
-                    (
-                      call_keeps (Branch ∷ Turn fired_name (bounds.Var limit_name) ∷ Branch ∷ []) 2 (source_name (suc k)) (source (suc k) (omega (arith, q)))
-                          (omega arith) refl,
-                      tt,
-                    ),
-                    tt,
-                  ),
-                  tt,
-                )))
-                (call_keeps turning 1 settle_name settle (omega arith) refl, tt),
-          ),
-        ),
-      )
-
-      event_keeps : BlockKeeps c turning (event_text n)
-      event_keeps = by_ports (nat_lt 0 (port_count n)) some_ports
+      first_keeps : BlockKeeps c top (first_text n)
+      first_keeps = by_ports (nat_lt 0 (port_count n)) some_ports
         where
           by_ports : (t : Bool) → (t ≡ true → 1 ≤ port_count n)
-              → BlockKeeps c turning (if t then next (call choose_name) (joined (end_where (bin Lt (var chosen_name) (natural 0)) 2)
-              (joined (end_where (bin Gt (at_best dates) (var until_name)) 3) (fire_text n))) else one (tell (finish (natural 2))))
-          by_ports true some =
-              let l = some refl in (
-                call_keeps turning 1 choose_name (others l).1 (omega arith) refl,
-                (
-                  ((finds.chosen l, tt), (tt, tt), tt),
-                  ((((finds.dates l, finds.chosen l), finds.until l), (tt, tt), tt), fire_keeps l),
-                ),
-              )
-          by_ports false some = (tt, tt)
+              → BlockKeeps c top (if t then one (call choose_name) else one (set (scalar next_date) (number (negsuc 0))))
+          by_ports true some = (call_keeps top 1 choose_name (choose (some refl)) (omega arith) refl, tt)
+          by_ports false some = (((finds.next_date, (refl, refl)), tt), tt)
+
+      begin_keeps : BlockKeeps c top (begin_text n)
+      begin_keeps =
+          joined_keep c top (outset_text n) (starting n) outset_keeps (
+            ((finds.limit, (refl, refl)), tt),
+            (
+              call_keeps top 2 (source_name 0) source (omega arith) refl,
+              (call_keeps top 1 settle_name settle (omega arith) refl, first_keeps),
+            ),
+          )
 
       main_text_keeps : BlockKeeps c top (main_text n)
       main_text_keeps =
-          joined_keep c top (outset_text n) (running n) outset_keeps (
-            ((finds.limit, (refl, refl)), tt),
-            (
-              call_keeps top 2 (source_name 0) (source 0 (omega arith)) (omega arith) refl,
-              (
-                call_keeps top 1 settle_name settle (omega arith) refl,
-                (
-                  (
-                    finds.fired,
-                    (refl, refl),
-                    (finds.limit, refl),
-                    joined_keep c turning (halted_text n) (event_text n) (halted_keeps turning) event_keeps,
-                  ),
-                  joined_keep c top (halted_text n) (one (tell (finish (natural 1)))) (halted_keeps top) (tt, tt),
-                ),
-              ),
-            ),
+          joined_keep c top (begin_text n) (running n) begin_keeps (
+            (finds.fired, (refl, refl), (finds.limit, refl), (call_keeps turning 3 event_name event (omega arith) refl, tt)),
+            joined_keep c top (halted_text n) (one (tell (finish (natural 1)))) (halted_keeps top) (tt, tt),
           )
+
+-- ---- one event
+
+module _ (n : Parts) (scratch : ℕ) (kinds : Name → Option Kind) (routines : Name → Option Routine)
+    (finds : Finds n scratch (in_functions kinds routines 3))
+    (settle : IsKnown may_assign 1 routines settle_name)
+    (others : 1 ≤ port_count n → IsKnown may_assign 1 routines clear_name × IsKnown may_assign 1 routines choose_name)
+    (source : (i : ℕ) → i < length (sources_of n) → IsKnown may_assign 2 routines (source_name i)) where
+  abbrev here : Scene
+  here = in_functions kinds routines 3
+
+  abbrev body : List Opened
+  body = Branch ∷ []
+
+  routine_keeps : (opens : List Opened) (d : ℕ) (f : Name) → IsKnown may_assign d routines f → d < 3 → list_any (is_hit may_assign) opens ≡ false
+      → CallsWell here opens f
+  routine_keeps opens d f known deep apart = calls_well here opens may_assign d f known deep (λ x h. h) apart
+
+  fire_keeps : 1 ≤ port_count n → BlockKeeps here body (fire_text n)
+  fire_keeps l = (
+    ((finds.now l, (refl, refl)), (finds.dates l, finds.chosen l)),
+    (
+      ((finds.dates l, (refl, refl), finds.chosen l), tt),
+      (
+        routine_keeps body 1 clear_name (others l).0 (omega arith) refl,
+        joined_keep here body (upto fires_source (port_count n)) (next (call settle_name) (one (call choose_name)))
+            (upto_keeps here body fires_source (port_count n) (λ k q. (
+              (
+                (finds.chosen l, tt),
+                (routine_keeps (Branch ∷ Branch ∷ []) 2 (source_name (suc k)) (source (suc k) (omega (arith, q))) (omega arith) refl, tt),
+                tt,
+              ),
+              tt,
+            )))
+            (routine_keeps body 1 settle_name settle (omega arith) refl, (routine_keeps body 1 choose_name (others l).1 (omega arith) refl, tt)),
+      ),
+    ),
+  )
+
+  event_keeps : BlockKeeps here body (event_text n)
+  event_keeps = by_ports (nat_lt 0 (port_count n)) some_ports
+    where
+      some_ports : nat_lt 0 (port_count n) ≡ true → 1 ≤ port_count n
+      some_ports h = grind (arith, nat_tests)
+
+      by_ports : (t : Bool) → (t ≡ true → 1 ≤ port_count n)
+          → BlockKeeps here body (if t then joined (end_where (bin Lt (var next_date) (natural 0)) 2)
+          (joined (end_where (bin Gt (var next_date) (var until_name)) 3) (fire_text n)) else one (tell (finish (natural 2))))
+      by_ports true some =
+          let l = some refl in
+          (((finds.next_date, tt), (tt, tt), tt), (((finds.next_date, finds.until l), (tt, tt), tt), fire_keeps l))
+      by_ports false some = (tt, tt)
+
+  turn_keeps : BlockKeeps here body (turn_text n)
+  turn_keeps =
+      joined_keep here body (halted_text n) (event_text n)
+      (where_keeps here body (has_halt n) (end_where (var halt_name) 0) (λ q. ((finds.halt q, (tt, tt), tt), tt))) event_keeps
 
 -- ---- the program
 
@@ -382,19 +402,40 @@ module _ (n : Parts) (rows : List (List Entry)) (net : IsNet n) (free : AreLoopF
       keep_upto (in_functions variables routines 2) (source_function n rows) (length (sources_of n)) (λ i l.
       source_keeps n net count variables routines 2 (finds n rows routines may_assign 2) (known_block routines known) (omega arith) rows free schedule i l)
 
+  -- what the function of one event and sci_main call
+  others_known : (routines : Name → Option Routine) → AreKnown may_assign 1 routines (blocks n rows ++ other_functions n)
+      → AreKnown may_assign 1 routines (other_functions n)
+  others_known routines first = (known_both may_assign 1 routines (blocks n rows) (other_functions n) first).1
+
+  before_known : (routines : Name → Option Routine) → AreKnown may_assign 1 routines (blocks n rows ++ other_functions n) → 1 ≤ port_count n
+      → IsKnown may_assign 1 routines clear_name × IsKnown may_assign 1 routines choose_name
+  before_known routines first l =
+      let r = known_where may_assign 1 routines (nat_lt 0 (port_count n)) (before n) (nat_lt_yes 0 (port_count n) l) (others_known routines first).1 in
+      (r.0, r.1.0)
+
+  source_known : (routines : Name → Option Routine) → AreKnown may_assign 2 routines (sources n rows) → (i : ℕ) → i < length (sources_of n)
+      → IsKnown may_assign 2 routines (source_name i)
+  source_known routines second i l = known_upto may_assign 2 routines (source_function n rows) (length (sources_of n)) i l second
+
+  third_keep : (routines : Name → Option Routine) → AreKnown may_assign 1 routines (blocks n rows ++ other_functions n)
+      → AreKnown may_assign 2 routines (sources n rows) → AllKeep (in_functions variables routines 3) (event_function n ∷ [])
+  third_keep routines first second = (
+    turn_keeps n count variables routines (finds n rows routines may_assign 3) (others_known routines first).0 (before_known routines first)
+        (source_known routines second),
+    tt,
+  )
+
   main_keeps : (routines : Name → Option Routine) → AreKnown may_assign 1 routines (blocks n rows ++ other_functions n)
-      → AreKnown may_assign 2 routines (sources n rows)
+      → AreKnown may_assign 2 routines (sources n rows) → AreKnown may_assign 3 routines (event_function n ∷ [])
       → BlockKeeps (record { kinds = variables; routines = routines; may = λ x. true; depth = 64 }) (Branch ∷ []) (main_text n)
-  main_keeps routines first second =
-      let others = (known_both may_assign 1 routines (blocks n rows) (other_functions n) first).1 in
-      main_text_keeps n net count variables routines (finds n rows routines (λ x. true) 64) others.0
-      (λ l. let r = known_where may_assign 1 routines (nat_lt 0 (port_count n)) (before n) (nat_lt_yes 0 (port_count n) l) others.1 in (r.0, r.1.0))
-      (λ i l. known_upto may_assign 2 routines (source_function n rows) (length (sources_of n)) i l second)
+  main_keeps routines first second third =
+      main_text_keeps n net count variables routines (finds n rows routines (λ x. true) 64) (others_known routines first).0
+      (λ l. (before_known routines first l).1) (source_known routines second 0 (omega arith)) third.0
 
   keeps_rules : KeepsRules (program n rows)
   keeps_rules =
-      program_keeps (declarations n rows) (blocks n rows ++ other_functions n) (sources n rows) (main_text n) may_assign (variables_new n rows)
-      (sizes_few n net rows) (first_new n rows) (second_new n rows) first_keep second_keep main_keeps
+      program_keeps (declarations n rows) (blocks n rows ++ other_functions n) (sources n rows) (event_function n ∷ []) (main_text n) may_assign
+      (variables_new n rows) (sizes_few n net rows) (first_new n rows) (second_new n rows) (third_new n rows) first_keep second_keep third_keep main_keeps
 
 pub program_is_whole : ProgramIsWhole
 program_is_whole n rows net free schedule = (is_whole n net rows free schedule, keeps_rules n rows net free schedule)

@@ -27,7 +27,7 @@ answer_by (ByStop block word) = halted
 abbrev pub ProgramMeansRun : Type 0
 ProgramMeansRun =
     (n : Parts) (rows : List (List Entry)) (i : Columns) (until limit : ℕ) (st : State) (how : Ending) (os : List Obs)
-    → IsNet n → AreLoopFree n → IsSchedule n rows → AreColumns n i → until ≤ 2 ^ 62 → limit ≤ 1000000 → Finish n i until limit st how os
+    → IsNet n → AreLoopFree n → IsSchedule n rows → AreColumns n i → until ≤ 2 ^ 62 → limit ≤ 2 ^ 51 → Finish n i until limit st how os
     → meaning (program n rows) i (pos until) (pos limit) ≡ record { seen = os; how = answer_by how }
 
 -- ---- how it is built

@@ -4,3 +4,4 @@ pub mod Built
 pub mod Shows
 pub mod Passes
 pub mod Laws
+pub mod Stepping

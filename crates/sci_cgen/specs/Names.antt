@@ -21,11 +21,15 @@ until_name = named 117 1
 abbrev pub fired_name : Name
 fired_name = named 105 1
 
+-- the date of the next event, -1 where none is pending
+abbrev pub next_date : Name
+next_date = named 100 2
+
 -- 1 where a HALT_f was active
 abbrev pub halt_name : Name
 halt_name = named 104 1
 
--- the function of a block, of a source by its place in the net's list, and three more
+-- the function of a block, of a source by its place in the net's list, and four more
 abbrev pub block_name : ℕ → Name
 block_name b = named 102 b
 
@@ -40,3 +44,7 @@ settle_name = named 103 2
 
 abbrev pub choose_name : Name
 choose_name = named 103 3
+
+-- the function of one event
+abbrev pub event_name : Name
+event_name = named 103 4

@@ -8,7 +8,8 @@ use Rattle.sci_forms.specs.Ports.{total}
 use Rattle.sci_kinds.specs.Asks.{IsMask}
 use Rattle.sci_net.specs.declared.Source.{Source}
 use Rattle.sci_net.specs.declared.Source.TheVariants.{Start, Port}
-use Rattle.sci_net.specs.Parts.{Parts, spec_of, is_sensor}
+use Rattle.sci_net.specs.Parts.{Parts, spec_of}
+use Rattle.sci_forms.specs.Form.{is_sensor}
 use Rattle.sci_reaction.specs.Memory.{Memory, Columns}
 use Rattle.sci_reaction.specs.Equations.{Signals, AreInRange, input_in, answer}
 use Rattle.sci_reaction.specs.Result.{Stopped, IsResult}
@@ -21,7 +22,8 @@ use Rattle.c_steps.specs.Runs.{Leads, Stops}
 use Rattle.sci_cgen_blocks.specs.Texts.{values, masks, body_text}
 use Rattle.sci_due.specs.Due.{now as now_name}
 use Rattle.sci_cgen.specs.Names.{block_name}
-use Rattle.sci_cgen.specs.Program.{places_of, reads_mask}
+use Rattle.sci_cgen.specs.Program.{places_of}
+use Rattle.sci_forms.specs.Form.{reads_mask}
 use Rattle.sci_cgen.specs.Shows.{ShowsValues, ShowsStates, ShowsColumns, HasRoom, ShowsPass}
 
 -- ---- a call of a block's function

@@ -3,12 +3,11 @@ use Rattle.std.specs.Prelude.{ℕ, zero, suc, ◌+◌, ◌-◌, ◌^◌, ℤ, po
 use Rattle.std.specs.List.{list_any}
 use Rattle.std.specs.Int.{bit_at}
 use Rattle.sci_base.specs.Fit.{int_eq}
-use Rattle.sci_forms.specs.declared.Kind.{Kind}
-use Rattle.sci_forms.specs.declared.Kind.TheVariants.{Select, AndLog}
+use Rattle.sci_forms.specs.Form.{reads_mask}
 use Rattle.sci_forms.specs.declared.ports.Port.{Port as Output}
 use Rattle.sci_forms.specs.declared.spec.Spec.{Spec}
 use Rattle.sci_forms.specs.Ports.{elements}
-use Rattle.sci_forms.specs.Forms.{is_sync, has_state}
+use Rattle.sci_forms.specs.Form.{is_sync, has_state}
 use Rattle.sci_forms.specs.Words.{state_len_of}
 use Rattle.sci_kinds.specs.Table.{first_state, first_held}
 use Rattle.sci_net.specs.declared.Source.{Source}
@@ -17,21 +16,21 @@ use Rattle.sci_net.specs.Parts.{Parts, spec_of}
 use Rattle.sci_net.specs.Sources.{sources_of, source_of}
 use Rattle.sci_net.specs.Net.{all_elements}
 use Rattle.sci_reaction.specs.Schedule.{Guard, Entry, blocks_of}
-use Rattle.sci_run.specs.Activity.{is_halt}
+use Rattle.sci_forms.specs.Form.{is_halt}
 use Rattle.sci_run.specs.Programs.{firing_of}
 use Rattle.sci_places.specs.Flat.{start_of}
 use Rattle.sci_places.specs.Layout.{input_spans}
-use Rattle.sci_places.specs.declared.span.Span.{Span}
+use Rattle.sci_span.specs.declared.span.Span.{Span}
 use Rattle.c_ast.specs.declared.Name.{Name}
 use Rattle.c_ast.specs.declared.Bound.TheVariants as bounds
-use Rattle.c_ast.specs.declared.Op.TheVariants.{Add, Sub, Mul, Div, Rem, Lt, Gt, Eq}
+use Rattle.c_ast.specs.declared.Op.TheVariants.{Add, Sub, Mul, Div, Rem, Lt, Gt, Ge, Eq}
 use Rattle.c_ast.specs.Syntax.{Exp, num, var, bin, scalar, cell, until, limit, start, event, value, finish, Statement, set, ask, choice, loop, call, tell, Block, done, next, Declared, Function, Whole}
 use Rattle.c_steps.specs.Texts.{number, place, joined, upto}
 use Rattle.sci_cgen_blocks.specs.Recipes.{scratch_of}
 use Rattle.sci_cgen_blocks.specs.Texts.{Places, values, states, masks, scratch_name, body_text, next_text, delay_expression, branch_expression}
 use Rattle.sci_due.specs.Due.{dates, orders, best as chosen_name, scan as scan_name, now as now_name, last as programmed_name, delay as delay_name}
 use Rattle.sci_due.specs.Texts.{at_best, choose_text as choose_of, take_text, program_text}
-use Rattle.sci_cgen.specs.Names.{actives, branches, limit_name, until_name, fired_name, halt_name, block_name, source_name, clear_name, settle_name, choose_name}
+use Rattle.sci_cgen.specs.Names.{actives, branches, limit_name, until_name, fired_name, halt_name, next_date, block_name, source_name, clear_name, settle_name, choose_name, event_name}
 
 -- ---- words
 
@@ -92,12 +91,6 @@ abbrev pub block_function : Parts → List (List Entry) → ℕ → Function
 block_function n rows b = record { name = block_name b; body = text_where (is_scheduled rows b) (body_text (spec_of n b) (places_of n b)) }
 
 -- ---- one reaction
-
--- the kinds whose values depend on which activation inputs are activated
-abbrev pub reads_mask : Kind → Bool
-reads_mask Select = true
-reads_mask AndLog = true
-reads_mask _ = false
 
 abbrev pub is_active : ℕ → Exp
 is_active b = place actives (b - 1)
@@ -196,9 +189,15 @@ settle_text n =
 
 -- ---- which event fires
 
--- of all sources the one whose event comes first, -1 where none is pending
+-- the date of the chosen event, -1 where none was chosen
+abbrev pub date_text : Block
+date_text =
+    next (set (scalar next_date) (number (negsuc 0)))
+    (only_where (bin Ge (var chosen_name) (natural 0)) (one (set (scalar next_date) (at_best dates))))
+
+-- of all sources the one whose event comes first, -1 where none is pending; and its date
 abbrev pub choose_text : Parts → Block
-choose_text n = choose_of (port_count n) done
+choose_text n = choose_of (port_count n) date_text
 
 -- ---- the run
 
@@ -208,17 +207,20 @@ end_where test word = only_where test (one (tell (finish (natural word))))
 abbrev pub halted_text : Parts → Block
 halted_text n = text_where (has_halt n) (end_where (var halt_name) 0)
 
--- the chosen event is taken, and its source reacts
+-- the chosen event is taken, its source reacts, and the next event is chosen
 abbrev pub fire_text : Parts → Block
 fire_text n =
     take_text (next (call clear_name)
-    (joined (each_port (λ i. only_where (bin Eq (var chosen_name) (natural (i - 1))) (one (call (source_name i)))) n) (one (call settle_name))))
+    (joined (each_port (λ i. only_where (bin Eq (var chosen_name) (natural (i - 1))) (one (call (source_name i)))) n)
+    (next (call settle_name) (one (call choose_name)))))
 
+-- where the run isn't over, its next event fires
 abbrev pub event_text : Parts → Block
 event_text n =
-    if nat_lt 0 (port_count n) then next (call choose_name) (joined (end_where (bin Lt (var chosen_name) (natural 0)) 2) (joined (end_where (bin Gt (at_best dates) (var until_name)) 3) (fire_text n)))
+    if nat_lt 0 (port_count n) then joined (end_where (bin Lt (var next_date) (natural 0)) 2) (joined (end_where (bin Gt (var next_date) (var until_name)) 3) (fire_text n))
     else one (tell (finish (natural 2)))
 
+-- one event, or the end of the run
 abbrev pub turn_text : Parts → Block
 turn_text n = joined (halted_text n) (event_text n)
 
@@ -263,12 +265,19 @@ outset_text n =
     joined (each_block (held_begun n) n) (joined (each_block (state_begun n) n) (joined (each_port (source_begun n) n)
     (text_where (nat_lt 0 (port_count n)) (next (set (scalar programmed_name) (natural (programmed_before n (length (sources_of n))))) (one (ask (scalar until_name) until))))))
 
+-- the first event is chosen, where there is any
+abbrev pub first_text : Parts → Block
+first_text n = if nat_lt 0 (port_count n) then one (call choose_name) else one (set (scalar next_date) (number (negsuc 0)))
+
+-- what comes before the first event
+abbrev pub begin_text : Parts → Block
+begin_text n =
+    joined (outset_text n) (next (ask (scalar limit_name) limit) (next (call (source_name 0)) (next (call settle_name) (first_text n))))
+
 abbrev pub main_text : Parts → Block
 main_text n =
-    joined (outset_text n)
-    (next (ask (scalar limit_name) limit) (next (call (source_name 0)) (next (call settle_name)
-    (next (loop fired_name (bounds.Var limit_name) (turn_text n))
-    (joined (halted_text n) (one (tell (finish (natural 1)))))))))
+    joined (begin_text n)
+    (next (loop fired_name (bounds.Var limit_name) (one (call event_name))) (joined (halted_text n) (one (tell (finish (natural 1))))))
 
 -- ---- the program
 
@@ -297,7 +306,7 @@ declarations n rows =
     ++ declared_where (has_sync n) (array branches (length n.specs) ∷ [])
     ++ declared_where (nat_lt 0 (port_count n)) (array dates (port_count n) ∷ array orders (port_count n) ∷ [])
     ++ scratch_declared (scratch_count n rows (length n.specs))
-    ++ a_scalar limit_name ∷ a_scalar fired_name ∷ []
+    ++ a_scalar limit_name ∷ a_scalar fired_name ∷ a_scalar next_date ∷ []
     ++ declared_where (nat_lt 0 (port_count n))
     (a_scalar until_name ∷ a_scalar now_name ∷ a_scalar programmed_name ∷ a_scalar chosen_name ∷ a_scalar delay_name ∷ a_scalar scan_name ∷ [])
     ++ declared_where (has_halt n) (a_scalar halt_name ∷ [])
@@ -315,9 +324,16 @@ other_functions n =
     record { name = settle_name; body = settle_text n }
     ∷ functions_where (nat_lt 0 (port_count n)) (record { name = clear_name; body = clear_text n } ∷ record { name = choose_name; body = choose_text n } ∷ [])
 
-abbrev pub functions : Parts → List (List Entry) → List Function
-functions n rows =
+-- what sci_main and the function of one event call
+abbrev pub called_functions : Parts → List (List Entry) → List Function
+called_functions n rows =
     functions_upto (λ k. block_function n rows (suc k)) (length n.specs) ++ other_functions n ++ functions_upto (source_function n rows) (length (sources_of n))
+
+abbrev pub event_function : Parts → Function
+event_function n = record { name = event_name; body = turn_text n }
+
+abbrev pub functions : Parts → List (List Entry) → List Function
+functions n rows = called_functions n rows ++ event_function n ∷ []
 
 -- the program of a net with its schedule's rows, one for each source
 abbrev pub program : Parts → List (List Entry) → Whole

@@ -2,7 +2,7 @@
 use Rattle.std.specs.Prelude.{◌≡◌, ℕ, ◌+◌, ◌-◌, ◌<◌, ◌≤◌, ℤ, pos, ◌||◌, List, [], drop, Bool, true, false, Some, if◌then◌else◌}
 use Rattle.sci_base.specs.Lists.{at}
 use Rattle.sci_forms.specs.Ports.{total}
-use Rattle.sci_forms.specs.Forms.{is_sync}
+use Rattle.sci_forms.specs.Form.{is_sync}
 use Rattle.sci_forms.specs.Words.{state_len_of}
 use Rattle.sci_net.specs.Parts.{Parts, IsBlock, IsSensor, numbered, spec_of, column_of}
 use Rattle.sci_reaction.specs.Memory.{Columns}
@@ -18,7 +18,8 @@ use Rattle.sci_cgen_blocks.specs.Texts.{values, states, masks, scratch_name}
 use Rattle.sci_due.specs.Due.{best as chosen_name, scan as scan_name, now as now_name, delay as delay_name}
 use Rattle.sci_due.specs.Laws.{ShowsPending}
 use Rattle.sci_cgen.specs.Names.{actives, branches, limit_name, until_name, halt_name}
-use Rattle.sci_cgen.specs.Program.{places_of, has_sync, has_halt, port_count, reads_mask}
+use Rattle.sci_cgen.specs.Program.{places_of, has_sync, has_halt, port_count}
+use Rattle.sci_forms.specs.Form.{reads_mask}
 
 -- the values of all outputs
 pub record ShowsValues (n : Parts) (y : Signals) (w : World) : Type 0 where

@@ -4,24 +4,24 @@ ghost use Rattle.c_ast.specs.View.{declared_of};
 ghost use Rattle.sci_forms.specs.Ports.{total};
 ghost use Rattle.sci_net.specs.Parts.{numbered, spec_of};
 ghost use Rattle.sci_net.specs.Net.{all_elements};
-ghost use Rattle.sci_run.specs.Activity.{is_halt as is_halt_of};
+ghost use Rattle.sci_forms.specs.Form.{is_halt as is_halt_of};
 ghost use Rattle.sci_reaction.specs.Schedule.{Entry as PlainEntry};
 ghost use Rattle.sci_due.specs.Due.{dates as dates_name, orders as orders_name, best as chosen_name, scan as scan_name, now as now_name, last as programmed_name, delay as delay_name};
 ghost use Rattle.sci_cgen_blocks.specs.Recipes.{scratch_of as scratch_of_kind};
 ghost use Rattle.sci_cgen_blocks.specs.Texts.{values as values_name, states as states_name, masks as masks_name};
-ghost use Rattle.sci_cgen.specs.Names.{actives as actives_name, branches as branches_name, limit_name, fired_name, until_name, halt_name};
+ghost use Rattle.sci_cgen.specs.Names.{actives as actives_name, branches as branches_name, limit_name, fired_name, next_date as next_date_name, until_name, halt_name};
 ghost use Rattle.sci_cgen.specs.Program.{declarations as declarations_of, has_sync as has_sync_of, has_halt as has_halt_of, port_count as port_count_of, states_before, array as array_of, a_scalar, declared_where, scratch_count as scratch_count_of, scratch_declared};
 ghost use Rattle.sci_cgen.specs.Built.{AreMarked};
 
 use crate::names::{
-    actives, branches, chosen, dates, delay, fired, halt, limit, now, orders, programmed, scan,
-    until,
+    actives, branches, chosen, dates, delay, fired, halt, limit, next_date, now, orders,
+    programmed, scan, until,
 };
 use c_ast::{Decl, Name};
 use sci_base::NoMemory;
 use sci_cgen_blocks::array_names::{masks, scratch, states, values};
 use sci_cgen_blocks::scratch_of;
-use sci_forms::{Kind, Ports};
+use sci_forms::Ports;
 use sci_net::Net;
 use std::alloc::Global;
 
@@ -37,22 +37,12 @@ pub(crate) fn has_sync(net: &Net) -> bool
     false
 }
 
-/// Whether the kind ends the run.
-fn is_halt(kind: Kind) -> bool
-    ensures { result ≡ is_halt_of kind }
-{
-    match kind {
-        Kind::Halt => true,
-        _ => false,
-    }
-}
-
 /// Whether a block ends the run.
 pub(crate) fn has_halt(net: &Net) -> bool
     ensures { result ≡ has_halt_of net.now }
 {
     for at in 0..net.len() {
-        if is_halt(net.spec(at + 1).kind) {
+        if net.spec(at + 1).kind.is_halt() {
             return true;
         }
     }
@@ -228,11 +218,11 @@ fn push_scratch(out: &mut Vec<Decl>, count: u32) -> Result<(), NoMemory>
     Ok(())
 }
 
-/// The bound on events, and the count of those that fired.
+/// The bound on events, the count of those that fired, and the date of the next one.
 fn push_limit(out: &mut Vec<Decl>) -> Result<(), NoMemory>
-    ensures { OnOk result (map declared_of out.new.items ≡ map declared_of out.old.items ++ (a_scalar limit_name ∷ a_scalar fired_name ∷ [])) }
+    ensures { OnOk result (map declared_of out.new.items ≡ map declared_of out.old.items ++ (a_scalar limit_name ∷ a_scalar fired_name ∷ a_scalar next_date_name ∷ [])) }
 {
-    push_scalars(out, &[limit(), fired()])
+    push_scalars(out, &[limit(), fired(), next_date()])
 }
 
 /// What firing and programming use, where there are sources of events.

@@ -7,7 +7,7 @@ ghost use Rattle.sci_sched.specs.Plain.{row_of, rows_of};
 ghost use Rattle.sci_sched.specs.Answer.{IsPlan};
 ghost use Rattle.sci_cgen_blocks.specs.Texts.{body_text};
 ghost use Rattle.sci_cgen.specs.Names.{source_name};
-ghost use Rattle.sci_cgen.specs.Program.{text_where, places_of, functions_upto, source_function as source_function_of, other_functions, row_text as row_text_of, functions as functions_of, program};
+ghost use Rattle.sci_cgen.specs.Program.{text_where, places_of, functions_upto, source_function as source_function_of, other_functions, row_text as row_text_of, called_functions as called_functions_of, event_function as event_function_of, functions as functions_of, program};
 ghost use Rattle.sci_cgen.specs.Built.{AreLaid, AreNamed, AreMarked, marked_function};
 
 use crate::block_layouts::{layouts, scheduled};
@@ -15,7 +15,7 @@ use crate::declared_names::{declarations, port_count};
 use crate::names;
 use crate::pieces::layout;
 use crate::row_texts::row_text;
-use crate::run_texts::{choose_text, clear_text, main_text};
+use crate::run_texts::{choose_text, clear_text, main_text, turn_text};
 use crate::settle_texts::settle_text;
 use c_ast::{Func, Program, Stmt};
 use sci_base::NoMemory;
@@ -154,6 +154,37 @@ fn push_source_functions(
     Ok(())
 }
 
+/// What `sci_main` and the function of one event call.
+fn called_functions(
+    alloc: Global,
+    net: &Net,
+    layouts: &[Layout],
+    marks: &[bool],
+    schedule: &Schedule,
+) -> Result<Vec<Func>, NoMemory>
+    requires laid { AreLaid net.now layouts.now }
+    requires marked { AreMarked net.now (rows_of schedule.now) marks.now }
+    requires named { All (AreNamed net.now) (rows_of schedule.now) }
+    requires rows { length (rows_of schedule.now) ≡ length (sources_of net.now) }
+    ensures { IfOk result (λ v. map function_of v.items ≡ called_functions_of net.now (rows_of schedule.now)) }
+{
+    let mut funcs = Vec::new(alloc);
+    push_block_functions(alloc, &mut funcs, net, layouts, marks)?;
+    push_other_functions(alloc, &mut funcs, net, layouts)?;
+    push_source_functions(alloc, &mut funcs, net, layouts, schedule)?;
+    Ok(funcs)
+}
+
+/// The function of one event.
+fn event_function(alloc: Global, net: &Net) -> Result<Func, NoMemory>
+    ensures { IfOk result (λ f. function_of f ≡ event_function_of net.now) }
+{
+    Ok(Func {
+        name: names::event(),
+        body: turn_text(alloc, net)?,
+    })
+}
+
 /// All functions of a program.
 fn functions(
     alloc: Global,
@@ -168,15 +199,14 @@ fn functions(
     requires rows { length (rows_of schedule.now) ≡ length (sources_of net.now) }
     ensures { IfOk result (λ v. map function_of v.items ≡ functions_of net.now (rows_of schedule.now)) }
 {
-    let mut funcs = Vec::new(alloc);
-    push_block_functions(alloc, &mut funcs, net, layouts, marks)?;
-    push_other_functions(alloc, &mut funcs, net, layouts)?;
-    push_source_functions(alloc, &mut funcs, net, layouts, schedule)?;
+    let mut funcs = called_functions(alloc, net, layouts, marks, schedule)?;
+    funcs.push(event_function(alloc, net)?)?;
     Ok(funcs)
 }
 
 /// The C program of a net and its schedule: for each block a function of its values, for each source a function that calls those of its row in the order of the
-/// schedule, and `sci_main`, which lets one event after another fire. Its trace is that of the net (`program_law`).
+/// schedule, a function of one event, and `sci_main`, which calls it again and again. Its trace is that of the net (`program_law`), and so is what a host
+/// observes that calls the function of one event itself (`steps_law`).
 pub fn emit(alloc: Global, net: &Net, schedule: &Schedule) -> Result<Program, NoMemory>
     requires { IsPlan net.now (rows_of schedule.now) }
     ensures { IfOk result (λ p. whole_of p ≡ program net.now (rows_of schedule.now)) }

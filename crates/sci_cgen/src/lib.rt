@@ -13,4 +13,4 @@ mod run_texts;
 mod settle_texts;
 
 pub use generator::emit;
-pub use laws::{block_functions_law, program_law, whole_law};
+pub use laws::{block_functions_law, program_law, steps_law, whole_law};

@@ -1,6 +1,6 @@
 // The names of a generated program, beside those of its blocks.
 ghost use Rattle.std.specs.Prelude.{◌≡◌};
-ghost use Rattle.sci_cgen.specs.Names.{actives as actives_name, branches as branches_name, limit_name, until_name, fired_name, halt_name, block_name, source_name, clear_name, settle_name, choose_name};
+ghost use Rattle.sci_cgen.specs.Names.{actives as actives_name, branches as branches_name, limit_name, until_name, fired_name, next_date as next_date_name, halt_name, block_name, source_name, clear_name, settle_name, choose_name, event_name};
 ghost use Rattle.sci_due.specs.Due.{dates as dates_name, orders as orders_name, best as chosen_name, scan as scan_name, now as now_name, last as programmed_name, delay as delay_name};
 
 use c_ast::Name;
@@ -72,6 +72,16 @@ pub(crate) fn fired() -> Name
     Name {
         letter: b'i',
         number: 1,
+    }
+}
+
+/// The date of the next event, or -1.
+pub(crate) fn next_date() -> Name
+    ensures { result ≡ next_date_name }
+{
+    Name {
+        letter: b'd',
+        number: 2,
     }
 }
 
@@ -182,5 +192,15 @@ pub(crate) fn choose() -> Name
     Name {
         letter: b'g',
         number: 3,
+    }
+}
+
+/// The function of one event.
+pub(crate) fn event() -> Name
+    ensures { result ≡ event_name }
+{
+    Name {
+        letter: b'g',
+        number: 4,
     }
 }

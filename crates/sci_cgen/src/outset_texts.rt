@@ -4,7 +4,8 @@ ghost use Rattle.sci_base.specs.Lists.{spread as spread_over};
 ghost use Rattle.sci_forms.specs.Ports.{total};
 ghost use Rattle.sci_forms.specs.Typed.{typed};
 ghost use Rattle.sci_forms.specs.Words.{state_len_of};
-ghost use Rattle.sci_kinds.specs.Table.{held_of, first_held as held_at_first, first_state as state_at_first};
+ghost use Rattle.sci_kinds.specs.Table.{first_held as held_at_first, first_state as state_at_first};
+ghost use Rattle.sci_forms.specs.Words.{held_of};
 ghost use Rattle.sci_net.specs.Sources.{sources_of, source_of};
 ghost use Rattle.c_ast.specs.Syntax.{scalar, set as assign, ask as asking, until as last_date, next};
 ghost use Rattle.c_ast.specs.View.{statements_of};
@@ -22,7 +23,7 @@ use sci_base::{Ints, NoMemory};
 use sci_cgen_blocks::Layout;
 use sci_cgen_blocks::array_names::{states, values};
 use sci_cgen_blocks::writing::number;
-use sci_kinds::{Kind, Ports, Spec};
+use sci_kinds::{Ports, Spec};
 use sci_net::{Net, Source};
 use std::alloc::Global;
 
@@ -67,17 +68,6 @@ fn spread(values: &Ints, e: usize) -> i64
     }
 }
 
-/// Element `e` of the outputs before the block's first activation.
-fn first_held(s: &Spec, e: usize) -> i64
-    ensures { result ≡ held_of s.now.kind s.now e }
-{
-    match s.kind {
-        Kind::Dollar => spread(&s.state, e),
-        Kind::Register | Kind::ModuloCount => s.state.at(0),
-        _ => 0,
-    }
-}
-
 /// The values of a block's outputs before its first activation.
 fn push_held(alloc: Global, out: &mut Vec<Stmt>, s: &Spec, at: &Layout) -> Result<(), NoMemory>
     requires is_typed { typed s.now ≡ true }
@@ -85,7 +75,7 @@ fn push_held(alloc: Global, out: &mut Vec<Stmt>, s: &Spec, at: &Layout) -> Resul
     ensures { OnOk result (statements_of out.new.items ≡ joined (statements_of out.old.items) (list_begun values_name at.now.outs (held_at_first s.now))) }
 {
     for e in 0..total(&s.outs) {
-        push_begun(alloc, out, values(), at.outs + e, first_held(s, e as usize))?;
+        push_begun(alloc, out, values(), at.outs + e, s.held(e as usize))?;
     }
     Ok(())
 }

@@ -5,14 +5,16 @@ ghost use Rattle.c_ast.specs.Syntax.{bin as operation, set as assign, cell as ce
 ghost use Rattle.c_ast.specs.declared.Op.TheVariants as ops;
 ghost use Rattle.c_ast.specs.View.{exp_of, statement_of, statements_of};
 ghost use Rattle.c_steps.specs.Texts.{joined};
-ghost use Rattle.sci_forms.specs.Forms.{is_sync};
+ghost use Rattle.sci_forms.specs.Form.{is_sync};
 ghost use Rattle.sci_net.specs.Parts.{IsBlock, spec_of};
 ghost use Rattle.sci_reaction.specs.Schedule.{Guard as PlainGuard};
-ghost use Rattle.sci_sched.specs.Plain.{guard_of, guards_of, entry_of, row_of};
+ghost use Rattle.sci_sched.specs.Plain.{row_of};
+ghost use Rattle.sci_reaction.specs.Kept.{guard_of, guards_of, entry_of};
 ghost use Rattle.sci_cgen_blocks.specs.Texts.{masks as masks_name, branch_expression};
 ghost use Rattle.sci_cgen.specs.Names.{branches as branches_name};
 ghost use Rattle.sci_cgen.specs.Program.{natural as natural_of, one, texts, text_where, only_where as only_where_of, places_of};
-ghost use Rattle.sci_cgen.specs.Program.{reads_mask, is_active, mark, mask_cell, with_bit, with_bits, is_taken};
+ghost use Rattle.sci_cgen.specs.Program.{is_active, mark, mask_cell, with_bit, with_bits, is_taken};
+ghost use Rattle.sci_forms.specs.Form.{reads_mask};
 ghost use Rattle.sci_cgen.specs.Program.{guard_text, call_text, entry_text, header_text, row_text as row_text_of};
 ghost use Rattle.sci_cgen.specs.Built.{AreLaid, IsNamed, AreNamed};
 
@@ -23,7 +25,6 @@ use sci_base::NoMemory;
 use sci_cgen_blocks::array_names::masks;
 use sci_cgen_blocks::writing::{bin, element};
 use sci_cgen_blocks::{Layout, block_branch};
-use sci_forms::Kind;
 use sci_net::{Net, Source};
 use sci_sched::{Entry, Guard};
 use std::alloc::Global;
@@ -138,13 +139,6 @@ fn push_bits(
     Ok(())
 }
 
-/// Whether the values of a block of the kind depend on which of its activation inputs are activated.
-fn reads_mask(kind: Kind) -> bool
-    ensures { result ≡ reads_mask kind }
-{
-    matches!(kind, Kind::Select | Kind::AndLog)
-}
-
 /// The bits that a branch gives the mask of a block, where its kind reads it.
 fn push_branch_mask(
     alloc: Global,
@@ -159,7 +153,7 @@ fn push_branch_mask(
         (text_where (reads_mask (spec_of net.now block).kind) (with_bits block mask (spec_of net.now block).evtin))) }
 {
     let spec = net.spec(block);
-    if reads_mask(spec.kind) {
+    if spec.kind.reads_mask() {
         push_bits(alloc, out, block, mask, spec.evtin)
     } else {
         Ok(())
@@ -227,7 +221,7 @@ fn wants_guards(net: &Net, entry: &Entry) -> bool
     requires { IsBlock net.now entry.now.block }
     ensures { result ≡ (not entry.now.always || reads_mask (spec_of net.now entry.now.block).kind) }
 {
-    !entry.always || reads_mask(net.spec(entry.block).kind)
+    !entry.always || net.spec(entry.block).kind.reads_mask()
 }
 
 /// All guards of an entry, where it matters which are taken.
@@ -256,7 +250,7 @@ fn push_mask(out: &mut Vec<Stmt>, net: &Net, entry: &Entry) -> Result<(), NoMemo
         (text_where (reads_mask (spec_of net.now entry.now.block).kind)
         (one (assign (cell_of masks_name (natural_of (entry.now.block - 1))) (natural_of entry.now.mask))))) }
 {
-    if reads_mask(net.spec(entry.block).kind) {
+    if net.spec(entry.block).kind.reads_mask() {
         let mask = entry.mask as u32;
         push(out, set_natural(masks(), entry.block - 1, mask))
     } else {

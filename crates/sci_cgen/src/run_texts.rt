@@ -1,20 +1,20 @@
 // The run: what is cleared, which event fires, and how the run ends.
-ghost use Rattle.std.specs.Prelude.{◌≡◌, ◌-◌, ◌≤◌, pos, IfOk, OnOk};
+ghost use Rattle.std.specs.Prelude.{◌≡◌, ◌-◌, ◌≤◌, pos, negsuc, IfOk, OnOk};
 ghost use Rattle.c_ast.specs.declared.Bound.TheVariants as bounds;
 ghost use Rattle.c_ast.specs.declared.Op.TheVariants as ops;
 ghost use Rattle.c_ast.specs.Syntax.{num, var, neg, bin, scalar, cell as cell_of, set as assign, ask, limit as limit_asked, choice, loop, call, tell, finish as finish_of, done, next};
 ghost use Rattle.c_ast.specs.View.{exp_of, statement_of, statements_of};
-ghost use Rattle.c_steps.specs.Texts.{joined};
+ghost use Rattle.c_steps.specs.Texts.{joined, number as number_of};
 ghost use Rattle.sci_due.specs.Due.{best as chosen_name, scan as scan_name, dates as dates_name, now as now_name};
 ghost use Rattle.sci_due.specs.Texts.{at_scan as at_scan_of, at_best as at_best_of, sooner_exp, better_exp};
-ghost use Rattle.sci_cgen.specs.Names.{actives as actives_name, branches as branches_name, until_name, limit_name, fired_name, source_name, settle_name, choose_name};
-ghost use Rattle.sci_cgen.specs.Program.{natural as natural_of, one, text_where, only_where as where_of, each_port, end_where as end_where_of, halted_text, fire_text, event_text, turn_text, has_sync as has_sync_of, main_text as main_text_of, clear_text as clear_text_of, choose_text as choose_text_of};
+ghost use Rattle.sci_cgen.specs.Names.{actives as actives_name, branches as branches_name, until_name, limit_name, fired_name, next_date as next_date_name, source_name, settle_name, event_name};
+ghost use Rattle.sci_cgen.specs.Program.{natural as natural_of, one, text_where, only_where as where_of, each_port, end_where as end_where_of, halted_text, fire_text, event_text, turn_text as turn_text_of, first_text, has_sync as has_sync_of, main_text as main_text_of, clear_text as clear_text_of, choose_text as choose_text_of};
 ghost use Rattle.sci_cgen.specs.Built.{AreLaid};
 
 use crate::declared_names::{has_halt, has_sync, port_count};
 use crate::names::{
-    actives, branches, choose, chosen, clear, dates, fired, halt, limit, now, orders, scan, settle,
-    source_function, until,
+    actives, branches, choose, chosen, clear, dates, event, fired, halt, limit, next_date, now,
+    orders, scan, settle, source_function, until,
 };
 use crate::outset_texts::push_outset;
 use crate::pieces::{natural, push, push_where};
@@ -104,13 +104,34 @@ fn choose_turn(alloc: Global) -> Result<Stmt, NoMemory>
     Ok(only_where(alloc, better(alloc)?, vec![in alloc; take]?))
 }
 
-/// Of all sources the one whose event comes first.
+/// The date of the next event becomes -1, for none.
+fn undated(alloc: Global) -> Result<Stmt, NoMemory>
+    ensures { IfOk result (λ s. statement_of s ≡ assign (scalar next_date_name) (number_of (negsuc 0))) }
+{
+    Ok(Stmt::Set(Target::Var(next_date()), number(alloc, -1)?))
+}
+
+/// The date of the next event becomes that of the chosen one, where there is one.
+fn date_chosen(alloc: Global) -> Result<Stmt, NoMemory>
+    ensures { IfOk result (λ s. statement_of s ≡ choice (bin ops.Ge (var chosen_name) (natural_of 0)) (one (assign (scalar next_date_name) (at_best_of dates_name))) done) }
+{
+    let is_some = bin(alloc, Op::Ge, Expr::Var(chosen()), natural(0))?;
+    let date = Stmt::Set(Target::Var(next_date()), at_chosen(alloc, dates())?);
+    Ok(only_where(alloc, is_some, vec![in alloc; date]?))
+}
+
+/// Of all sources the one whose event comes first, and its date.
 pub(crate) fn choose_text(alloc: Global, net: &Net) -> Result<Vec<Stmt>, NoMemory>
     ensures { IfOk result (λ v. statements_of v.items ≡ choose_text_of net.now) }
 {
     let none = Stmt::Set(Target::Var(chosen()), number(alloc, -1)?);
     let turn = vec![in alloc; choose_turn(alloc)?]?;
-    Ok(vec![in alloc; none, repeated(scan(), port_count(net), turn)]?)
+    Ok(vec![in alloc;
+        none,
+        repeated(scan(), port_count(net), turn),
+        undated(alloc)?,
+        date_chosen(alloc)?,
+    ]?)
 }
 
 /// The run ends with the word of this number.
@@ -186,33 +207,28 @@ fn push_fire(alloc: Global, out: &mut Vec<Stmt>, net: &Net) -> Result<(), NoMemo
     push(out, Stmt::Call(clear()))?;
     push_sources(alloc, out, net)?;
     push(out, Stmt::Call(settle()))?;
+    push(out, Stmt::Call(choose()))?;
     Ok(())
 }
 
-/// Whether no event was chosen.
+/// Whether no event is pending.
 fn is_none(alloc: Global) -> Result<Expr, NoMemory>
-    ensures { IfOk result (λ e. exp_of e ≡ bin ops.Lt (var chosen_name) (natural_of 0)) }
+    ensures { IfOk result (λ e. exp_of e ≡ bin ops.Lt (var next_date_name) (natural_of 0)) }
 {
-    bin(alloc, Op::Lt, Expr::Var(chosen()), natural(0))
+    bin(alloc, Op::Lt, Expr::Var(next_date()), natural(0))
 }
 
-/// Whether the chosen event comes behind the bound on time.
+/// Whether the next event comes behind the bound on time.
 fn is_late(alloc: Global) -> Result<Expr, NoMemory>
-    ensures { IfOk result (λ e. exp_of e ≡ bin ops.Gt (at_best_of dates_name) (var until_name)) }
+    ensures { IfOk result (λ e. exp_of e ≡ bin ops.Gt (var next_date_name) (var until_name)) }
 {
-    bin(
-        alloc,
-        Op::Gt,
-        at_chosen(alloc, dates())?,
-        Expr::Var(until()),
-    )
+    bin(alloc, Op::Gt, Expr::Var(next_date()), Expr::Var(until()))
 }
 
-/// The next event is chosen and fires; where none is pending, or none by the bound on time, the run ends.
+/// The next event fires; where none is pending, or none by the bound on time, the run ends.
 fn push_next(alloc: Global, out: &mut Vec<Stmt>, net: &Net) -> Result<(), NoMemory>
-    ensures { OnOk result (statements_of out.new.items ≡ joined (statements_of out.old.items) (next (call choose_name) (joined (end_where_of (bin ops.Lt (var chosen_name) (natural_of 0)) 2) (joined (end_where_of (bin ops.Gt (at_best_of dates_name) (var until_name)) 3) (fire_text net.now))))) }
+    ensures { OnOk result (statements_of out.new.items ≡ joined (statements_of out.old.items) (joined (end_where_of (bin ops.Lt (var next_date_name) (natural_of 0)) 2) (joined (end_where_of (bin ops.Gt (var next_date_name) (var until_name)) 3) (fire_text net.now)))) }
 {
-    push(out, Stmt::Call(choose()))?;
     push_end_where(alloc, out, is_none(alloc)?, 2)?;
     push_end_where(alloc, out, is_late(alloc)?, 3)?;
     push_fire(alloc, out, net)?;
@@ -230,9 +246,9 @@ fn push_event(alloc: Global, out: &mut Vec<Stmt>, net: &Net) -> Result<(), NoMem
     }
 }
 
-/// The statements of a turn of the run.
-fn turn(alloc: Global, net: &Net) -> Result<Vec<Stmt>, NoMemory>
-    ensures { IfOk result (λ v. statements_of v.items ≡ turn_text net.now) }
+/// The statements of the function of one event.
+pub(crate) fn turn_text(alloc: Global, net: &Net) -> Result<Vec<Stmt>, NoMemory>
+    ensures { IfOk result (λ v. statements_of v.items ≡ turn_text_of net.now) }
 {
     let mut out = Vec::new(alloc);
     push_halted(alloc, &mut out, net)?;
@@ -247,21 +263,40 @@ fn counted(counter: Name, bound: Name, body: Vec<Stmt>) -> Stmt
     Stmt::For(counter, Bound::Var(bound), body)
 }
 
-/// A turn for each event, up to the bound on events.
-fn turns(alloc: Global, net: &Net) -> Result<Stmt, NoMemory>
-    ensures { IfOk result (λ s. statement_of s ≡ loop fired_name (bounds.Var limit_name) (turn_text net.now)) }
+/// A call for each event, up to the bound on events.
+fn turns(alloc: Global) -> Result<Stmt, NoMemory>
+    ensures { IfOk result (λ s. statement_of s ≡ loop fired_name (bounds.Var limit_name) (one (call event_name))) }
 {
-    Ok(counted(fired(), limit(), turn(alloc, net)?))
+    Ok(counted(fired(), limit(), vec![in alloc; Stmt::Call(event())]?))
 }
 
-/// The reaction of start, and a turn for each event; where the bound on events is reached, the run ends.
-fn push_run(alloc: Global, out: &mut Vec<Stmt>, net: &Net) -> Result<(), NoMemory>
-    ensures { OnOk result (statements_of out.new.items ≡ joined (statements_of out.old.items) (next (ask (scalar limit_name) limit_asked) (next (call (source_name 0)) (next (call settle_name) (next (loop fired_name (bounds.Var limit_name) (turn_text net.now)) (joined (halted_text net.now) (one (tell (finish_of (natural_of 1)))))))))) }
+/// The first event is chosen, where there are sources of events.
+fn push_first(alloc: Global, out: &mut Vec<Stmt>, net: &Net) -> Result<(), NoMemory>
+    ensures { OnOk result (statements_of out.new.items ≡ joined (statements_of out.old.items) (first_text net.now)) }
+{
+    if 0 < port_count(net) {
+        push(out, Stmt::Call(choose()))
+    } else {
+        push(out, undated(alloc)?)
+    }
+}
+
+/// The bound on events is asked for, start reacts, and the first event is chosen.
+fn push_start(alloc: Global, out: &mut Vec<Stmt>, net: &Net) -> Result<(), NoMemory>
+    ensures { OnOk result (statements_of out.new.items ≡ joined (statements_of out.old.items) (next (ask (scalar limit_name) limit_asked) (next (call (source_name 0)) (next (call settle_name) (first_text net.now))))) }
 {
     push(out, Stmt::Ask(Target::Var(limit()), Ask::Limit))?;
     push(out, Stmt::Call(source_function(0)))?;
     push(out, Stmt::Call(settle()))?;
-    push(out, turns(alloc, net)?)?;
+    push_first(alloc, out, net)?;
+    Ok(())
+}
+
+/// A call for each event; where the bound on events is reached, the run ends.
+fn push_run(alloc: Global, out: &mut Vec<Stmt>, net: &Net) -> Result<(), NoMemory>
+    ensures { OnOk result (statements_of out.new.items ≡ joined (statements_of out.old.items) (next (loop fired_name (bounds.Var limit_name) (one (call event_name))) (joined (halted_text net.now) (one (tell (finish_of (natural_of 1))))))) }
+{
+    push(out, turns(alloc)?)?;
     push_halted(alloc, out, net)?;
     push(out, finish(1))?;
     Ok(())
@@ -274,6 +309,7 @@ pub(crate) fn main_text(alloc: Global, net: &Net, layouts: &[Layout]) -> Result<
 {
     let mut out = Vec::new(alloc);
     push_outset(alloc, &mut out, net, layouts)?;
+    push_start(alloc, &mut out, net)?;
     push_run(alloc, &mut out, net)?;
     Ok(out)
 }

@@ -5,7 +5,7 @@ ghost use Rattle.sci_net.specs.declared.Source.TheVariants as sources;
 ghost use Rattle.sci_net.specs.Parts.{IsBlock};
 ghost use Rattle.sci_net.specs.Sources.{sources_of, source_of};
 ghost use Rattle.sci_reaction.specs.Links.{IsSource};
-ghost use Rattle.sci_run.specs.Activity.{is_halt as is_halt_of};
+ghost use Rattle.sci_forms.specs.Form.{is_halt as is_halt_of};
 ghost use Rattle.c_ast.specs.Syntax.{tell, value as value_told, done};
 ghost use Rattle.c_ast.specs.View.{exp_of, statement_of, statements_of};
 ghost use Rattle.c_steps.specs.Texts.{joined, place as element_at};
@@ -21,7 +21,7 @@ use sci_base::NoMemory;
 use sci_cgen_blocks::array_names::values;
 use sci_cgen_blocks::writing::{bin, element, only_where};
 use sci_cgen_blocks::{Layout, block_delay, block_next};
-use sci_forms::{Kind, Ports};
+use sci_forms::Ports;
 use sci_net::{Feed, Net, Source};
 use std::alloc::Global;
 
@@ -242,22 +242,12 @@ fn push_states(
     Ok(())
 }
 
-/// Whether it is the kind that ends the run.
-fn is_halt(kind: Kind) -> bool
-    ensures { result ≡ is_halt_of kind }
-{
-    match kind {
-        Kind::Halt => true,
-        _ => false,
-    }
-}
-
 /// The run is to end, where the block is a HALT_f that is active.
 fn push_halt(alloc: Global, out: &mut Vec<Stmt>, net: &Net, block: u32) -> Result<(), NoMemory>
     requires { IsBlock net.now block }
     ensures { OnOk result (statements_of out.new.items ≡ joined (statements_of out.old.items) (halt_text net.now block)) }
 {
-    if !is_halt(net.spec(block).kind) {
+    if !net.spec(block).kind.is_halt() {
         return Ok(());
     }
     let halts = vec![in alloc; Stmt::Set(Target::Var(halt()), natural(1))]?;

@@ -9,7 +9,7 @@ use Rattle.sci_base.specs.Fit.{InRange}
 use Rattle.sci_base.specs.Lists.{listed}
 use Rattle.sci_forms.specs.declared.ports.Port.{Port}
 use Rattle.sci_forms.specs.Ports.{total, type_at, Fills}
-use Rattle.sci_forms.specs.Forms.{is_sync, has_delay}
+use Rattle.sci_forms.specs.Form.{is_sync, has_delay}
 use Rattle.sci_kinds.proofs.Elements.{listed_at}
 use Rattle.sci_kinds.proofs.Ranges.{zero_in_range}
 use Rattle.sci_forms.specs.Words.{state_len_of}

@@ -9,7 +9,7 @@ use Rattle.sci_forms.specs.declared.Kind.{Kind}
 use Rattle.sci_forms.specs.declared.Kind.TheVariants.{EvtDly, EvtVarDly, IfThEl, ESelect}
 use Rattle.sci_forms.specs.declared.spec.Spec.{Spec}
 use Rattle.sci_forms.specs.Ports.{total, type_at, Fills}
-use Rattle.sci_forms.specs.Forms.{is_sync, has_delay}
+use Rattle.sci_forms.specs.Form.{is_sync, has_delay}
 use Rattle.sci_kinds.specs.Table.{brought, delay_of, branch_of}
 use Rattle.sci_kinds.specs.Asks.{Asks}
 use Rattle.sci_kinds.proofs.LawProofs.{asks}

@@ -11,7 +11,8 @@ use Rattle.sci_forms.specs.declared.ports.Port.{Port}
 use Rattle.sci_forms.specs.declared.spec.Spec.{Spec}
 use Rattle.sci_forms.specs.Ports.{elements, total, before, IsAlike}
 use Rattle.sci_forms.specs.Words.{out_type, size, state_len_of}
-use Rattle.sci_forms.specs.Forms.{feeds, fed as fed_at, all_to}
+use Rattle.sci_forms.specs.Forms.{fed as fed_at, all_to}
+use Rattle.sci_forms.specs.Form.{feeds}
 use Rattle.sci_forms.specs.Typed.{typed}
 use Rattle.sci_forms.proofs.TestLemmas.{both_true, all_to_at}
 use Rattle.sci_kinds.specs.Table.{input}

@@ -1,5 +1,5 @@
 -- The numbers of a typed block are small.
-use Rattle.std.proofs.Common.{arith, lit≤, ◌≡◌, ◌≤◌, ◌<◌, ◌≤ℤ◌, ◌^◌, ◌-◌, ◌+◌, ℕ, ℤ, pos, true, length, unsigned_abs, subst}
+use Rattle.std.proofs.Common.{arith, lit≤, ◌≡◌, ◌≤◌, ◌<◌, ◌≤ℤ◌, ℕ, pos, true, length, unsigned_abs, subst}
 use Rattle.std.proofs.lemmas.Int.{ints}
 use Rattle.sci_forms.specs.declared.Kind.{Kind}
 use Rattle.sci_forms.specs.declared.Kind.TheVariants.{Const, Extractor, Shift, BitSet, BitClear, ExtractBits, Select, Logic, ModuloCount}

@@ -1,12 +1,12 @@
 -- The recipe of a kind, by the block's kind.
-use Rattle.std.proofs.Common.{arith, ◌≡◌, ◌≢◌, ◌≤◌, refl, ◌<◌, ℕ, zero, suc, ◌+◌, ◌-◌, if◌then◌else◌, nat_lt, List, [], ◌∷◌, length, drop, ap, ◌∙◌, sym}
+use Rattle.std.proofs.Common.{◌≡◌, ◌≤◌, ◌<◌, ℕ, zero, suc, ◌+◌, ◌-◌, if◌then◌else◌, nat_lt, List, [], ◌∷◌, length, drop, ap}
 use Rattle.std.proofs.lemmas.List.{drop_more}
 use Rattle.sci_forms.specs.declared.ports.Port.{Port}
 use Rattle.sci_forms.specs.Ports.{elements, port_at, no_port, total}
 use Rattle.sci_cgen_blocks.specs.Terms.{Term, constant, input, state, mask, scratch, both, Work, assign, assign_if, Step, change, stop_if, repeat, Recipe, Readable, TermFits, WorkFits, WorksFit, StepFits, StepsFit, RecipeFits}
 use Rattle.sci_cgen_blocks.specs.Plain.{AreSpelled, IsWorkSpelled, AreWorksSpelled, IsStepSpelled, AreStepsSpelled, IsRecipeSpelled}
 use Rattle.sci_cgen_blocks.proofs.Written.{all_dropped}
-use Rattle.sci_cgen_blocks.specs.Recipes.{flat_from, recipe_of}
+use Rattle.sci_cgen_blocks.specs.Recipes.{flat_from}
 
 -- the input of number i, or those behind it
 pub flat_step : (ps : List Port) (i k e : ℕ) → i < length ps

@@ -5,7 +5,7 @@ use Rattle.sci_base.specs.Lists.{at}
 use Rattle.sci_forms.specs.declared.spec.Spec.{Spec}
 use Rattle.sci_forms.specs.Ports.{Fills}
 use Rattle.sci_forms.specs.Words.{state_len_of}
-use Rattle.sci_forms.specs.Forms.{is_sync, has_delay}
+use Rattle.sci_forms.specs.Form.{is_sync, has_delay}
 use Rattle.sci_forms.specs.Typed.{typed}
 use Rattle.sci_kinds.specs.Asks.{IsState}
 use Rattle.sci_kinds.specs.Table.{next_of, delay, branch}

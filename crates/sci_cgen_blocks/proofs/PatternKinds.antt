@@ -17,7 +17,7 @@ use Rattle.sci_forms.specs.declared.Kind.TheVariants.{Shift, BitSet, BitClear, E
 use Rattle.sci_forms.specs.declared.spec.Spec.{Spec}
 use Rattle.sci_forms.specs.Ports.{total, Fills}
 use Rattle.sci_forms.specs.Words.{param, out_type}
-use Rattle.sci_forms.specs.Forms.{feeds}
+use Rattle.sci_forms.specs.Form.{feeds}
 use Rattle.sci_kinds.specs.declared.Cell.TheVariants.{Value}
 use Rattle.sci_kinds.specs.Table.{number, fitted, shifted as shifted_cell, turned as turned_cell, cell_of}
 use Rattle.c_ast.specs.declared.Op.TheVariants.{Add, Mul, Div, Rem}

@@ -88,7 +88,7 @@ mask_small m n h k = omega (arith, h, pow_at_most n (omega (arith, k)))
 module _ (s : Spec) (x : List ℤ) (m : ℕ) (u : List ℤ) (e : ℕ) (t : Scratch) where
   pub select_gives : s.kind ≡ Select → Asks Select s → IsMask s m → Gives (given s x m u) (recipe_of Select s e) t (cell_of Select s x m u e)
   select_gives kd a mk =
-      let below = least_set_below s.evtin m mk.few (mk.some kd) in
+      let below = least_set_below s.evtin m mk.few (mk.some (rw kd refl)) in
       let least = least_is s.evtin m below in
       let room = mask_small m s.evtin mk.few a.3 in
       let is = given_input s x m u (out_type s) (size s) a.0.ins_alike (least_set m s.evtin) e (omega (arith, below, a.1)) in

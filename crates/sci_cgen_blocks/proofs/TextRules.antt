@@ -7,7 +7,7 @@ use Rattle.sci_forms.specs.declared.Kind.TheVariants.{Sensor}
 use Rattle.sci_forms.specs.declared.spec.Spec.{Spec}
 use Rattle.sci_forms.specs.Ports.{total}
 use Rattle.sci_forms.specs.Words.{param, state_len_of}
-use Rattle.sci_forms.specs.Forms.{is_sync, has_delay}
+use Rattle.sci_forms.specs.Form.{is_sync, has_delay}
 use Rattle.sci_forms.specs.Typed.{typed}
 use Rattle.c_ast.specs.declared.Name.{Name}
 use Rattle.c_ast.specs.declared.Bound.TheVariants as bounds

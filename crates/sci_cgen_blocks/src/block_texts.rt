@@ -3,7 +3,7 @@ ghost use Rattle.std.specs.Prelude.{◌≡◌, ◌≢◌, ◌<◌, ◌≤◌, �
 ghost use Rattle.sci_forms.specs.Typed.{typed};
 ghost use Rattle.sci_forms.specs.Ports.{total};
 ghost use Rattle.sci_forms.specs.Words.{state_len_of};
-ghost use Rattle.sci_forms.specs.Forms.{is_sync, has_delay};
+ghost use Rattle.sci_forms.specs.Form.{is_sync, has_delay};
 ghost use Rattle.c_ast.specs.View.{exp_of, statement_of, statements_of};
 ghost use Rattle.c_steps.specs.Texts.{joined, upto};
 ghost use Rattle.c_ast.specs.Syntax.{num, set as assign, cell};

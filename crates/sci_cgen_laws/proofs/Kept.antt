@@ -1,12 +1,12 @@
 -- A generated program assigns values in the functions of blocks and at the beginning of main alone, and shows nothing else as values.
-use Rattle.std.proofs.Common.{◌≡◌, ℕ, zero, suc, ◌+◌, ◌-◌, ◌<◌, inl, inr, List, [], ◌∷◌, ◌++◌, length, Contains, Bool, true, false, ◌||◌, not, nat_eq, nat_lt, if◌then◌else◌, refl, sym, ap, subst, arith, ℤ, pos, negsuc, slice_index_or}
+use Rattle.std.proofs.Common.{◌≡◌, ℕ, zero, suc, ◌+◌, ◌-◌, ◌<◌, inl, inr, List, [], ◌∷◌, ◌++◌, length, Contains, Bool, true, false, ◌||◌, not, nat_eq, nat_lt, if◌then◌else◌, refl, sym, ap, ◌∙◌, subst, arith, ℤ, pos, negsuc, slice_index_or}
 use Rattle.std.specs.Int.{bit_at}
 use Rattle.std.proofs.lemmas.Bool.{and_from}
 use Rattle.std.proofs.lemmas.List.Elements.{Contains-append_cases}
 use Rattle.sci_base.specs.Fit.{int_eq}
 use Rattle.sci_forms.specs.declared.ports.Port.{Port as Output}
 use Rattle.sci_forms.specs.Ports.{elements}
-use Rattle.sci_forms.specs.Forms.{is_sync, has_state}
+use Rattle.sci_forms.specs.Form.{is_sync, has_state}
 use Rattle.sci_forms.specs.Words.{state_len_of}
 use Rattle.sci_kinds.specs.Table.{first_state, first_held}
 use Rattle.sci_net.specs.declared.Source.{Source}
@@ -14,7 +14,7 @@ use Rattle.sci_net.specs.declared.Source.TheVariants.{Start, Port}
 use Rattle.sci_net.specs.Parts.{Parts, spec_of}
 use Rattle.sci_net.specs.Sources.{sources_of, source_of}
 use Rattle.sci_reaction.specs.Schedule.{Guard, Entry}
-use Rattle.sci_run.specs.Activity.{is_halt}
+use Rattle.sci_forms.specs.Form.{is_halt}
 use Rattle.sci_places.specs.Flat.{start_of}
 use Rattle.c_ast.specs.declared.Name.{Name}
 use Rattle.c_ast.specs.declared.Op.TheVariants.{Lt, Gt}
@@ -26,11 +26,10 @@ use Rattle.c_steps.proofs.Texts.{joined_within}
 use Rattle.sci_cgen_blocks.specs.Texts.{values, states, masks, body_text, next_text, branch_expression}
 use Rattle.sci_cgen_blocks.specs.Meant.{body_may}
 use Rattle.sci_cgen_blocks.proofs.Assigned.{body_within}
-use Rattle.sci_due.specs.Due.{dates, orders, best as chosen_name, scan as scan_name}
-use Rattle.sci_due.specs.Texts.{at_best}
-use Rattle.sci_cgen.specs.Names.{branches, until_name, halt_name, settle_name, choose_name}
-use Rattle.sci_cgen.specs.Program.{natural, one, is_active, mark, is_taken, end_where, has_halt, texts, text_where, only_where, port_count, places_of, is_scheduled, block_function, with_bit, with_bits, guard_text, call_text, entry_text, header_text, row_text, source_function, clear_text, has_sync, elements_shown, outputs_shown, values_shown, delay_text, state_text, halt_text, settle_text, halted_text, fire_text, event_text, turn_text, begun_text, list_begun, held_begun, state_begun, firing_at, programmed_before, firing_begun, source_begun, main_text, functions_upto, functions_where, other_functions, functions}
-use Rattle.sci_cgen.proofs.Parted.{reads, masked, guarded, called, all_shown, all_delays, all_states, all_halts, all_held, first_states, all_begun, until_asked, where_ports, fires_source, ending, running, own, blocks, sources, settle_function, clear_function, choose_function, before}
+use Rattle.sci_due.specs.Due.{dates, orders, scan as scan_name}
+use Rattle.sci_cgen.specs.Names.{branches, until_name, next_date, halt_name, settle_name, choose_name}
+use Rattle.sci_cgen.specs.Program.{natural, one, is_active, mark, is_taken, end_where, has_halt, texts, text_where, only_where, port_count, places_of, is_scheduled, block_function, with_bit, with_bits, guard_text, call_text, entry_text, header_text, row_text, source_function, clear_text, has_sync, elements_shown, outputs_shown, values_shown, delay_text, state_text, halt_text, settle_text, halted_text, fire_text, event_text, turn_text, first_text, begun_text, list_begun, held_begun, state_begun, firing_at, programmed_before, firing_begun, source_begun, main_text, functions_upto, functions_where, other_functions, called_functions, event_function, functions}
+use Rattle.sci_cgen.proofs.Parted.{reads, masked, guarded, called, all_shown, all_delays, all_states, all_halts, all_held, first_states, all_begun, until_asked, where_ports, fires_source, starting, ending, running, own, blocks, sources, settle_function, clear_function, choose_function, before}
 use Rattle.sci_cgen_laws.specs.Values.{spares_values, are_sets, told_well, statement_shows_values, shows_values, IsBlockFunction, ProgramKeepsValues}
 
 -- ---- texts put together
@@ -213,18 +212,19 @@ module _ (n : Parts) where
   halted_kept = where_kept (has_halt n) (end_where (var halt_name) 0) (refl, refl)
 
   fire_kept : Kept (fire_text n)
-  fire_kept = both (upto fires_source (port_count n)) (one (call settle_name)) (each fires_source (port_count n) (λ k. (refl, refl))) (refl, refl)
+  fire_kept =
+      both (upto fires_source (port_count n)) (next (call settle_name) (one (call choose_name))) (each fires_source (port_count n) (λ k. (refl, refl)))
+      (refl, refl)
 
   abbrev early : Block
-  early = end_where (bin Lt (var chosen_name) (natural 0)) 2
+  early = end_where (bin Lt (var next_date) (natural 0)) 2
 
   abbrev late : Block
-  late = end_where (bin Gt (at_best dates) (var until_name)) 3
+  late = end_where (bin Gt (var next_date) (var until_name)) 3
 
   event_kept : Kept (event_text n)
   event_kept =
-      either_kept (nat_lt 0 (port_count n)) (next (call choose_name) (joined early (joined late (fire_text n)))) (one (tell (finish (natural 2))))
-      fire_kept (refl, refl)
+      either_kept (nat_lt 0 (port_count n)) (joined early (joined late (fire_text n))) (one (tell (finish (natural 2)))) fire_kept (refl, refl)
 
   turn_kept : Kept (turn_text n)
   turn_kept = both (halted_text n) (event_text n) halted_kept event_kept
@@ -233,7 +233,10 @@ module _ (n : Parts) where
   ending_kept = both (halted_text n) (one (tell (finish (natural 1)))) halted_kept (refl, refl)
 
   running_kept : Kept (running n)
-  running_kept = (and_from _ _ turn_kept.0 ending_kept.0, and_from _ _ turn_kept.1 ending_kept.1)
+  running_kept = ending_kept
+
+  starting_kept : Kept (starting n)
+  starting_kept = either_kept (nat_lt 0 (port_count n)) (one (call choose_name)) (one (set (scalar next_date) (number (negsuc 0)))) (refl, refl) (refl, refl)
 
   -- ---- before the run
 
@@ -265,10 +268,10 @@ module _ (n : Parts) where
       (where_kept (nat_lt 0 (port_count n)) (until_asked n) (refl, refl)))
 
   abbrev main_rest : Block
-  main_rest = joined outset_rest (running n)
+  main_rest = joined (joined outset_rest (starting n)) (running n)
 
   rest_kept : Kept main_rest
-  rest_kept = both outset_rest (running n) outset_kept running_kept
+  rest_kept = both (joined outset_rest (starting n)) (running n) (both outset_rest (starting n) outset_kept starting_kept) running_kept
 
   begun_sets : (a : Name) (k : ℕ) (z : ℤ) → are_sets (begun_text a k z) ≡ true
   begun_sets a k z = by_test (not (int_eq z (pos 0)))
@@ -286,7 +289,9 @@ module _ (n : Parts) where
       upto_sets (λ k. held_begun n (suc k)) (length n.specs) (λ k. list_sets values (start_of n (suc k)) (first_held (spec_of n (suc k))))
 
   main_is : main_text n ≡ joined (all_held n) main_rest
-  main_is = joined_all (all_held n) outset_rest (running n)
+  main_is =
+      ap (λ (t : Block). joined t (running n)) (joined_all (all_held n) outset_rest (starting n))
+      ∙ joined_all (all_held n) (joined outset_rest (starting n)) (running n)
 
   main_shows : shows_values (main_text n) ≡ true
   main_shows =
@@ -324,14 +329,16 @@ module _ (P : Function → Type 0) where
 
   -- the functions of a program
   of_program : (n : Parts) (rows : List (List Entry)) → ((k : ℕ) → k < length n.specs → P (own n rows k)) → P (settle_function n) → P (clear_function n)
-      → P (choose_function n) → ((i : ℕ) → P (source_function n rows i)) → Of (functions n rows)
-  of_program n rows own_holds settles clears chooses sourced =
-      of_both (blocks n rows ++ other_functions n) (sources n rows)
+      → P (choose_function n) → ((i : ℕ) → P (source_function n rows i)) → P (event_function n) → Of (functions n rows)
+  of_program n rows own_holds settles clears chooses sourced fires =
+      of_both (called_functions n rows) (event_function n ∷ [])
+      (of_both (blocks n rows ++ other_functions n) (sources n rows)
       (of_both (blocks n rows) (other_functions n) (of_upto (own n rows) (length n.specs) own_holds)
       (of_first (settle_function n) (functions_where (nat_lt 0 (port_count n)) (before n)) settles
       (of_where (nat_lt 0 (port_count n)) (before n)
       (of_first (clear_function n) (choose_function n ∷ []) clears (of_first (choose_function n) [] chooses of_none)))))
-      (of_upto (source_function n rows) (length (sources_of n)) (λ i l. sourced i))
+      (of_upto (source_function n rows) (length (sources_of n)) (λ i l. sourced i)))
+      (of_first (event_function n) [] fires of_none)
 
 module _ (n : Parts) (rows : List (List Entry)) where
   source_kept : (i : ℕ) → Kept (source_function n rows i).body
@@ -354,10 +361,10 @@ module _ (n : Parts) (rows : List (List Entry)) where
   all_spare : (f : Function) → Contains (functions n rows) f → Spares f
   all_spare =
       of_program Spares n rows (λ k l none. absurd (none (suc k, record { least = omega arith; most = omega (arith, l) }, refl)))
-      (λ none. (settle_kept n).0) (λ none. (clear_kept n).0) (λ none. refl) (λ i none. (source_kept i).0)
+      (λ none. (settle_kept n).0) (λ none. (clear_kept n).0) (λ none. refl) (λ i none. (source_kept i).0) (λ none. (turn_kept n).0)
 
   all_show : (f : Function) → Contains (functions n rows) f → Shows f
-  all_show = of_program Shows n rows (λ k l. own_shows (suc k)) (settle_kept n).1 (clear_kept n).1 refl (λ i. (source_kept i).1)
+  all_show = of_program Shows n rows (λ k l. own_shows (suc k)) (settle_kept n).1 (clear_kept n).1 refl (λ i. (source_kept i).1) (turn_kept n).1
 
 pub program_keeps_values : ProgramKeepsValues
 program_keeps_values n rows net schedule = record {

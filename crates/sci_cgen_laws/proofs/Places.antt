@@ -16,15 +16,16 @@ use Rattle.sci_reaction.specs.Depends.{Depends}
 use Rattle.sci_reaction.specs.Schedule.{Entry, IsSchedule, blocks_of}
 use Rattle.sci_reaction.proofs.OneResult.{need_precedes, irreflexive}
 use Rattle.sci_run.specs.Laws.{AreLoopFree}
-use Rattle.sci_places.specs.declared.span.Span.{Span}
-use Rattle.sci_places.specs.Layout.{no_span, output_span}
+use Rattle.sci_span.specs.declared.span.Span.{Span}
+use Rattle.sci_places.specs.Layout.{output_span}
+use Rattle.sci_span.specs.Values.{no_span}
 use Rattle.sci_places.proofs.Outputs.{blocks_apart, block_within}
 use Rattle.c_ast.specs.declared.Name.{Name}
 use Rattle.c_ast.specs.Syntax.{Function}
 use Rattle.c_mean.specs.Meaning.{same_name}
 use Rattle.sci_cgen_blocks.specs.Texts.{body_text}
 use Rattle.sci_cgen.specs.Names.{block_name}
-use Rattle.sci_cgen.specs.Program.{text_where, port_count, places_of, states_before, is_scheduled, block_function, source_function, functions_upto, functions_where, other_functions, functions, program}
+use Rattle.sci_cgen.specs.Program.{text_where, port_count, places_of, states_before, is_scheduled, block_function, source_function, functions_upto, functions_where, other_functions, called_functions, event_function, functions}
 use Rattle.sci_cgen.specs.Laws.{named_so}
 use Rattle.sci_cgen.proofs.Parted.{own, blocks, sources, before as before_events}
 use Rattle.sci_cgen.proofs.Sizes.{in_bounds, input_within, state_within}
@@ -75,9 +76,10 @@ module _ (n : Parts) (rows : List (List Entry)) (b : ℕ) where
 
   all_named : IsBlock n b → named_so name (functions n rows) ≡ block_function n rows b ∷ []
   all_named is =
-      named_both (blocks n rows ++ other_functions n) (sources n rows)
-      ∙ (ap (λ (l : List Function). l ++ named_so name (sources n rows)) (named_both (blocks n rows) (other_functions n))
-      ∙ rw (blocks_named is.least (length n.specs) is.most, other_named, sources_named (length (sources_of n))) refl)
+      named_both (called_functions n rows) (event_function n ∷ [])
+      ∙ (ap (λ (l : List Function). l ++ []) (named_both (blocks n rows ++ other_functions n) (sources n rows))
+      ∙ (ap (λ (l : List Function). (l ++ named_so name (sources n rows)) ++ []) (named_both (blocks n rows) (other_functions n))
+      ∙ rw (blocks_named is.least (length n.specs) is.most, other_named, sources_named (length (sources_of n))) refl))
 
   only_one : (g f : Function) → Contains (g ∷ []) f → g ≡ f
   only_one g f (zero, l, e) = e

@@ -2,7 +2,8 @@
 ghost use Rattle.std.specs.Prelude.{◌≡◌, ◌<◌, ◌≤◌, ◌^◌, ◌+◌, IfSome, ◌∷◌, [], pos, length, ℕ, IfOk, IfErr, None, Some, Ok, Err, ◌≢◌, true};
 ghost use Rattle.sci_base.specs.Plain.{fields_of, feedthrough_of, dep_of};
 ghost use Rattle.sci_forms.specs.declared.Kind.TheVariants.{Logic as LogicKind, ModuloCount as CountKind};
-ghost use Rattle.sci_forms.specs.Forms.{has_delay, has_state, first_not};
+ghost use Rattle.sci_forms.specs.Forms.{first_not};
+ghost use Rattle.sci_forms.specs.Form.{has_delay, has_state};
 ghost use Rattle.sci_forms.specs.Names.{by_name};
 ghost use Rattle.sci_base.specs.Stops.{Stops};
 ghost use Rattle.sci_check.specs.Check.{is_integer, integer_at, date_ok, shape, cols_ok, types_len_ok, firing_len_ok, counts_broken, lengths_broken, forms_broken, not_integer, side_broken, types_broken, bad, params_broken, state_broken, events_broken, feed_by, feed_of, list_broken, part_broken, feed_broken, values_broken, active_broken, broken, columns_at, declared_port, declared_ports, kept, spec_of, checked, checked_kind, judged};

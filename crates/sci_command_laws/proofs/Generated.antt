@@ -1,5 +1,5 @@
 -- The C of a diagram is nowhere without meaning.
-use Rattle.std.proofs.Common.{◌≡◌, ◌≤◌, ◌^◌, ◌⊎◌, ℕ, ℤ, pos, List, [], ◌∷◌, inl, inr, refl, sym, ◌∙◌, ap, subst}
+use Rattle.std.proofs.Common.{◌≡◌, ◌≤◌, ◌^◌, ◌⊎◌, ℕ, ℤ, pos, List, [], ◌∷◌, inl, inr, refl, sym, ◌∙◌, ap, subst, arith}
 use Rattle.sci_base.specs.declared.observation.Obs.{Obs}
 use Rattle.sci_io.specs.Files.{Files}
 use Rattle.sci_needs.specs.Needs.{needs_of}
@@ -51,7 +51,7 @@ module _ (until limit : ℕ) (late : until ≤ 2 ^ 62) (most : limit ≤ 1000000
       let in_range = columns_in_range net inputs columns (needs_exact net) (enough columns read) in
       let trace = some_trace net columns (given_is_net diagram net accepted.given) accepted.planned.free until limit in
       let over = (run_is_over net columns until limit trace.0).0 trace.1 in
-      let means = k.is_code.means columns until limit over.0 over.1 trace.0 in_range late most over.2 in
+      let means = k.is_code.means columns until limit over.0 over.1 trace.0 in_range late (omega (arith, most)) over.2 in
       let is : b ≡ c_ran (record { seen = trace.0; how = answer_by over.1 }) = told ∙ ap c_ran means in
       subst IsDefined (sym (status-is is)) (over_so over.1 trace.0)
 

@@ -1,5 +1,5 @@
 -- What a bulk diagram comes to.
-use Rattle.std.proofs.Common.{◌≡◌, ◌≤◌, ◌^◌, min, ℕ, zero, suc, ℤ, List, [], length, Contains, refl, sym, ◌∙◌, ap, subst, arith, Result, Ok, Err, Bool}
+use Rattle.std.proofs.Common.{◌≡◌, ◌<◌, ◌≤◌, ◌^◌, min, ℕ, zero, suc, ℤ, List, [], length, Contains, refl, sym, ◌∙◌, ap, subst, arith, Result, Ok, Err, Bool}
 use Rattle.std.specs.Prelude.{IfOk}
 use Rattle.sci_base.specs.Plain.{Violation, violation_of}
 use Rattle.sci_base.specs.declared.stop.Stop.{Stop}
@@ -17,12 +17,9 @@ use Rattle.sci_net.specs.Net.{IsNet}
 use Rattle.sci_net.specs.Sources.{sources_of}
 use Rattle.sci_reaction.specs.Memory.{Columns, AreColumns}
 use Rattle.sci_reaction.specs.Schedule.{Entry}
-use Rattle.sci_reaction.proofs.Schedules.{one_schedule}
 use Rattle.sci_sched.specs.Plain.{rows_of}
-use Rattle.sci_sched.specs.Answer.{IsPlan, IsPlanStop}
-use Rattle.sci_sched.specs.Measured.{IsMeasured}
+use Rattle.sci_sched.specs.Answer.{IsPlan}
 use Rattle.sci_sched.specs.Size.{entry_count, guard_count}
-use Rattle.sci_sched.specs.declared.measured.Size.{Size}
 use Rattle.sci_run.specs.Run.{IsRun}
 use Rattle.sci_run.proofs.Traces.{some_trace}
 use Rattle.sci_bank.specs.Bank.{Meaning}
@@ -72,13 +69,6 @@ stopped_judging seed size least most e r s is was h =
 
 pub was_accepted : (seed size : ℕ) (c : Checked) (r : Result Checked Stop) → r ≡ Ok c → IsTreeChecked (bulk_tree seed size) r → TreeAccepts (bulk_tree seed size) (plan_of c)
 was_accepted seed size c r is h = subst (λ (q : Result Checked Stop). IsTreeChecked (bulk_tree seed size) q) is h
-
-unplanned : (seed size : ℕ) → 1 ≤ size → size ≤ 2000 → (c : Checked) (e : Stop) → TreeAccepts (bulk_tree seed size) (plan_of c) → IsPlanStop c.net e → IsCounted seed size (Err e)
-unplanned seed size least most c (base.Refused r) accepted h = never_broken seed size least most (violation_of r) (tree_no_plan c.net accepted.given h)
-unplanned seed size least most c base.Memory accepted h = tt
-
-pub stopped_measuring : (seed size : ℕ) → 1 ≤ size → size ≤ 2000 → (c : Checked) (e : Stop) (s : Result BulkCounts Stop) → s ≡ Err e → TreeAccepts (bulk_tree seed size) (plan_of c) → IsPlanStop c.net e → IsCounted seed size s
-stopped_measuring seed size least most c e s was accepted h = subst (λ (q : Result BulkCounts Stop). IsCounted seed size q) (sym was) (unplanned seed size least most c e accepted h)
 
 -- ---- the run
 
@@ -167,20 +157,24 @@ all_told n os net run =
 same_line : (b b2 s s2 e e2 g g2 l l2 v v2 : ℕ) → b ≡ b2 → s ≡ s2 → e ≡ e2 → g ≡ g2 → l ≡ l2 → v ≡ v2 → bulk_line b s e g l v ≡ bulk_line b2 s2 e2 g2 l2 v2
 same_line b b2 s s2 e e2 g g2 l l2 v v2 hb hs he hg hl hv = cc (hb, hs, he, hg, hl, hv)
 
-pub all_counted : (seed size : ℕ) (c : Checked) (length_of : Size) (r : Running) (counts : BulkCounts) → TreeAccepts (bulk_tree seed size) (plan_of c) → IsMeasured c.net length_of → HasRun c.net r
-    → counts.blocks ≡ length c.net.specs → counts.sources ≡ length (sources_of c.net) → counts.entries ≡ length_of.entries → counts.guards ≡ length_of.guards
-    → counts.lines ≡ r.store.lines → counts.sum ≡ r.store.sum → IsBulkLine seed size (counted_line counts)
-all_counted seed size c length_of r counts accepted measured ran blocks sources entries guards lines sum =
+-- a plan has few entries and few guards
+pub few_entries : (n : Parts) (rows : List (List Entry)) → IsPlan n rows → entry_count rows < 2 ^ 63
+few_entries n rows plan = omega (arith, plan.short)
+
+pub few_guards : (n : Parts) (rows : List (List Entry)) → IsPlan n rows → guard_count rows < 2 ^ 63
+few_guards n rows plan = omega (arith, plan.short)
+
+pub all_counted : (seed size : ℕ) (c : Checked) (r : Running) (counts : BulkCounts) → TreeAccepts (bulk_tree seed size) (plan_of c) → HasRun c.net r
+    → counts.blocks ≡ length c.net.specs → counts.sources ≡ length (sources_of c.net) → counts.entries ≡ entry_count (rows_of c.schedule)
+    → counts.guards ≡ guard_count (rows_of c.schedule) → counts.lines ≡ r.store.lines → counts.sum ≡ r.store.sum → IsBulkLine seed size (counted_line counts)
+all_counted seed size c r counts accepted ran blocks sources entries guards lines sum =
     let net = tree_given_is_net (bulk_tree seed size) c.net accepted.given in
-    let rows : measured.rows ≡ rows_of c.schedule = one_schedule c.net net.wired measured.planned.free measured.rows (rows_of c.schedule) measured.planned.schedule accepted.planned.schedule in
-    let found_entries : entry_count (rows_of c.schedule) ≡ length_of.entries = ap entry_count (sym rows) ∙ measured.entries in
-    let found_guards : guard_count (rows_of c.schedule) ≡ length_of.guards = ap guard_count (sym rows) ∙ measured.guards in
     record {
       plan = plan_of c;
       accepted = accepted;
       observed = ran.0;
       run = ran.1;
-      told = same_line _ _ _ _ _ _ _ _ _ _ _ _ blocks sources (entries ∙ sym found_entries) (guards ∙ sym found_guards) (lines ∙ (ran.2.lines ∙ all_told c.net ran.0 net ran.1)) (sum ∙ ran.2.sum);
+      told = same_line _ _ _ _ _ _ _ _ _ _ _ _ blocks sources entries guards (lines ∙ (ran.2.lines ∙ all_told c.net ran.0 net ran.1)) (sum ∙ ran.2.sum);
     }
 
 -- ---- what the command comes to

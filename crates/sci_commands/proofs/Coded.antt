@@ -9,7 +9,7 @@ use Rattle.sci_sched.specs.Plain.{rows_of}
 use Rattle.c_ast.specs.Syntax.{Whole}
 use Rattle.c_ast.specs.Spelling.{spelling}
 use Rattle.sci_cgen.specs.Program.{program}
-use Rattle.sci_cgen.proofs.Run.{program_means_run}
+use Rattle.sci_cgen.proofs.Run.{program_means_run, program_can_step}
 use Rattle.sci_cgen.proofs.Whole.{program_is_whole}
 use Rattle.sci_cgen.proofs.Blocks.{program_has_block_functions}
 use Rattle.sci_verdict.specs.Verdict.{Plan, Accepts, Breaks, plan_of}
@@ -34,6 +34,7 @@ program_is_code n rows net free schedule =
       whole = whole.0;
       rules = whole.1;
       means = λ i until limit st how os columns late most finish. program_means_run n rows i until limit st how os net free schedule columns late most finish;
+      steps = program_can_step n rows net free schedule;
       functions = program_has_block_functions n rows net schedule;
       defined = refl;
     }

@@ -107,7 +107,7 @@ program_runs_so until limit diagram inputs a coded s k late most =
     let net = s.plan.net in
     let columns = columns_in_range net inputs s.columns (needs_exact net) s.read in
     let over = (run_is_over net s.columns until limit s.trace.0).0 s.trace.1 in
-    let means = k.is_code.means s.columns until limit over.0 over.1 s.trace.0 columns late most over.2 in
+    let means = k.is_code.means s.columns until limit over.0 over.1 s.trace.0 columns late (omega (arith, most)) over.2 in
     let text : coded.out ≡ spelling k.code = ap (λ (b : Answer). b.out) k.told in
     record {
       program = k.code;

@@ -13,6 +13,7 @@ use Rattle.c_ast.specs.Rules.{KeepsRules}
 use Rattle.c_mean.specs.Meaning.{meaning}
 use Rattle.sci_cgen.specs.Program.{program}
 use Rattle.sci_cgen.specs.Laws.{answer_by, HasBlockFunctions}
+use Rattle.sci_cgen.specs.Stepping.{Steps}
 use Rattle.sci_verdict.specs.Verdict.{Plan}
 use Rattle.sci_commands.specs.Answer.{Answer, prints}
 
@@ -20,16 +21,18 @@ use Rattle.sci_commands.specs.Answer.{Answer, prints}
 -- never undefined.
 abbrev pub MeansRun : Parts → Whole → Type 0
 MeansRun n p =
-    (i : Columns) (until limit : ℕ) (st : State) (how : Ending) (os : List Obs) → AreColumns n i → until ≤ 2 ^ 62 → limit ≤ 1000000
+    (i : Columns) (until limit : ℕ) (st : State) (how : Ending) (os : List Obs) → AreColumns n i → until ≤ 2 ^ 62 → limit ≤ 2 ^ 51
     → Finish n i until limit st how os
     → meaning p i (pos until) (pos limit) ≡ record { seen = os; how = answer_by how }
 
--- A program for a net and its schedule: one of the subset of C, which keeps its bounds and its static rules and means the trace of the net, with a
--- function for each block, which as many calls name as the schedule has entries of the block. Of such programs it is the one that is defined.
+-- A program for a net and its schedule: one of the subset of C, which keeps its bounds and its static rules and means the trace of the net, run by main or
+-- stepped by its host, one call an event; with a function for each block, which as many calls name as the schedule has entries of the block. Of such programs it
+-- is the one that is defined.
 pub record IsCode (n : Parts) (rows : List (List Entry)) (p : Whole) : Type 0 where
   pub whole : IsWhole p
   pub rules : KeepsRules p
   pub means : MeansRun n p
+  pub steps : Steps n p
   pub functions : HasBlockFunctions n rows p
   pub defined : p ≡ program n rows
 

@@ -7,16 +7,17 @@ ghost use Rattle.sci_sched.specs.Answer.{IsPlan};
 ghost use Rattle.sci_sched.specs.Plain.{rows_of};
 ghost use Rattle.sci_sim.specs.At.{IsTallied};
 ghost use Rattle.sci_verdict.specs.Verdict.{IsTreeChecked};
-ghost use Rattle.sci_commands.specs.Banks.{AreAllBanks};
+ghost use Rattle.sci_bank.specs.Library.{IsFull};
 ghost use Rattle.sci_commands.specs.Bulk.{IsCounted};
 ghost use Rattle.sci_commands.specs.Counts.{CountsRun, CountsBulk};
 
-use sci_bank::library::{Banks, Library};
+use sci_bank::Bank;
+use sci_bank::library::Library;
 use sci_base::{NoMemory, Stop};
 use sci_bulk::bulk_diagram;
 use sci_io::SureSink;
 use sci_net::Net;
-use sci_sched::{Schedule, measure};
+use sci_sched::Schedule;
 use sci_sim::Ready;
 use sci_trace::inputs::Inputs;
 use sci_verdict::{Checked, check_diagram};
@@ -50,17 +51,17 @@ fn judged(alloc: Global, seed: u32, size: u32) -> Result<Checked, Stop>
 }
 
 // A net behind its run without an input file, up to the last date that there is, of at most 1,000 events. Nothing is kept of what it writes.
-fn run_net(
+fn run_net<B: Bank>(
     alloc: Global,
     net: Net,
     schedule: Schedule,
-    lib: &mut Library,
+    lib: &mut Library<B>,
 ) -> Result<Ready, NoMemory>
     requires plan { IsPlan net (rows_of schedule) }
-    requires banks { AreAllBanks (⟦<Library as Banks>⟧.banks lib.old) }
+    requires full { IsFull lib.old }
     ensures ran { IfOk result (λ r. (os : List Obs) × IsRun net [] (2 ^ 62) 1000 os × IsTallied r.store os) }
-    ensures counts_run { IfOk result (λ r. CountsRun net [] (2 ^ 62) 1000 (⟦<Library as Banks>⟧.banks lib.new)) }
-    ensures banks { AreAllBanks (⟦<Library as Banks>⟧.banks lib.new) }
+    ensures counts_run { IfOk result (λ r. CountsRun net [] (2 ^ 62) 1000 lib.new) }
+    ensures full { IsFull lib.new }
 {
     net.well_formed();
     let mut ready = Ready::new(alloc, net, schedule, lib)?;
@@ -72,29 +73,30 @@ fn run_net(
 
 /// Makes the bulk diagram of a seed and a size, judges it and runs it on the banks of the library. The answer is what is counted: no such
 /// diagram breaks a rule.
-pub fn count_bulk(
+pub fn count_bulk<B: Bank>(
     alloc: Global,
     seed: u32,
     size: u32,
-    lib: &mut Library,
+    lib: &mut Library<B>,
 ) -> Result<BulkCounts, Stop>
     requires least { 1 ≤ size }
     requires most { size ≤ 2000 }
-    requires banks { AreAllBanks (⟦<Library as Banks>⟧.banks lib.old) }
+    requires full { IsFull lib.old }
     ensures counted { IsCounted seed size result }
-    ensures counts_run { IfOk result (λ c. CountsBulk seed size (⟦<Library as Banks>⟧.banks lib.new)) }
-    ensures banks { AreAllBanks (⟦<Library as Banks>⟧.banks lib.new) }
+    ensures counts_run { IfOk result (λ c. CountsBulk seed size lib.new) }
+    ensures full { IsFull lib.new }
 {
     let checked = judged(alloc, seed, size)?;
-    let length = measure(alloc, &checked.net)?;
     let blocks = checked.net.len();
     let sources = checked.net.source_count();
+    let entries = checked.schedule.entry_count();
+    let guards = checked.schedule.guard_count();
     let ran = run_net(alloc, checked.net, checked.schedule, lib)?;
     Ok(BulkCounts {
         blocks,
         sources,
-        entries: length.entries,
-        guards: length.guards,
+        entries,
+        guards,
         lines: ran.lines(),
         sum: ran.sum(),
     })

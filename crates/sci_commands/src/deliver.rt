@@ -1,5 +1,5 @@
 ghost use Rattle.std.specs.Prelude.{◌≡◌, ◌≢◌, false, ◌≤◌, ◌<◌, ◌^◌, IsTrue, IfOk, [], length, pos};
-ghost use Rattle.sci_commands.specs.Banks.{AreAllBanks};
+ghost use Rattle.sci_bank.specs.Library.{IsFull};
 ghost use Rattle.sci_base.specs.Plain.{violation_of};
 ghost use Rattle.sci_commands.specs.Line.{refused_line};
 ghost use Rattle.sci_io.specs.Taken.{Writes};
@@ -36,7 +36,8 @@ use c_ast::Program;
 use c_mean::{CEnd, RunStop, run};
 use itoa::Buffer;
 use sci_agree::Verdict;
-use sci_bank::library::{Banks, Library};
+use sci_bank::Bank;
+use sci_bank::library::Library;
 use sci_base::{NoMemory, Refusal};
 use sci_io::{Failed, Sink, put_all};
 use sci_sched::write_plan;
@@ -115,15 +116,15 @@ fn say_no_memory<E: Sink>(err: &mut E) -> u8
 }
 
 // Runs to the end and gives the last byte on.
-fn print_trace<O: Sink>(
+fn print_trace<O: Sink, B: Bank>(
     simulation: Simulation,
-    lib: &mut Library,
+    lib: &mut Library<B>,
     out: &mut O,
 ) -> Result<RunEnd, Failed>
-    requires { IsReadyToRun (⟦<Library as Banks>⟧.banks lib.old) simulation }
+    requires { IsReadyToRun lib.old simulation }
     ensures printed { PrintsTrace simulation (O.state out.old) (O.state out.new) result }
-    ensures counts_run { IfOk result (λ e. CountsRun simulation.ready.fixed.net simulation.inputs simulation.until simulation.limit (⟦<Library as Banks>⟧.banks lib.new)) }
-    ensures banks { AreAllBanks (⟦<Library as Banks>⟧.banks lib.new) }
+    ensures counts_run { IfOk result (λ e. CountsRun simulation.ready.fixed.net simulation.inputs simulation.until simulation.limit lib.new) }
+    ensures full { IsFull lib.new }
 {
     let Simulation {
         mut ready,
@@ -424,18 +425,18 @@ fn print_values<O: Sink, E: Sink>(dump: &Dump, tick: u64, out: &mut O, err: &mut
 }
 
 /// Writes a prepared command, and gives its status.
-pub fn deliver<O: Sink, E: Sink>(
+pub fn deliver<O: Sink, E: Sink, B: Bank>(
     alloc: Global,
     prepared: Prepared,
     out: &mut O,
     err: &mut E,
-    lib: &mut Library,
+    lib: &mut Library<B>,
 ) -> u8
-    requires prepared { IsPrepared (⟦<Library as Banks>⟧.banks lib.old) prepared }
-    requires banks { AreAllBanks (⟦<Library as Banks>⟧.banks lib.old) }
+    requires prepared { IsPrepared lib.old prepared }
+    requires full { IsFull lib.old }
     ensures delivered { Delivers prepared (O.state out.old) (O.state out.new) (E.state err.old) (E.state err.new) result }
-    ensures left { IsDone result → LeavesBanks prepared (⟦<Library as Banks>⟧.banks lib.old) (⟦<Library as Banks>⟧.banks lib.new) }
-    ensures banks { AreAllBanks (⟦<Library as Banks>⟧.banks lib.new) }
+    ensures left { IsDone result → LeavesBanks prepared lib.old lib.new }
+    ensures full { IsFull lib.new }
 {
     match prepared {
         Prepared::Usage => say_usage(err),

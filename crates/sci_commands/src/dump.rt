@@ -4,7 +4,7 @@ ghost use Rattle.sci_commands.specs.Dump.{AcceptsDump, BreaksDump};
 ghost use Rattle.sci_commands.specs.Judged.{IsJudged};
 
 use crate::rules::{Rules, blame};
-use sci_base::{Rule, Stop};
+use sci_base::{Rule, Stop, limits};
 use sci_vcd::{Dump, VcdStop, read_vcd};
 use std::alloc::Global;
 
@@ -30,7 +30,7 @@ impl Rules for DumpRules {
 
     type Made = Dump;
 
-    const LONGEST: usize = 67_108_864;
+    const LONGEST: usize = limits::TEXT_BYTES;
 
     ghost LONGEST = { 67108864 };
 

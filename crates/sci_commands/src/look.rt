@@ -5,12 +5,12 @@ ghost use Rattle.sci_commands.specs.Judge.{IsBytes, BreaksNothing};
 ghost use Rattle.sci_commands.specs.Look.{IsFile, IsLooked, IsRefusal, IsTooLong};
 
 use crate::rules::Rules;
-use sci_base::{NoMemory, Refusal, Rule, Stop};
+use sci_base::{NoMemory, Refusal, Rule, Stop, limits};
 use sci_io::{Folder, ReadEnd};
 use std::alloc::Global;
 
 /// The limit of a file that is judged, in bytes.
-const LONGEST_TEXT: usize = 67_108_864;
+const LONGEST_TEXT: usize = limits::TEXT_BYTES;
 
 /// Why a file's bytes don't come.
 #[derive(Clone, Copy, Debug, PartialEq, Eq)]

@@ -1,7 +1,7 @@
 // A command with all that it needs: its files are looked at, and nothing is written.
 ghost use Rattle.std.specs.Prelude.{◌≡◌, ◌≤◌, ◌^◌, List, map, string_bytes};
 ghost use Rattle.sci_bank.specs.Bank.{Meaning};
-ghost use Rattle.sci_commands.specs.Banks.{AreAllBanks};
+ghost use Rattle.sci_bank.specs.Library.{IsFull};
 ghost use Rattle.sci_io.specs.Files.{FolderState};
 ghost use Rattle.sci_commands.specs.Words.{report as tell, simulate, judge, save, resume, code, run_c, bulk, dump, dump_at, InBounds, asked_by};
 ghost use Rattle.sci_commands.specs.Reached.{Reaches, ReachesCounted};
@@ -22,7 +22,8 @@ use crate::told::Told;
 use crate::words::parse;
 use c_ast::Program;
 use sci_agree::Verdict;
-use sci_bank::library::{Banks, Library};
+use sci_bank::Bank;
+use sci_bank::library::Library;
 use sci_base::{NoMemory, Refusal, Rule, Stop};
 use sci_cgen::emit;
 use sci_io::Folder;
@@ -97,21 +98,21 @@ fn for_report<F: Folder>(
     Ok(Prepared::Report(told))
 }
 
-fn for_simulate<F: Folder>(
+fn for_simulate<F: Folder, B: Bank>(
     alloc: Global,
     folder: &mut F,
     file: &str,
     inputs_file: &str,
     until: u64,
     limit: u64,
-    lib: &mut Library,
+    lib: &mut Library<B>,
 ) -> Result<Prepared, LookStop>
     requires until { until ≤ 2 ^ 62 }
     requires limit { limit ≤ 1000000 }
-    requires banks { AreAllBanks (⟦<Library as Banks>⟧.banks lib.old) }
-    ensures looks { LooksAt (F.state folder.old) (F.state folder.new) (⟦<Library as Banks>⟧.banks lib.new) (simulate file.now inputs_file.now until limit) result }
+    requires full { IsFull lib.old }
+    ensures looks { LooksAt (F.state folder.old) (F.state folder.new) lib.new (simulate file.now inputs_file.now until limit) result }
     ensures kept { (F.state folder.new).files ≡ (F.state folder.old).files }
-    ensures banks { AreAllBanks (⟦<Library as Banks>⟧.banks lib.new) }
+    ensures full { IsFull lib.new }
 {
     let files = look_at_run(alloc, folder, file, inputs_file)?;
     let ready = Ready::new(alloc, files.checked.net, files.checked.schedule, lib)?;
@@ -123,7 +124,7 @@ fn for_simulate<F: Folder>(
     }))
 }
 
-fn for_judge<F: Folder>(
+fn for_judge<F: Folder, B: Bank>(
     alloc: Global,
     folder: &mut F,
     file: &str,
@@ -131,14 +132,14 @@ fn for_judge<F: Folder>(
     trace_file: &str,
     until: u64,
     limit: u64,
-    lib: &mut Library,
+    lib: &mut Library<B>,
 ) -> Result<Prepared, LookStop>
     requires until { until ≤ 2 ^ 62 }
     requires limit { limit ≤ 1000000 }
-    requires banks { AreAllBanks (⟦<Library as Banks>⟧.banks lib.old) }
-    ensures looks { LooksAt (F.state folder.old) (F.state folder.new) (⟦<Library as Banks>⟧.banks lib.new) (judge file.now inputs_file.now trace_file.now until limit) result }
+    requires full { IsFull lib.old }
+    ensures looks { LooksAt (F.state folder.old) (F.state folder.new) lib.new (judge file.now inputs_file.now trace_file.now until limit) result }
     ensures kept { (F.state folder.new).files ≡ (F.state folder.old).files }
-    ensures banks { AreAllBanks (⟦<Library as Banks>⟧.banks lib.new) }
+    ensures full { IsFull lib.new }
 {
     let files = look_at_run(alloc, folder, file, inputs_file)?;
     let trace = look_text(alloc, folder, trace_file)?;
@@ -156,7 +157,7 @@ fn ended_by(alloc: Global, reaction: u64, count: u64) -> LookStop
     refused_by(alloc, Rule::RunEnded, &[reaction as i64, count as i64])
 }
 
-fn for_save<F: Folder>(
+fn for_save<F: Folder, B: Bank>(
     alloc: Global,
     folder: &mut F,
     file: &str,
@@ -164,16 +165,16 @@ fn for_save<F: Folder>(
     until: u64,
     limit: u64,
     reaction: u64,
-    lib: &mut Library,
+    lib: &mut Library<B>,
 ) -> Result<Prepared, LookStop>
     requires until { until ≤ 2 ^ 62 }
     requires limit { limit ≤ 1000000 }
     requires least { 1 ≤ reaction }
     requires most { reaction ≤ 1000001 }
-    requires banks { AreAllBanks (⟦<Library as Banks>⟧.banks lib.old) }
-    ensures looks { LooksAt (F.state folder.old) (F.state folder.new) (⟦<Library as Banks>⟧.banks lib.new) (save file.now inputs_file.now until limit reaction) result }
+    requires full { IsFull lib.old }
+    ensures looks { LooksAt (F.state folder.old) (F.state folder.new) lib.new (save file.now inputs_file.now until limit reaction) result }
     ensures kept { (F.state folder.new).files ≡ (F.state folder.old).files }
-    ensures banks { AreAllBanks (⟦<Library as Banks>⟧.banks lib.new) }
+    ensures full { IsFull lib.new }
 {
     let files = look_at_run(alloc, folder, file, inputs_file)?;
     let RunFiles { checked, inputs } = files;
@@ -185,7 +186,7 @@ fn for_save<F: Folder>(
     }
 }
 
-fn for_resume<F: Folder>(
+fn for_resume<F: Folder, B: Bank>(
     alloc: Global,
     folder: &mut F,
     file: &str,
@@ -193,14 +194,14 @@ fn for_resume<F: Folder>(
     saved_file: &str,
     until: u64,
     limit: u64,
-    lib: &mut Library,
+    lib: &mut Library<B>,
 ) -> Result<Prepared, LookStop>
     requires until { until ≤ 2 ^ 62 }
     requires limit { limit ≤ 1000000 }
-    requires banks { AreAllBanks (⟦<Library as Banks>⟧.banks lib.old) }
-    ensures looks { LooksAt (F.state folder.old) (F.state folder.new) (⟦<Library as Banks>⟧.banks lib.new) (resume file.now inputs_file.now saved_file.now until limit) result }
+    requires full { IsFull lib.old }
+    ensures looks { LooksAt (F.state folder.old) (F.state folder.new) lib.new (resume file.now inputs_file.now saved_file.now until limit) result }
     ensures kept { (F.state folder.new).files ≡ (F.state folder.old).files }
-    ensures banks { AreAllBanks (⟦<Library as Banks>⟧.banks lib.new) }
+    ensures full { IsFull lib.new }
 {
     let files = look_at_run(alloc, folder, file, inputs_file)?;
     let RunFiles { checked, inputs } = files;
@@ -229,12 +230,17 @@ fn for_code<F: Folder>(alloc: Global, folder: &mut F, file: &str) -> Result<Prep
     Ok(Prepared::Code(program))
 }
 
-fn for_bulk(alloc: Global, seed: u32, size: u32, lib: &mut Library) -> Result<Prepared, LookStop>
+fn for_bulk<B: Bank>(
+    alloc: Global,
+    seed: u32,
+    size: u32,
+    lib: &mut Library<B>,
+) -> Result<Prepared, LookStop>
     requires least { 1 ≤ size }
     requires most { size ≤ 2000 }
-    requires banks { AreAllBanks (⟦<Library as Banks>⟧.banks lib.old) }
-    ensures looks { (s : FolderState) → LooksAt s s (⟦<Library as Banks>⟧.banks lib.new) (bulk seed size) result }
-    ensures banks { AreAllBanks (⟦<Library as Banks>⟧.banks lib.new) }
+    requires full { IsFull lib.old }
+    ensures looks { (s : FolderState) → LooksAt s s lib.new (bulk seed size) result }
+    ensures full { IsFull lib.new }
 {
     match count_bulk(alloc, seed, size, lib) {
         Ok(counts) => Ok(Prepared::Bulk(counts)),
@@ -264,21 +270,21 @@ fn for_run_c<F: Folder>(
     Ok(Prepared::RunC(program, inputs, until, limit))
 }
 
-fn for_dump<F: Folder>(
+fn for_dump<F: Folder, B: Bank>(
     alloc: Global,
     folder: &mut F,
     file: &str,
     inputs_file: &str,
     until: u64,
     limit: u64,
-    lib: &mut Library,
+    lib: &mut Library<B>,
 ) -> Result<Prepared, LookStop>
     requires until { until ≤ 2 ^ 62 }
     requires limit { limit ≤ 1000000 }
-    requires banks { AreAllBanks (⟦<Library as Banks>⟧.banks lib.old) }
-    ensures looks { LooksAt (F.state folder.old) (F.state folder.new) (⟦<Library as Banks>⟧.banks lib.new) (dump file.now inputs_file.now until limit) result }
+    requires full { IsFull lib.old }
+    ensures looks { LooksAt (F.state folder.old) (F.state folder.new) lib.new (dump file.now inputs_file.now until limit) result }
     ensures kept { (F.state folder.new).files ≡ (F.state folder.old).files }
-    ensures banks { AreAllBanks (⟦<Library as Banks>⟧.banks lib.new) }
+    ensures full { IsFull lib.new }
 {
     let files = look_at_run(alloc, folder, file, inputs_file)?;
     let dump = VcdOut::new(alloc, &files.checked.net)?;
@@ -306,17 +312,17 @@ fn for_dump_at<F: Folder>(
 }
 
 #[tactic(auto, using(crate::proofs::Looking::host_looks))]
-fn for_command<F: Folder>(
+fn for_command<F: Folder, B: Bank>(
     alloc: Global,
     folder: &mut F,
     command: Command<'_>,
-    lib: &mut Library,
+    lib: &mut Library<B>,
 ) -> Result<Prepared, LookStop>
     requires bounds { InBounds (asked_by command) }
-    requires banks { AreAllBanks (⟦<Library as Banks>⟧.banks lib.old) }
-    ensures looks { LooksAt (F.state folder.old) (F.state folder.new) (⟦<Library as Banks>⟧.banks lib.new) (asked_by command.entry) result }
+    requires full { IsFull lib.old }
+    ensures looks { LooksAt (F.state folder.old) (F.state folder.new) lib.new (asked_by command.entry) result }
     ensures kept { (F.state folder.new).files ≡ (F.state folder.old).files }
-    ensures banks { AreAllBanks (⟦<Library as Banks>⟧.banks lib.new) }
+    ensures full { IsFull lib.new }
 {
     match command {
         Command::Report(report, file) => for_report(alloc, folder, report, file),
@@ -386,18 +392,18 @@ fn stopped(stop: LookStop) -> Prepared
 }
 
 /// Looks at the words and the files, and writes nothing.
-pub fn prepare<F: Folder>(
+pub fn prepare<F: Folder, B: Bank>(
     alloc: Global,
     words: &[String],
     folder: &mut F,
-    lib: &mut Library,
+    lib: &mut Library<B>,
 ) -> Prepared
-    requires { AreAllBanks (⟦<Library as Banks>⟧.banks lib.old) }
-    ensures reaches { (a : Answer) → IsAnswerOf result a → ReachesCounted (map string_bytes words.now) (F.state folder.old) (F.state folder.new) a (LeavesBanks result (⟦<Library as Banks>⟧.banks lib.new)) }
-    ensures prepared { IsPrepared (⟦<Library as Banks>⟧.banks lib.new) result }
+    requires { IsFull lib.old }
+    ensures reaches { (a : Answer) → IsAnswerOf result a → ReachesCounted (map string_bytes words.now) (F.state folder.old) (F.state folder.new) a (LeavesBanks result lib.new) }
+    ensures prepared { IsPrepared lib.new result }
     ensures lacks { MayLack result → Reaches (map string_bytes words.now) (F.state folder.old) (F.state folder.new) no_memory }
     ensures kept { (F.state folder.new).files ≡ (F.state folder.old).files }
-    ensures banks { AreAllBanks (⟦<Library as Banks>⟧.banks lib.new) }
+    ensures full { IsFull lib.new }
 {
     match parse(words) {
         None => Prepared::Usage,

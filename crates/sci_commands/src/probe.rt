@@ -40,6 +40,10 @@ impl Sink for Probe {
         Ok(())
     }
 
+    fn take_unseen(&mut self) -> bool {
+        false
+    }
+
     fn begin(&mut self) {
         self.begun = false;
     }

@@ -1,22 +1,23 @@
 // The run that goes on from what was saved.
-ghost use Rattle.sci_commands.specs.Banks.{AreAllBanks};
+ghost use Rattle.sci_bank.specs.Library.{IsFull};
 ghost use Rattle.sci_commands.specs.Deliver.{PrintsRest};
 ghost use Rattle.sci_commands.specs.Prepare.{IsReadyToGoOn};
 
 use crate::prepare::{ResumedRun, Simulation};
-use sci_bank::library::{Banks, Library};
+use sci_bank::Bank;
+use sci_bank::library::Library;
 use sci_io::{Failed, Sink};
 use sci_sim::RunEnd;
 
 /// Runs on to the end and gives the last byte on.
-pub fn print_rest<O: Sink>(
+pub fn print_rest<O: Sink, B: Bank>(
     resumed: ResumedRun,
-    lib: &mut Library,
+    lib: &mut Library<B>,
     out: &mut O,
 ) -> Result<RunEnd, Failed>
-    requires { IsReadyToGoOn (⟦<Library as Banks>⟧.banks lib.old) resumed }
+    requires { IsReadyToGoOn lib.old resumed }
     ensures printed { PrintsRest resumed (O.state out.old) (O.state out.new) result }
-    ensures banks { AreAllBanks (⟦<Library as Banks>⟧.banks lib.new) }
+    ensures full { IsFull lib.new }
 {
     let ResumedRun { image: _image, run } = resumed;
     let Simulation {

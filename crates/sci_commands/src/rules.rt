@@ -8,7 +8,7 @@ use crate::command::Report;
 use crate::told::{Told, report_on};
 use c_ast::Program;
 use c_read::{ParseStop, parse};
-use sci_base::{Rule, Stop};
+use sci_base::{Rule, Stop, limits};
 use sci_trace::inputs::{Inputs, Need, read_inputs};
 use sci_verdict::{Checked, check};
 use std::alloc::Global;
@@ -54,7 +54,7 @@ impl Rules for DiagramRules {
 
     type Made = Told;
 
-    const LONGEST: usize = 16_777_216;
+    const LONGEST: usize = limits::DIAGRAM_BYTES;
 
     ghost LONGEST = { 16777216 };
 
@@ -80,7 +80,7 @@ impl Rules for PlanRules {
 
     type Made = Checked;
 
-    const LONGEST: usize = 16_777_216;
+    const LONGEST: usize = limits::DIAGRAM_BYTES;
 
     ghost LONGEST = { 16777216 };
 
@@ -126,7 +126,7 @@ impl Rules for CRules {
 
     type Made = Program;
 
-    const LONGEST: usize = 67_108_864;
+    const LONGEST: usize = limits::TEXT_BYTES;
 
     ghost LONGEST = { 67108864 };
 
@@ -155,7 +155,7 @@ impl Rules for ColumnRules {
 
     type Made = Inputs;
 
-    const LONGEST: usize = 16_777_216;
+    const LONGEST: usize = limits::INPUT_BYTES;
 
     ghost LONGEST = { 16777216 };
 

@@ -8,7 +8,7 @@ ghost use Rattle.sci_commands.specs.Judged.{IsJudged};
 ghost use Rattle.sci_commands.specs.Save.{AcceptsImage, BreaksSaved};
 
 use crate::rules::{Rules, blame};
-use sci_base::{Rule, Stop};
+use sci_base::{Rule, Stop, limits};
 use sci_io::{Failed, Sink};
 use sci_net::Net;
 use sci_save::{Image, SaveStop, read_save, write_save};
@@ -49,7 +49,7 @@ impl Rules for SavedRules {
 
     type Made = Image;
 
-    const LONGEST: usize = 67_108_864;
+    const LONGEST: usize = limits::TEXT_BYTES;
 
     ghost LONGEST = { 67108864 };
 

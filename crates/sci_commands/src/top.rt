@@ -1,10 +1,11 @@
 ghost use Rattle.std.specs.Prelude.{◌≡◌, map, string_bytes};
-ghost use Rattle.sci_commands.specs.Banks.{AreAllBanks};
+ghost use Rattle.sci_bank.specs.Library.{IsFull};
 ghost use Rattle.sci_commands.specs.Headline.{Meets};
 
 use crate::deliver::deliver;
 use crate::prepare::prepare;
-use sci_bank::library::{Banks, Library};
+use sci_bank::Bank;
+use sci_bank::library::Library;
 use sci_io::{Folder, Sink};
 use std::alloc::Global;
 
@@ -12,18 +13,18 @@ use std::alloc::Global;
 /// no command, 3 where a file could not be read, 4 where out or err could not be written, 5 where memory lacked, 6 where
 /// the run stopped, 7 where a C program has no meaning, 8 where a file is not the trace. Runs go over the banks of the library, which are the
 /// banks of all kinds behind the call too; those of `simulate`, `vcd` and `bulk` have counted the blocks that were active.
-pub fn top<F: Folder, O: Sink, E: Sink>(
+pub fn top<F: Folder, O: Sink, E: Sink, B: Bank>(
     alloc: Global,
     words: &[String],
     folder: &mut F,
     out: &mut O,
     err: &mut E,
-    lib: &mut Library,
+    lib: &mut Library<B>,
 ) -> u8
-    requires { AreAllBanks (⟦<Library as Banks>⟧.banks lib.old) }
-    ensures meets { Meets (map string_bytes words.now) (F.state folder.old) (F.state folder.new) (O.state out.old) (O.state out.new) (E.state err.old) (E.state err.new) (⟦<Library as Banks>⟧.banks lib.new) result }
+    requires { IsFull lib.old }
+    ensures meets { Meets (map string_bytes words.now) (F.state folder.old) (F.state folder.new) (O.state out.old) (O.state out.new) (E.state err.old) (E.state err.new) lib.new result }
     ensures kept { (F.state folder.new).files ≡ (F.state folder.old).files }
-    ensures banks { AreAllBanks (⟦<Library as Banks>⟧.banks lib.new) }
+    ensures full { IsFull lib.new }
 {
     let prepared = prepare(alloc, words, folder, lib);
     deliver(alloc, prepared, out, err, lib)

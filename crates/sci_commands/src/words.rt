@@ -5,6 +5,7 @@ ghost use Rattle.sci_commands.specs.Words.{Parses, report_word, run_word};
 
 use crate::command::{Command, Report};
 use itoa::Buffer;
+use sci_base::limits;
 
 /// The number up to this most that the text spells: decimal digits with no sign and no leading zero.
 fn canonical(text: &str, most: u64) -> Option<u64>
@@ -33,8 +34,8 @@ fn bounds_of(until: &str, limit: &str) -> Option<(u64, u64)>
     ensures small { IfSome result (λ b. (b.0 ≤ 2 ^ 62) × (b.1 ≤ 1000000)) }
     ensures none { IfNone result ((t n : ℕ) → t ≤ 2 ^ 62 → n ≤ 1000000 → until.now ≡ decimal t → limit.now ≢ decimal n) }
 {
-    let until = canonical(until, 1 << 62)?;
-    let limit = canonical(limit, 1_000_000)?;
+    let until = canonical(until, limits::TICKS)?;
+    let limit = canonical(limit, limits::EVENTS)?;
     Some((until, limit))
 }
 

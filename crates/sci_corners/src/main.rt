@@ -5,6 +5,7 @@
 //! status isn't 0. `tools/corner_table.py` writes the rows and what must be printed.
 #![tactic(auto)]
 
+ghost use Rattle.std.specs.Prelude.{map};
 ghost use Rattle.sci_bank.specs.Library.{AreInOrder, IsFull};
 
 mod evaluate;
@@ -13,18 +14,21 @@ mod row;
 use anyhow::bail;
 use evaluate::evaluate;
 use row::Row;
-use sci_bank::Fate;
-use sci_bank::library::{Banks, Library};
-use sci_library::{AnyBank, put_fresh};
+use sci_bank::library::Library;
+use sci_bank::{Bank, Fate};
+use sci_library::{AnyBank, next_kind, put_fresh};
 use std::alloc::Global;
 use std::io::{BufRead, BufReader};
 
 /// Evaluates a row, and prints it with what the block gives.
-fn show(rt: &impl Print, alloc: Global, lib: &mut Library, line: &str) -> anyhow::Result<()>
-    requires full { IsFull (⟦<Library as Banks>⟧.banks lib.old) }
-    requires in_order { AreInOrder (⟦<Library as Banks>⟧.banks lib.old) }
-    ensures full { IsFull (⟦<Library as Banks>⟧.banks lib.new) }
-    ensures in_order { AreInOrder (⟦<Library as Banks>⟧.banks lib.new) }
+fn show<B: Bank>(
+    rt: &impl Print,
+    alloc: Global,
+    lib: &mut Library<B>,
+    line: &str,
+) -> anyhow::Result<()>
+    requires full { IsFull lib.old }
+    ensures full { IsFull lib.new }
 {
     let row = Row::of(alloc, line)?;
     let mut outs = row.room(alloc)?;
@@ -44,24 +48,25 @@ fn show(rt: &impl Print, alloc: Global, lib: &mut Library, line: &str) -> anyhow
 }
 
 /// Evaluates all rows.
-fn run(rt: &(impl Input + Print), alloc: Global, lib: &mut Library) -> anyhow::Result<()>
-    requires full { IsFull (⟦<Library as Banks>⟧.banks lib.old) }
-    requires in_order { AreInOrder (⟦<Library as Banks>⟧.banks lib.old) }
+fn run<B: Bank>(rt: &(impl Input + Print), alloc: Global, banks: Vec<B>) -> anyhow::Result<()>
+    requires full { IsFull (map B.meaning banks.items) }
+    requires in_order { AreInOrder (map B.meaning banks.items) }
 {
+    let mut lib = Library::of(banks);
     for line in BufReader::new(alloc, rt.reader())?.lines(alloc) {
-        show(rt, alloc, lib, &line?)?;
+        show(rt, alloc, &mut lib, &line?)?;
     }
     Ok(())
 }
 
 fn main(rt: HostRuntime) -> anyhow::Result<()> {
     let alloc = rt.alloc();
-    let mut lib = Library::new(alloc);
-    while let Some(kind) = lib.next_kind() {
+    let mut banks: Vec<Box<dyn Bank>> = Vec::new(alloc);
+    while let Some(kind) = next_kind(banks.len()) {
         let bank = Box::new(alloc, AnyBank::of_kind(alloc, kind))?;
-        if put_fresh(&mut lib, kind, bank).is_err() {
+        if put_fresh(&mut banks, kind, bank).is_err() {
             bail!("out of memory");
         }
     }
-    run(&rt, alloc, &mut lib)
+    run(&rt, alloc, banks)
 }

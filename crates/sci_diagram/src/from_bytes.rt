@@ -12,7 +12,7 @@ use crate::diagram::Diagram;
 use crate::fields::too_many;
 use crate::walk::read_diagram;
 use json::Scratch;
-use sci_base::{Refusal, Rule, Stop};
+use sci_base::{Refusal, Rule, Stop, limits};
 use sci_json::document::{Document, ParseStop, Value};
 use std::alloc::Global;
 
@@ -48,11 +48,11 @@ fn within_counts(alloc: Global, d: Diagram) -> Result<Diagram, Stop>
     ensures stop { IfErr result (λ e. Tells (counted (diagram_view d)) e) }
 {
     let blocks = count_blocks(&d);
-    if blocks > 2048 {
+    if blocks > u64::from(limits::BLOCKS) {
         return Err(too_many(alloc, Rule::TooManyBlocks, blocks));
     }
     let links = count_links(&d);
-    if links > 16384 {
+    if links > u64::from(limits::LINKS) {
         return Err(too_many(alloc, Rule::TooManyLinks, links));
     }
     Ok(d)

@@ -9,7 +9,8 @@ use Rattle.sci_diagram.specs.Objects.{Objects}
 use Rattle.sci_forms.specs.declared.spec.Spec.{Spec}
 use Rattle.sci_net.specs.declared.Wire.{Wire}
 use Rattle.sci_net.specs.declared.Feed.{Feed}
-use Rattle.sci_net.specs.Parts.{no_spec, precedes, AreRising, is_sensor, column_of}
+use Rattle.sci_net.specs.Parts.{no_spec, precedes, AreRising, column_of}
+use Rattle.sci_forms.specs.Form.{is_sensor}
 use Rattle.sci_blocks.specs.declared.class.PortClass.{PortClass}
 use Rattle.sci_blocks.specs.declared.class.PortClass.TheVariants.{Input, Output, ActivationInput, ActivationOutput}
 use Rattle.sci_blocks.specs.Blocks.{Placed, placed}

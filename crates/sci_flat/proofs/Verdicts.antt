@@ -5,7 +5,8 @@ use Rattle.std.proofs.lemmas.List.{length-map, get_or-map}
 use Rattle.sci_base.specs.Plain.{Violation}
 use Rattle.sci_diagram.specs.Objects.{Objects}
 use Rattle.sci_forms.specs.declared.spec.Spec.{Spec}
-use Rattle.sci_net.specs.Parts.{Parts, no_spec, spec_of, IsBlock, is_sensor, column_of}
+use Rattle.sci_net.specs.Parts.{Parts, no_spec, spec_of, IsBlock, column_of}
+use Rattle.sci_forms.specs.Form.{is_sensor}
 use Rattle.sci_blocks.specs.Blocks.{Placed, placed}
 use Rattle.sci_flat.specs.Flat.{block_at, IsFlatNet}
 use Rattle.sci_flat.specs.Refused.{HasInput, IsFed, IsTaken, IsNoSource, IsColumnTwice, no_source, column_twice, BreaksBlocks, Breaks}

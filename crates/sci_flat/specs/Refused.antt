@@ -6,7 +6,8 @@ use Rattle.sci_base.specs.Plain.{Violation}
 use Rattle.sci_diagram.specs.Objects.{Objects}
 use Rattle.sci_forms.specs.declared.spec.Spec.{Spec}
 use Rattle.sci_net.specs.declared.Wire.{Wire}
-use Rattle.sci_net.specs.Parts.{is_sensor, column_of}
+use Rattle.sci_net.specs.Parts.{column_of}
+use Rattle.sci_forms.specs.Form.{is_sensor}
 use Rattle.sci_blocks.specs.Blocks.{Placed}
 use Rattle.sci_flat.specs.Flat.{block_at, IsWire, blocks}
 

@@ -1,16 +1,11 @@
 // The columns of sensors.
 ghost use Rattle.std.specs.Prelude.{◌≡◌, ◌<◌, ◌↔◌, IsTrue, length};
-ghost use Rattle.sci_net.specs.Parts.{is_sensor, column_of};
+ghost use Rattle.sci_net.specs.Parts.{column_of};
+ghost use Rattle.sci_forms.specs.Form.{is_sensor};
 ghost use Rattle.sci_flat.specs.Refused.{ShareColumn};
 ghost use Rattle.sci_flat.specs.Wired.{IsTakenAt};
 
-use sci_forms::{Kind, Spec};
-
-fn is_sensor(kind: Kind) -> bool
-    ensures { result ≡ is_sensor kind }
-{
-    matches!(kind, Kind::Sensor)
-}
+use sci_forms::Spec;
 
 /// The column of the input file that a sensor reads.
 fn column_of(spec: &Spec) -> u64
@@ -23,7 +18,7 @@ fn column_of(spec: &Spec) -> u64
 fn share_column(a: &Spec, b: &Spec) -> bool
     ensures { IsTrue result ↔ ShareColumn a.now b.now }
 {
-    is_sensor(a.kind) && is_sensor(b.kind) && column_of(a) == column_of(b)
+    a.kind.is_sensor() && b.kind.is_sensor() && column_of(a) == column_of(b)
 }
 
 // Whether an earlier sensor shares its column with this block.
@@ -44,5 +39,5 @@ pub(crate) fn is_taken(specs: &[Spec], block: usize) -> bool
     requires { block < length specs.now }
     ensures { IsTrue result ↔ IsTakenAt specs.now block }
 {
-    is_sensor(specs[block].kind) && is_shared(specs, block)
+    specs[block].kind.is_sensor() && is_shared(specs, block)
 }

@@ -8,7 +8,8 @@ use Rattle.std.proofs.lemmas.Bool.{cases_lt}
 use Rattle.std.specs.Prelude.{is_none, not}
 use Rattle.sci_base.specs.Lists.{truth_at, repeated}
 use Rattle.sci_forms.specs.declared.Kind.{Kind}
-use Rattle.sci_forms.specs.Forms.{feeds, own_feed, unfed, fed, first_not, all_to, or_else, unless}
+use Rattle.sci_forms.specs.Forms.{own_feed, unfed, fed, first_not, all_to, or_else, unless}
+use Rattle.sci_forms.specs.Form.{feeds}
 use Rattle.sci_forms.proofs.TestLemmas.{all_to_at}
 
 pub one_more_feed : (c : Kind) (n : ℕ) → own_feed c (n + 1) ≡ own_feed c n ++ feeds c (n + 1) ∷ []

@@ -1,3 +1,4 @@
 pub mod Feeds
 pub mod FirstNot
+pub mod Places
 pub mod TestLemmas

@@ -1,97 +1,53 @@
--- The form of each kind: its counts of ports, feedthrough, parameters, types and sizes.
-use Rattle.std.specs.Prelude.{ℕ, zero, suc, ◌+◌, ◌*◌, ◌^◌, ℤ, pos, negsuc, ◌-ℤ◌, List, [], ◌∷◌, ◌++◌, length, Bool, true, false, ◌&&◌, ◌||◌, not, nat_eq, nat_lt, nat_le, int_lt, int_le, if◌then◌else◌, Option, Some, None, is_none, unsigned_abs}
+-- What the forms of kinds ask of a block: counts of ports, feedthrough, parameters, state, types and sizes.
+use Rattle.std.specs.Prelude.{ℕ, zero, suc, ◌+◌, ◌-◌, ◌*◌, ◌^◌, ℤ, pos, negsuc, ◌-ℤ◌, List, [], ◌∷◌, ◌++◌, length, Bool, true, false, ◌&&◌, ◌||◌, not, nat_eq, nat_lt, nat_le, int_lt, int_le, if◌then◌else◌, Option, Some, None, is_none, unsigned_abs}
 use Rattle.sci_base.specs.declared.Ty.{Ty}
 use Rattle.sci_base.specs.Fit.{int_eq, in_range, width}
 use Rattle.sci_base.specs.Lists.{at, truth_at}
 use Rattle.sci_forms.specs.declared.Kind.{Kind}
-use Rattle.sci_forms.specs.declared.Kind.TheVariants.{Const, Summation, GainBlk, Product, AbsValue, Signum, MaxMin, Saturation, DeadBand, Convert, Mux, Demux, Extractor, LogicalOp, RelationalOp, Shift, BitSet, BitClear, ExtractBits, Switch2, Select, Logic, AndLog, Dollar, SampHold, Register, ModuloCount, GatedDelay, Sensor, EvtDly, EvtVarDly, IfThEl, ESelect, Halt}
 use Rattle.sci_forms.specs.declared.forms.Counts.{Counts}
+use Rattle.sci_forms.specs.declared.form.Count.{Count}
+use Rattle.sci_forms.specs.declared.form.Count.TheVariants.{Between as From, AsInputs}
+use Rattle.sci_forms.specs.declared.form.Memory.TheVariants.{Elements, Moving, Counter}
+use Rattle.sci_forms.specs.declared.form.Role.{Role}
+use Rattle.sci_forms.specs.declared.form.Role.TheVariants.{Values, State, Delay, Branch, Sensor as Senses, Halt as Halts}
+use Rattle.sci_forms.specs.declared.form.ParamCount.{ParamCount}
+use Rattle.sci_forms.specs.declared.form.ParamCount.TheVariants.{Exactly, PerElement, PerRow, BehindOne, Truths}
+use Rattle.sci_forms.specs.declared.form.Param.{Param}
+use Rattle.sci_forms.specs.declared.form.Param.TheVariants.{Any, Between, Mode, Sign, Flag, Value, High, Element, Operation, Places, Bit, LastBit, Base}
+use Rattle.sci_forms.specs.declared.form.Params.{Params}
+use Rattle.sci_forms.specs.declared.form.Types.{Types}
+use Rattle.sci_forms.specs.declared.form.Types.TheVariants.{Alike as OneType, AnyOutput, AnySecond, Any as AnyTypes, Int32}
+use Rattle.sci_forms.specs.declared.form.Sizes.{Sizes}
+use Rattle.sci_forms.specs.declared.form.Sizes.TheVariants.{Alike as OneSize, Scalars, ScalarSecond, Stacked, Cut, Chosen}
 use Rattle.sci_forms.specs.declared.ports.Port.{Port}
 use Rattle.sci_forms.specs.declared.spec.Spec.{Spec}
 use Rattle.sci_forms.specs.Ports.{port_at, elements, sum_rows}
+use Rattle.sci_forms.specs.Form.{form, role_of, feeds}
 
 -- ---- counts of ports
 
--- the least and the most of regular inputs, regular outputs, activation inputs, activation outputs
-abbrev pub counts : ℕ → ℕ → ℕ → ℕ → ℕ → ℕ → ℕ → ℕ → Counts
-counts a b c d e f g h =
-    record { ins_least = a; ins_most = b; outs_least = c; outs_most = d; evtin_least = e; evtin_most = f; evtout_least = g; evtout_most = h }
+abbrev pub least_of : Count → ℕ → ℕ
+least_of (From a b) n = a
+least_of AsInputs n = n
 
--- of a block with n regular inputs
+abbrev pub most_of : Count → ℕ → ℕ
+most_of (From a b) n = b
+most_of AsInputs n = n
+
+-- the least and the most of each class, of a block with n regular inputs
 abbrev pub counts_of : Kind → ℕ → Counts
-counts_of Const n = counts 0 0 1 1 0 0 0 0
-counts_of Summation n = counts 2 64 1 1 0 1 0 0
-counts_of GainBlk n = counts 1 1 1 1 0 1 0 0
-counts_of Product n = counts 2 2 1 1 0 1 0 0
-counts_of AbsValue n = counts 1 1 1 1 0 1 0 0
-counts_of Signum n = counts 1 1 1 1 0 1 0 0
-counts_of MaxMin n = counts 2 64 1 1 0 1 0 0
-counts_of Saturation n = counts 1 1 1 1 0 1 0 0
-counts_of DeadBand n = counts 1 1 1 1 0 1 0 0
-counts_of Convert n = counts 1 1 1 1 0 1 0 0
-counts_of Mux n = counts 2 64 1 1 0 1 0 0
-counts_of Demux n = counts 1 1 2 64 0 1 0 0
-counts_of Extractor n = counts 1 1 1 1 0 1 0 0
-counts_of LogicalOp n = counts 1 64 1 1 0 1 0 0
-counts_of RelationalOp n = counts 2 2 1 1 0 1 0 0
-counts_of Shift n = counts 1 1 1 1 0 1 0 0
-counts_of BitSet n = counts 1 1 1 1 0 1 0 0
-counts_of BitClear n = counts 1 1 1 1 0 1 0 0
-counts_of ExtractBits n = counts 1 1 1 1 0 1 0 0
-counts_of Switch2 n = counts 3 3 1 1 0 1 0 0
-counts_of Select n = counts 2 8 1 1 n n 0 0
-counts_of Logic n = counts 1 8 1 8 0 1 0 0
-counts_of AndLog n = counts 0 0 1 1 2 2 0 0
-counts_of Dollar n = counts 1 1 1 1 0 1 0 0
-counts_of SampHold n = counts 1 1 1 1 0 1 0 0
-counts_of Register n = counts 1 1 1 1 0 1 0 0
-counts_of ModuloCount n = counts 0 0 1 1 1 1 0 0
-counts_of GatedDelay n = counts 2 2 1 1 0 1 0 0
-counts_of Sensor n = counts 0 0 1 1 1 1 0 0
-counts_of EvtDly n = counts 0 0 0 0 1 1 1 1
-counts_of EvtVarDly n = counts 1 1 0 0 1 1 1 1
-counts_of IfThEl n = counts 1 1 0 0 0 1 2 2
-counts_of ESelect n = counts 1 1 0 0 0 1 2 64
-counts_of Halt n = counts 0 0 0 0 1 1 0 0
+counts_of c n = record {
+  ins_least = least_of (form c).ins n;
+  ins_most = most_of (form c).ins n;
+  outs_least = least_of (form c).outs n;
+  outs_most = most_of (form c).outs n;
+  evtin_least = least_of (form c).evtin n;
+  evtin_most = most_of (form c).evtin n;
+  evtout_least = least_of (form c).evtout n;
+  evtout_most = most_of (form c).evtout n;
+}
 
--- ---- feedthrough, states, events
-
--- whether the kind has direct feedthrough from input k, counted from 1: its outputs or its branch depend on the input
-abbrev pub feeds : Kind → ℕ → Bool
-feeds Const k = false
-feeds Summation k = true
-feeds GainBlk k = true
-feeds Product k = true
-feeds AbsValue k = true
-feeds Signum k = true
-feeds MaxMin k = true
-feeds Saturation k = true
-feeds DeadBand k = true
-feeds Convert k = true
-feeds Mux k = true
-feeds Demux k = true
-feeds Extractor k = true
-feeds LogicalOp k = true
-feeds RelationalOp k = true
-feeds Shift k = true
-feeds BitSet k = true
-feeds BitClear k = true
-feeds ExtractBits k = true
-feeds Switch2 k = true
-feeds Select k = true
-feeds Logic k = true
-feeds AndLog k = false
-feeds Dollar k = false
-feeds SampHold k = true
-feeds Register k = false
-feeds ModuloCount k = false
-feeds GatedDelay k = nat_eq k 2
-feeds Sensor k = false
-feeds EvtDly k = false
-feeds EvtVarDly k = false
-feeds IfThEl k = true
-feeds ESelect k = true
-feeds Halt k = false
+-- ---- feedthrough
 
 -- input k, counted from 0, has no feedthrough by the kind
 abbrev pub unfed : Kind → ℕ → Bool
@@ -105,25 +61,6 @@ own_feed c (suc n) = own_feed c n ++ feeds c (suc n) ∷ []
 -- these truths give input k, counted from 0, the feedthrough that the kind has
 abbrev pub fed : Kind → List Bool → ℕ → Bool
 fed c ts k = truth_at ts k || unfed c k
-
-abbrev pub is_sync : Kind → Bool
-is_sync IfThEl = true
-is_sync ESelect = true
-is_sync _ = false
-
--- whether the kind's activation outputs are programmed with a delay
-abbrev pub has_delay : Kind → Bool
-has_delay EvtDly = true
-has_delay EvtVarDly = true
-has_delay _ = false
-
--- whether the kind has a state, given in `dstate`
-abbrev pub has_state : Kind → Bool
-has_state Dollar = true
-has_state Register = true
-has_state ModuloCount = true
-has_state GatedDelay = true
-has_state _ = false
 
 -- ---- values of parameters
 
@@ -143,70 +80,70 @@ is_sign v = int_eq v (pos 1) || int_eq v (negsuc 0)
 abbrev pub is_operation : ℕ → ℤ → Bool
 is_operation n v = if nat_eq n 1 then int_eq v (pos 5) else between (pos 0) (pos 4) v
 
+abbrev pub has_count : ParamCount → ℕ → ℕ → ℕ → Bool
+has_count (Exactly k) n m len = nat_eq len k
+has_count PerElement n m len = nat_le 1 len
+has_count PerRow n m len = nat_le 1 len && nat_le len 256
+has_count BehindOne n m len = nat_eq len (n + 1)
+has_count Truths n m len = nat_eq len (2 ^ n * m)
+
 -- the number of parameters, of a block with n inputs and m outputs
 abbrev pub params_len_ok : Kind → ℕ → ℕ → ℕ → Bool
-params_len_ok Const n m len = nat_le 1 len
-params_len_ok Summation n m len = nat_eq len (n + 1)
-params_len_ok GainBlk n m len = nat_eq len 2
-params_len_ok Product n m len = nat_eq len 2
-params_len_ok AbsValue n m len = nat_eq len 1
-params_len_ok MaxMin n m len = nat_eq len 1
-params_len_ok Saturation n m len = nat_eq len 2
-params_len_ok DeadBand n m len = nat_eq len 3
-params_len_ok Convert n m len = nat_eq len 1
-params_len_ok Extractor n m len = nat_le 1 len && nat_le len 256
-params_len_ok LogicalOp n m len = nat_eq len 2
-params_len_ok RelationalOp n m len = nat_eq len 1
-params_len_ok Shift n m len = nat_eq len 2
-params_len_ok BitSet n m len = nat_eq len 1
-params_len_ok BitClear n m len = nat_eq len 1
-params_len_ok ExtractBits n m len = nat_eq len 2
-params_len_ok Switch2 n m len = nat_eq len 2
-params_len_ok Logic n m len = nat_eq len (2 ^ n * m)
-params_len_ok ModuloCount n m len = nat_eq len 1
-params_len_ok Sensor n m len = nat_eq len 1
-params_len_ok EvtDly n m len = nat_eq len 1
-params_len_ok _ n m len = nat_eq len 0
+params_len_ok c n m len = has_count (form c).params.count n m len
+
+-- what holds of parameter k, counted from 0, by what it is
+abbrev pub by_place : {A : Type 0} → (Param → A) → Params → ℕ → A
+by_place f ps k = if nat_eq k 0 then f ps.first else if nat_eq k 1 then f ps.second else f ps.third
+
+-- number k of ps is such a parameter, of a block with n inputs
+abbrev pub is_param : ℕ → List ℤ → ℕ → Param → Bool
+is_param n ps k Any = true
+is_param n ps k (Between low high) = between low high (at ps k)
+is_param n ps k Mode = is_mode (at ps k)
+is_param n ps k Sign = is_sign (at ps k)
+is_param n ps k Flag = is_flag (at ps k)
+is_param n ps k Value = true
+is_param n ps k High = int_le (at ps (k - 1)) (at ps k)
+is_param n ps k Element = int_le (pos 1) (at ps k)
+is_param n ps k Operation = is_operation n (at ps k)
+is_param n ps k Places = between (negsuc 30) (pos 31) (at ps k)
+is_param n ps k Bit = between (pos 0) (pos 31) (at ps k)
+is_param n ps k LastBit = between (pos 0) (pos 31) (at ps k) && int_le (at ps (k - 1)) (at ps k)
+is_param n ps k Base = between (pos 1) (pos 2147483647) (at ps k)
 
 -- parameter k of ps, counted from 0, of a block with n inputs
 abbrev pub param_ok : Kind → ℕ → List ℤ → ℕ → Bool
-param_ok Summation n ps k = if nat_eq k 0 then is_mode (at ps k) else is_sign (at ps k)
-param_ok GainBlk n ps k = if nat_eq k 0 then is_mode (at ps k) else true
-param_ok Product n ps k = if nat_eq k 0 then is_mode (at ps k) else is_sign (at ps k)
-param_ok AbsValue n ps k = is_mode (at ps k)
-param_ok MaxMin n ps k = between (pos 1) (pos 2) (at ps k)
-param_ok Saturation n ps k = if nat_eq k 1 then int_le (at ps 0) (at ps k) else true
-param_ok DeadBand n ps k =
-    if nat_eq k 0 then is_mode (at ps k) else if nat_eq k 2 then int_le (at ps 1) (at ps k) else true
-param_ok Convert n ps k = is_mode (at ps k)
-param_ok Extractor n ps k = int_le (pos 1) (at ps k)
-param_ok LogicalOp n ps k = if nat_eq k 0 then is_operation n (at ps k) else is_flag (at ps k)
-param_ok RelationalOp n ps k = between (pos 0) (pos 5) (at ps k)
-param_ok Shift n ps k = if nat_eq k 0 then between (negsuc 30) (pos 31) (at ps k) else is_flag (at ps k)
-param_ok BitSet n ps k = between (pos 0) (pos 31) (at ps k)
-param_ok BitClear n ps k = between (pos 0) (pos 31) (at ps k)
-param_ok ExtractBits n ps k =
-    if nat_eq k 0 then between (pos 0) (pos 31) (at ps k) else between (pos 0) (pos 31) (at ps k) && int_le (at ps 0) (at ps k)
-param_ok Switch2 n ps k =
-    if nat_eq k 0 then between (pos 0) (pos 2) (at ps k) else between (negsuc 2147483647) (pos 4294967295) (at ps k)
-param_ok Logic n ps k = is_flag (at ps k)
-param_ok ModuloCount n ps k = between (pos 1) (pos 2147483647) (at ps k)
-param_ok Sensor n ps k = between (pos 1) (pos 255) (at ps k)
-param_ok EvtDly n ps k = between (negsuc 0) (pos 2147483647) (at ps k)
-param_ok _ n ps k = true
+param_ok c n ps k = by_place (is_param n ps k) (form c).params k
+
+-- ---- states
+
+abbrev pub has_state_count : Role → ℕ → Bool
+has_state_count (State Elements) len = nat_le 1 len
+has_state_count (State Moving) len = nat_le 1 len && nat_le len 256
+has_state_count (State Counter) len = nat_eq len 1
+has_state_count Values len = true
+has_state_count Delay len = true
+has_state_count Branch len = true
+has_state_count Senses len = true
+has_state_count Halts len = true
 
 -- the number of values of the state
 abbrev pub state_len_ok : Kind → ℕ → Bool
-state_len_ok Dollar len = nat_le 1 len
-state_len_ok Register len = nat_le 1 len && nat_le len 256
-state_len_ok ModuloCount len = nat_eq len 1
-state_len_ok GatedDelay len = nat_le 1 len
-state_len_ok _ len = true
+state_len_ok c len = has_state_count (role_of c) len
+
+abbrev pub is_state_value : Role → List ℤ → List ℤ → ℕ → Bool
+is_state_value (State Elements) ps xs k = true
+is_state_value (State Moving) ps xs k = true
+is_state_value (State Counter) ps xs k = int_le (pos 0) (at xs k) && int_lt (at xs k) (at ps 0)
+is_state_value Values ps xs k = true
+is_state_value Delay ps xs k = true
+is_state_value Branch ps xs k = true
+is_state_value Senses ps xs k = true
+is_state_value Halts ps xs k = true
 
 -- value k of the state xs, of a block with parameters ps
 abbrev pub state_ok : Kind → List ℤ → List ℤ → ℕ → Bool
-state_ok ModuloCount ps xs k = int_le (pos 0) (at xs k) && int_lt (at xs k) (at ps 0)
-state_ok _ ps xs k = true
+state_ok c ps xs k = is_state_value (role_of c) ps xs k
 
 -- the first date of an activation output
 abbrev pub firing_ok : ℤ → Bool
@@ -218,24 +155,38 @@ firing_ok v = int_le v (pos 2147483647)
 abbrev pub first_port : Spec → Port
 first_port s = if nat_eq (length s.ins) 0 then port_at s.outs 0 else port_at s.ins 0
 
+abbrev pub any_input : Types → ℕ → Bool
+any_input OneType k = false
+any_input AnyOutput k = false
+any_input AnySecond k = nat_eq k 1
+any_input AnyTypes k = true
+any_input Int32 k = false
+
 -- whether input k may be of any type
 abbrev pub any_in : Kind → ℕ → Bool
-any_in Switch2 k = nat_eq k 1
-any_in GatedDelay k = nat_eq k 1
-any_in Logic k = true
-any_in _ k = false
+any_in c k = any_input (form c).types k
+
+abbrev pub any_output : Types → Bool
+any_output OneType = false
+any_output AnyOutput = true
+any_output AnySecond = false
+any_output AnyTypes = true
+any_output Int32 = false
 
 -- whether the outputs may be of any type
 abbrev pub any_out : Kind → Bool
-any_out Convert = true
-any_out RelationalOp = true
-any_out Logic = true
-any_out _ = false
+any_out c = any_output (form c).types
+
+abbrev pub type_by : Types → ℤ → ℤ
+type_by OneType t = t
+type_by AnyOutput t = t
+type_by AnySecond t = t
+type_by AnyTypes t = t
+type_by Int32 t = pos 3
 
 -- the code of the type that a kind takes at its other ports
 abbrev pub type_wanted : Kind → Spec → ℤ
-type_wanted AndLog s = pos 3
-type_wanted _ s = (first_port s).ty
+type_wanted c s = type_by (form c).types (first_port s).ty
 
 abbrev pub in_type_ok : Kind → Spec → ℕ → Bool
 in_type_ok c s k = any_in c k || int_eq (port_at s.ins k).ty (type_wanted c s)
@@ -243,25 +194,39 @@ in_type_ok c s k = any_in c k || int_eq (port_at s.ins k).ty (type_wanted c s)
 abbrev pub out_type_ok : Kind → Spec → ℕ → Bool
 out_type_ok c s k = any_out c || int_eq (port_at s.outs k).ty (type_wanted c s)
 
+-- whether a value of such a parameter suits a type
+abbrev pub suits : Ty → ℤ → Param → Bool
+suits t v Any = true
+suits t v (Between low high) = true
+suits t v Mode = true
+suits t v Sign = true
+suits t v Flag = true
+suits t v Value = in_range t v
+suits t v High = in_range t v
+suits t v Element = true
+suits t v Operation = true
+suits t v Places = nat_lt (unsigned_abs v) (width t)
+suits t v Bit = int_lt v (pos (width t))
+suits t v LastBit = int_lt v (pos (width t))
+suits t v Base = in_range t (v -ℤ pos 1)
+
 -- whether parameter k, of value v, suits the type of the first output
 abbrev pub param_fits : Kind → Ty → ℕ → ℤ → Bool
-param_fits Const t k v = in_range t v
-param_fits GainBlk t k v = nat_eq k 0 || in_range t v
-param_fits Saturation t k v = in_range t v
-param_fits DeadBand t k v = nat_eq k 0 || in_range t v
-param_fits Shift t k v = not (nat_eq k 0) || nat_lt (unsigned_abs v) (width t)
-param_fits BitSet t k v = int_lt v (pos (width t))
-param_fits BitClear t k v = int_lt v (pos (width t))
-param_fits ExtractBits t k v = nat_eq k 0 || int_lt v (pos (width t))
-param_fits ModuloCount t k v = in_range t (v -ℤ pos 1)
-param_fits _ t k v = true
+param_fits c t k v = by_place (suits t v) (form c).params k
+
+abbrev pub suits_state : Role → Ty → ℤ → Bool
+suits_state (State Elements) t v = in_range t v
+suits_state (State Moving) t v = in_range t v
+suits_state (State Counter) t v = true
+suits_state Values t v = true
+suits_state Delay t v = true
+suits_state Branch t v = true
+suits_state Senses t v = true
+suits_state Halts t v = true
 
 -- whether a value of the state suits the type of the first output
 abbrev pub state_fits : Kind → Ty → ℤ → Bool
-state_fits Dollar t v = in_range t v
-state_fits Register t v = in_range t v
-state_fits GatedDelay t v = in_range t v
-state_fits _ t v = true
+state_fits c t v = suits_state (role_of c) t v
 
 -- ---- sizes
 
@@ -275,53 +240,84 @@ same_size p q = int_eq p.rows q.rows && int_eq p.cols q.cols
 abbrev pub is_column : ℤ → Port → Bool
 is_column n p = int_eq p.cols (pos 1) && int_eq p.rows n
 
--- whether all ports of the kind are scalars
-abbrev pub all_scalar : Kind → Bool
-all_scalar Logic = true
-all_scalar AndLog = true
-all_scalar Register = true
-all_scalar ModuloCount = true
-all_scalar Sensor = true
-all_scalar EvtVarDly = true
-all_scalar IfThEl = true
-all_scalar ESelect = true
-all_scalar _ = false
+-- p is a scalar where all ports are, and else of the size of the first port
+abbrev pub as_first : Sizes → Spec → Port → Bool
+as_first Scalars s p = is_scalar p
+as_first OneSize s p = same_size p (first_port s)
+as_first ScalarSecond s p = same_size p (first_port s)
+as_first Stacked s p = same_size p (first_port s)
+as_first Cut s p = same_size p (first_port s)
+as_first Chosen s p = same_size p (first_port s)
 
-abbrev pub as_first : Kind → Spec → Port → Bool
-as_first c s p = if all_scalar c then is_scalar p else same_size p (first_port s)
+abbrev pub input_size : Sizes → Spec → ℕ → Bool
+input_size OneSize s k = as_first OneSize s (port_at s.ins k)
+input_size Scalars s k = as_first Scalars s (port_at s.ins k)
+input_size ScalarSecond s k = if nat_eq k 1 then is_scalar (port_at s.ins k) else same_size (port_at s.ins k) (first_port s)
+input_size Stacked s k = int_eq (port_at s.ins k).cols (pos 1)
+input_size Cut s k = is_column (sum_rows s.outs) (port_at s.ins k)
+input_size Chosen s k = true
 
 abbrev pub in_size_ok : Kind → Spec → ℕ → Bool
-in_size_ok Mux s k = int_eq (port_at s.ins k).cols (pos 1)
-in_size_ok Demux s k = is_column (sum_rows s.outs) (port_at s.ins k)
-in_size_ok Extractor s k = true
-in_size_ok Switch2 s k = if nat_eq k 1 then is_scalar (port_at s.ins k) else same_size (port_at s.ins k) (first_port s)
-in_size_ok GatedDelay s k = if nat_eq k 1 then is_scalar (port_at s.ins k) else same_size (port_at s.ins k) (first_port s)
-in_size_ok c s k = as_first c s (port_at s.ins k)
+in_size_ok c s k = input_size (form c).sizes s k
+
+abbrev pub output_size : Sizes → Spec → ℕ → Bool
+output_size OneSize s k = as_first OneSize s (port_at s.outs k)
+output_size Scalars s k = as_first Scalars s (port_at s.outs k)
+output_size ScalarSecond s k = as_first ScalarSecond s (port_at s.outs k)
+output_size Stacked s k = is_column (sum_rows s.ins) (port_at s.outs k)
+output_size Cut s k = int_eq (port_at s.outs k).cols (pos 1)
+output_size Chosen s k = is_column (pos (length s.params)) (port_at s.outs k)
 
 abbrev pub out_size_ok : Kind → Spec → ℕ → Bool
-out_size_ok Mux s k = is_column (sum_rows s.ins) (port_at s.outs k)
-out_size_ok Demux s k = int_eq (port_at s.outs k).cols (pos 1)
-out_size_ok Extractor s k = is_column (pos (length s.params)) (port_at s.outs k)
-out_size_ok c s k = as_first c s (port_at s.outs k)
+out_size_ok c s k = output_size (form c).sizes s k
 
 -- one value for all elements, or one for each
 abbrev pub is_spread : ℕ → ℕ → Bool
 is_spread len n = nat_eq len 1 || nat_eq len n
 
+abbrev pub spreads : ParamCount → Spec → Bool
+spreads (Exactly k) s = true
+spreads PerElement s = is_spread (length s.params) (elements (port_at s.outs 0))
+spreads PerRow s = true
+spreads BehindOne s = true
+spreads Truths s = true
+
 -- whether as many parameters as the ports want
 abbrev pub params_spread : Kind → Spec → Bool
-params_spread Const s = is_spread (length s.params) (elements (port_at s.outs 0))
-params_spread _ s = true
+params_spread c s = spreads (form c).params.count s
+
+abbrev pub spreads_state : Role → Spec → Bool
+spreads_state (State Elements) s = is_spread (length s.state) (elements (port_at s.outs 0))
+spreads_state (State Moving) s = true
+spreads_state (State Counter) s = true
+spreads_state Values s = true
+spreads_state Delay s = true
+spreads_state Branch s = true
+spreads_state Senses s = true
+spreads_state Halts s = true
 
 abbrev pub state_spread : Kind → Spec → Bool
-state_spread Dollar s = is_spread (length s.state) (elements (port_at s.outs 0))
-state_spread GatedDelay s = is_spread (length s.state) (elements (port_at s.outs 0))
-state_spread _ s = true
+state_spread c s = spreads_state (role_of c) s
+
+-- where such a parameter names an element, the input has it
+abbrev pub names_element : Spec → ℕ → Param → Bool
+names_element s k Element = int_le (at s.params k) (pos (elements (port_at s.ins 0)))
+names_element s k Any = true
+names_element s k (Between low high) = true
+names_element s k Mode = true
+names_element s k Sign = true
+names_element s k Flag = true
+names_element s k Value = true
+names_element s k High = true
+names_element s k Operation = true
+names_element s k Places = true
+names_element s k Bit = true
+names_element s k LastBit = true
+names_element s k Base = true
 
 -- whether parameter k names an element of the input
 abbrev pub index_ok : Kind → Spec → ℕ → Bool
-index_ok Extractor s k = int_le (at s.params k) (pos (elements (port_at s.ins 0)))
-index_ok _ s k = true
+index_ok c s k = by_place (names_element s k) (form c).params k
 
 -- ---- searches
 

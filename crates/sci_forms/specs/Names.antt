@@ -152,3 +152,7 @@ kind_at n =
     if nat_eq n 33 then Some ESelect else
     if nat_eq n 34 then Some Halt else
     None
+
+-- how many kinds there are
+abbrev pub kinds : ℕ
+kinds = 34

@@ -9,7 +9,8 @@ use Rattle.sci_forms.specs.Ports.{port_at, elements, type_of}
 use Rattle.sci_base.specs.declared.refusal.Rule.TheVariants.{TypeNotHere, ShapeRule}
 use Rattle.sci_forms.specs.declared.broken.Broken.{Broken}
 use Rattle.sci_forms.specs.declared.broken.Detail.TheVariants.{Triple}
-use Rattle.sci_forms.specs.Forms.{or_else, unless, first_not, given, all_to, within, counts_of, fed, has_delay, has_state, between, params_len_ok, param_ok, state_len_ok, state_ok, firing_ok, in_type_ok, out_type_ok, param_fits, state_fits, in_size_ok, out_size_ok, params_spread, state_spread, index_ok}
+use Rattle.sci_forms.specs.Forms.{or_else, unless, first_not, given, all_to, within, counts_of, fed, between, params_len_ok, param_ok, state_len_ok, state_ok, firing_ok, in_type_ok, out_type_ok, param_fits, state_fits, in_size_ok, out_size_ok, params_spread, state_spread, index_ok}
+use Rattle.sci_forms.specs.Form.{has_delay, has_state}
 
 -- ---- types and sizes of a spec whose ports are known
 

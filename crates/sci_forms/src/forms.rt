@@ -1,9 +1,10 @@
-// The kinds' names, numbers and forms.
+// The kinds' names and numbers, and their counts of ports.
 ghost use Rattle.std.specs.Prelude.{◌≡◌, IsTrue};
 ghost use Rattle.sci_forms.specs.Names.{name_of, number_of, by_name, kind_at};
-ghost use Rattle.sci_forms.specs.Forms.{is_sync, feeds, has_delay, has_state, counts_of, counts};
+ghost use Rattle.sci_forms.specs.Forms.{counts_of, least_of, most_of};
 
 use crate::Kind;
+use crate::form::Count;
 
 /// The least and the most of each class of ports.
 #[derive(Clone, Copy, Debug, Drop, PartialEq, Eq)]
@@ -17,6 +18,9 @@ pub struct Counts {
     pub evtout_least: usize,
     pub evtout_most: usize,
 }
+
+/// How many kinds there are.
+pub const KINDS: u8 = 34;
 
 impl Kind {
     /// The kind of a name.
@@ -189,239 +193,40 @@ impl Kind {
         }
     }
 
-    /// Whether the kind chooses a branch.
-    pub fn is_sync(self) -> bool
-        ensures { result ≡ is_sync self }
-    {
-        match self {
-            Kind::IfThEl | Kind::ESelect => true,
-            Kind::Const
-            | Kind::Summation
-            | Kind::GainBlk
-            | Kind::Product
-            | Kind::AbsValue
-            | Kind::Signum
-            | Kind::MaxMin
-            | Kind::Saturation
-            | Kind::DeadBand
-            | Kind::Convert
-            | Kind::Mux
-            | Kind::Demux
-            | Kind::Extractor
-            | Kind::LogicalOp
-            | Kind::RelationalOp
-            | Kind::Shift
-            | Kind::BitSet
-            | Kind::BitClear
-            | Kind::ExtractBits
-            | Kind::Switch2
-            | Kind::Select
-            | Kind::Logic
-            | Kind::AndLog
-            | Kind::Dollar
-            | Kind::SampHold
-            | Kind::Register
-            | Kind::ModuloCount
-            | Kind::GatedDelay
-            | Kind::Sensor
-            | Kind::EvtDly
-            | Kind::EvtVarDly
-            | Kind::Halt => false,
-        }
-    }
-
-    /// Whether the kind has direct feedthrough from an input, counted from 1: within a reaction its outputs, or the branch that it
-    /// takes, depend on the input's value.
-    pub fn feeds(self, input: u32) -> bool
-        ensures { result ≡ feeds self input }
-    {
-        self.feeds_at(input as usize)
-    }
-
-    pub(crate) fn feeds_at(self, input: usize) -> bool
-        ensures { result ≡ feeds self input }
-    {
-        match self {
-            Kind::Const
-            | Kind::AndLog
-            | Kind::Dollar
-            | Kind::Register
-            | Kind::ModuloCount
-            | Kind::Sensor
-            | Kind::EvtDly
-            | Kind::EvtVarDly
-            | Kind::Halt => false,
-            Kind::GatedDelay => input == 2,
-            Kind::Summation
-            | Kind::GainBlk
-            | Kind::Product
-            | Kind::AbsValue
-            | Kind::Signum
-            | Kind::MaxMin
-            | Kind::Saturation
-            | Kind::DeadBand
-            | Kind::Convert
-            | Kind::Mux
-            | Kind::Demux
-            | Kind::Extractor
-            | Kind::LogicalOp
-            | Kind::RelationalOp
-            | Kind::Shift
-            | Kind::BitSet
-            | Kind::BitClear
-            | Kind::ExtractBits
-            | Kind::Switch2
-            | Kind::Select
-            | Kind::Logic
-            | Kind::SampHold
-            | Kind::IfThEl
-            | Kind::ESelect => true,
-        }
-    }
-
-    /// Whether the kind's activation outputs have a delay.
-    pub fn has_delay(self) -> bool
-        ensures { result ≡ has_delay self }
-    {
-        match self {
-            Kind::EvtDly | Kind::EvtVarDly => true,
-            Kind::Const
-            | Kind::Summation
-            | Kind::GainBlk
-            | Kind::Product
-            | Kind::AbsValue
-            | Kind::Signum
-            | Kind::MaxMin
-            | Kind::Saturation
-            | Kind::DeadBand
-            | Kind::Convert
-            | Kind::Mux
-            | Kind::Demux
-            | Kind::Extractor
-            | Kind::LogicalOp
-            | Kind::RelationalOp
-            | Kind::Shift
-            | Kind::BitSet
-            | Kind::BitClear
-            | Kind::ExtractBits
-            | Kind::Switch2
-            | Kind::Select
-            | Kind::Logic
-            | Kind::AndLog
-            | Kind::Dollar
-            | Kind::SampHold
-            | Kind::Register
-            | Kind::ModuloCount
-            | Kind::GatedDelay
-            | Kind::Sensor
-            | Kind::IfThEl
-            | Kind::ESelect
-            | Kind::Halt => false,
-        }
-    }
-
-    /// Whether the kind has a state.
-    pub fn has_state(self) -> bool
-        ensures { result ≡ has_state self }
-    {
-        match self {
-            Kind::Dollar | Kind::Register | Kind::ModuloCount | Kind::GatedDelay => true,
-            Kind::Const
-            | Kind::Summation
-            | Kind::GainBlk
-            | Kind::Product
-            | Kind::AbsValue
-            | Kind::Signum
-            | Kind::MaxMin
-            | Kind::Saturation
-            | Kind::DeadBand
-            | Kind::Convert
-            | Kind::Mux
-            | Kind::Demux
-            | Kind::Extractor
-            | Kind::LogicalOp
-            | Kind::RelationalOp
-            | Kind::Shift
-            | Kind::BitSet
-            | Kind::BitClear
-            | Kind::ExtractBits
-            | Kind::Switch2
-            | Kind::Select
-            | Kind::Logic
-            | Kind::AndLog
-            | Kind::SampHold
-            | Kind::Sensor
-            | Kind::EvtDly
-            | Kind::EvtVarDly
-            | Kind::IfThEl
-            | Kind::ESelect
-            | Kind::Halt => false,
-        }
-    }
-
     /// The counts of ports, of a block with `n` regular inputs.
     pub fn counts(self, n: usize) -> Counts
         ensures { result ≡ counts_of self n }
     {
-        match self {
-            Kind::Const => make_counts(0, 0, 1, 1, 0, 0, 0, 0),
-            Kind::Summation => make_counts(2, 64, 1, 1, 0, 1, 0, 0),
-            Kind::GainBlk => make_counts(1, 1, 1, 1, 0, 1, 0, 0),
-            Kind::Product => make_counts(2, 2, 1, 1, 0, 1, 0, 0),
-            Kind::AbsValue => make_counts(1, 1, 1, 1, 0, 1, 0, 0),
-            Kind::Signum => make_counts(1, 1, 1, 1, 0, 1, 0, 0),
-            Kind::MaxMin => make_counts(2, 64, 1, 1, 0, 1, 0, 0),
-            Kind::Saturation => make_counts(1, 1, 1, 1, 0, 1, 0, 0),
-            Kind::DeadBand => make_counts(1, 1, 1, 1, 0, 1, 0, 0),
-            Kind::Convert => make_counts(1, 1, 1, 1, 0, 1, 0, 0),
-            Kind::Mux => make_counts(2, 64, 1, 1, 0, 1, 0, 0),
-            Kind::Demux => make_counts(1, 1, 2, 64, 0, 1, 0, 0),
-            Kind::Extractor => make_counts(1, 1, 1, 1, 0, 1, 0, 0),
-            Kind::LogicalOp => make_counts(1, 64, 1, 1, 0, 1, 0, 0),
-            Kind::RelationalOp => make_counts(2, 2, 1, 1, 0, 1, 0, 0),
-            Kind::Shift => make_counts(1, 1, 1, 1, 0, 1, 0, 0),
-            Kind::BitSet => make_counts(1, 1, 1, 1, 0, 1, 0, 0),
-            Kind::BitClear => make_counts(1, 1, 1, 1, 0, 1, 0, 0),
-            Kind::ExtractBits => make_counts(1, 1, 1, 1, 0, 1, 0, 0),
-            Kind::Switch2 => make_counts(3, 3, 1, 1, 0, 1, 0, 0),
-            Kind::Select => make_counts(2, 8, 1, 1, n, n, 0, 0),
-            Kind::Logic => make_counts(1, 8, 1, 8, 0, 1, 0, 0),
-            Kind::AndLog => make_counts(0, 0, 1, 1, 2, 2, 0, 0),
-            Kind::Dollar => make_counts(1, 1, 1, 1, 0, 1, 0, 0),
-            Kind::SampHold => make_counts(1, 1, 1, 1, 0, 1, 0, 0),
-            Kind::Register => make_counts(1, 1, 1, 1, 0, 1, 0, 0),
-            Kind::ModuloCount => make_counts(0, 0, 1, 1, 1, 1, 0, 0),
-            Kind::GatedDelay => make_counts(2, 2, 1, 1, 0, 1, 0, 0),
-            Kind::Sensor => make_counts(0, 0, 1, 1, 1, 1, 0, 0),
-            Kind::EvtDly => make_counts(0, 0, 0, 0, 1, 1, 1, 1),
-            Kind::EvtVarDly => make_counts(1, 1, 0, 0, 1, 1, 1, 1),
-            Kind::IfThEl => make_counts(1, 1, 0, 0, 0, 1, 2, 2),
-            Kind::ESelect => make_counts(1, 1, 0, 0, 0, 1, 2, 64),
-            Kind::Halt => make_counts(0, 0, 0, 0, 1, 1, 0, 0),
+        let form = self.form();
+        Counts {
+            ins_least: least(form.ins, n),
+            ins_most: most(form.ins, n),
+            outs_least: least(form.outs, n),
+            outs_most: most(form.outs, n),
+            evtin_least: least(form.evtin, n),
+            evtin_most: most(form.evtin, n),
+            evtout_least: least(form.evtout, n),
+            evtout_most: most(form.evtout, n),
         }
     }
 }
 
-fn make_counts(
-    a: usize,
-    b: usize,
-    c: usize,
-    d: usize,
-    e: usize,
-    f: usize,
-    g: usize,
-    h: usize,
-) -> Counts
-    ensures { result ≡ counts a b c d e f g h }
+/// The least of a class of ports, of a block with `n` regular inputs.
+fn least(count: Count, n: usize) -> usize
+    ensures { result ≡ least_of count n }
 {
-    Counts {
-        ins_least: a,
-        ins_most: b,
-        outs_least: c,
-        outs_most: d,
-        evtin_least: e,
-        evtin_most: f,
-        evtout_least: g,
-        evtout_most: h,
+    match count {
+        Count::Between(least, _) => least,
+        Count::AsInputs => n,
+    }
+}
+
+/// The most of a class of ports, of a block with `n` regular inputs.
+fn most(count: Count, n: usize) -> usize
+    ensures { result ≡ most_of count n }
+{
+    match count {
+        Count::Between(_, most) => most,
+        Count::AsInputs => n,
     }
 }

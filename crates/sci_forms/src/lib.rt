@@ -3,6 +3,7 @@
 #![tactic(auto)]
 
 mod broken;
+pub mod form;
 mod forms;
 mod ports;
 mod search;
@@ -11,7 +12,8 @@ mod typed;
 pub mod values;
 
 pub use broken::{Broken, Detail};
-pub use forms::Counts;
+pub use form::{Form, Memory, Role};
+pub use forms::{Counts, KINDS};
 pub use ports::{Port, Ports};
 pub use search::first_failing;
 pub use spec::Spec;

@@ -3,17 +3,20 @@ ghost use Rattle.std.specs.Prelude.{◌≡◌, ◌<◌, ◌≤◌, ◌^◌, ◌+
 ghost use Rattle.sci_base.specs.Fit.{in_range, int_eq, width};
 ghost use Rattle.sci_base.specs.Lists.{at};
 ghost use Rattle.sci_forms.specs.Ports.{port_at, elements, type_of, sum_rows};
-ghost use Rattle.sci_forms.specs.Forms.{first_not, counts_of, has_state, has_delay, state_len_ok, firing_ok, first_port, any_in, any_out, type_wanted, in_type_ok, out_type_ok, param_fits, state_fits, is_scalar, same_size, is_column, all_scalar, as_first, in_size_ok, out_size_ok, is_spread, params_spread, state_spread, index_ok};
-ghost use Rattle.sci_forms.specs.Words.{state_len_of};
+ghost use Rattle.sci_forms.specs.Forms.{first_not, counts_of, state_len_ok, firing_ok, first_port, any_in, any_out, type_wanted, in_type_ok, out_type_ok, param_fits, state_fits, is_scalar, same_size, is_column, as_first, suits, in_size_ok, out_size_ok, is_spread, params_spread, state_spread, names_element, index_ok};
+ghost use Rattle.sci_forms.specs.Form.{has_state, has_delay};
+ghost use Rattle.sci_forms.specs.Words.{state_len_of, held_of};
 ghost use Rattle.sci_forms.specs.Typed.{is_known, known_in, known_out, known_of, param_fits_at, state_fits_at, types_broken_of, sizes_broken_of, type_not_here, value_not_here, wrong_size, wrong_shape, formed_of, feed_ok, counted, typed};
 
 use crate::Kind;
 use crate::broken::{Broken, Detail};
+use crate::form::{Memory, Param, ParamCount, Role, Sizes, Types};
 use crate::ports::Port;
 use crate::search::first_failing;
 use crate::spec::Spec;
 use crate::values::{
-    between, first_param, first_state, first_unfed, is_equal, params_len_ok, state_len_ok, within,
+    between, first_param, first_state, first_unfed, is_equal, param_at, params_len_ok,
+    state_len_ok, within,
 };
 use sci_base::{Rule, Ty};
 
@@ -30,120 +33,28 @@ fn first_port(s: &Spec) -> Port
 fn any_in(kind: Kind, k: usize) -> bool
     ensures { result ≡ any_in kind k }
 {
-    match kind {
-        Kind::Switch2 | Kind::GatedDelay => k == 1,
-        Kind::Logic => true,
-        Kind::Const
-        | Kind::Summation
-        | Kind::GainBlk
-        | Kind::Product
-        | Kind::AbsValue
-        | Kind::Signum
-        | Kind::MaxMin
-        | Kind::Saturation
-        | Kind::DeadBand
-        | Kind::Convert
-        | Kind::Mux
-        | Kind::Demux
-        | Kind::Extractor
-        | Kind::LogicalOp
-        | Kind::RelationalOp
-        | Kind::Shift
-        | Kind::BitSet
-        | Kind::BitClear
-        | Kind::ExtractBits
-        | Kind::Select
-        | Kind::AndLog
-        | Kind::Dollar
-        | Kind::SampHold
-        | Kind::Register
-        | Kind::ModuloCount
-        | Kind::Sensor
-        | Kind::EvtDly
-        | Kind::EvtVarDly
-        | Kind::IfThEl
-        | Kind::ESelect
-        | Kind::Halt => false,
+    match kind.form().types {
+        Types::Any => true,
+        Types::AnySecond => k == 1,
+        Types::Alike | Types::AnyOutput | Types::Int32 => false,
     }
 }
 
 fn any_out(kind: Kind) -> bool
     ensures { result ≡ any_out kind }
 {
-    match kind {
-        Kind::Convert | Kind::RelationalOp | Kind::Logic => true,
-        Kind::Const
-        | Kind::Summation
-        | Kind::GainBlk
-        | Kind::Product
-        | Kind::AbsValue
-        | Kind::Signum
-        | Kind::MaxMin
-        | Kind::Saturation
-        | Kind::DeadBand
-        | Kind::Mux
-        | Kind::Demux
-        | Kind::Extractor
-        | Kind::LogicalOp
-        | Kind::Shift
-        | Kind::BitSet
-        | Kind::BitClear
-        | Kind::ExtractBits
-        | Kind::Switch2
-        | Kind::Select
-        | Kind::AndLog
-        | Kind::Dollar
-        | Kind::SampHold
-        | Kind::Register
-        | Kind::ModuloCount
-        | Kind::GatedDelay
-        | Kind::Sensor
-        | Kind::EvtDly
-        | Kind::EvtVarDly
-        | Kind::IfThEl
-        | Kind::ESelect
-        | Kind::Halt => false,
+    match kind.form().types {
+        Types::Any | Types::AnyOutput => true,
+        Types::Alike | Types::AnySecond | Types::Int32 => false,
     }
 }
 
 fn type_wanted(s: &Spec) -> i64
     ensures { result ≡ type_wanted s.now.kind s.now }
 {
-    match s.kind {
-        Kind::AndLog => 3,
-        Kind::Const
-        | Kind::Summation
-        | Kind::GainBlk
-        | Kind::Product
-        | Kind::AbsValue
-        | Kind::Signum
-        | Kind::MaxMin
-        | Kind::Saturation
-        | Kind::DeadBand
-        | Kind::Convert
-        | Kind::Mux
-        | Kind::Demux
-        | Kind::Extractor
-        | Kind::LogicalOp
-        | Kind::RelationalOp
-        | Kind::Shift
-        | Kind::BitSet
-        | Kind::BitClear
-        | Kind::ExtractBits
-        | Kind::Switch2
-        | Kind::Select
-        | Kind::Logic
-        | Kind::Dollar
-        | Kind::SampHold
-        | Kind::Register
-        | Kind::ModuloCount
-        | Kind::GatedDelay
-        | Kind::Sensor
-        | Kind::EvtDly
-        | Kind::EvtVarDly
-        | Kind::IfThEl
-        | Kind::ESelect
-        | Kind::Halt => first_port(s).ty,
+    match s.kind.form().types {
+        Types::Int32 => 3,
+        Types::Alike | Types::AnyOutput | Types::AnySecond | Types::Any => first_port(s).ty,
     }
 }
 
@@ -166,80 +77,37 @@ fn holds_before(t: Ty, v: i64) -> bool
     i128::from(t.low()) <= before && before <= i128::from(t.high())
 }
 
+fn suits(param: Param, t: Ty, v: i64) -> bool
+    ensures { result ≡ suits t v param }
+{
+    match param {
+        Param::Value | Param::High => t.holds(v),
+        Param::Places => v.unsigned_abs() < u64::from(t.width()),
+        Param::Bit | Param::LastBit => v < i64::from(t.width()),
+        Param::Base => holds_before(t, v),
+        Param::Any
+        | Param::Between(_, _)
+        | Param::Mode
+        | Param::Sign
+        | Param::Flag
+        | Param::Element
+        | Param::Operation => true,
+    }
+}
+
 fn param_fits(kind: Kind, t: Ty, k: usize, v: i64) -> bool
     ensures { result ≡ param_fits kind t k v }
 {
-    match kind {
-        Kind::Const | Kind::Saturation => t.holds(v),
-        Kind::GainBlk | Kind::DeadBand => k == 0 || t.holds(v),
-        Kind::Shift => k != 0 || v.unsigned_abs() < u64::from(t.width()),
-        Kind::BitSet | Kind::BitClear => v < i64::from(t.width()),
-        Kind::ExtractBits => k == 0 || v < i64::from(t.width()),
-        Kind::ModuloCount => holds_before(t, v),
-        Kind::Summation
-        | Kind::Product
-        | Kind::AbsValue
-        | Kind::Signum
-        | Kind::MaxMin
-        | Kind::Convert
-        | Kind::Mux
-        | Kind::Demux
-        | Kind::Extractor
-        | Kind::LogicalOp
-        | Kind::RelationalOp
-        | Kind::Switch2
-        | Kind::Select
-        | Kind::Logic
-        | Kind::AndLog
-        | Kind::Dollar
-        | Kind::SampHold
-        | Kind::Register
-        | Kind::GatedDelay
-        | Kind::Sensor
-        | Kind::EvtDly
-        | Kind::EvtVarDly
-        | Kind::IfThEl
-        | Kind::ESelect
-        | Kind::Halt => true,
-    }
+    suits(param_at(kind.form().params, k), t, v)
 }
 
 fn state_fits(kind: Kind, t: Ty, v: i64) -> bool
     ensures { result ≡ state_fits kind t v }
 {
-    match kind {
-        Kind::Dollar | Kind::Register | Kind::GatedDelay => t.holds(v),
-        Kind::Const
-        | Kind::Summation
-        | Kind::GainBlk
-        | Kind::Product
-        | Kind::AbsValue
-        | Kind::Signum
-        | Kind::MaxMin
-        | Kind::Saturation
-        | Kind::DeadBand
-        | Kind::Convert
-        | Kind::Mux
-        | Kind::Demux
-        | Kind::Extractor
-        | Kind::LogicalOp
-        | Kind::RelationalOp
-        | Kind::Shift
-        | Kind::BitSet
-        | Kind::BitClear
-        | Kind::ExtractBits
-        | Kind::Switch2
-        | Kind::Select
-        | Kind::Logic
-        | Kind::AndLog
-        | Kind::SampHold
-        | Kind::ModuloCount
-        | Kind::Sensor
-        | Kind::EvtDly
-        | Kind::EvtVarDly
-        | Kind::IfThEl
-        | Kind::ESelect
-        | Kind::Halt => true,
+    match kind.role() {
+        Role::State(Memory::Elements) | Role::State(Memory::Moving) => t.holds(v),
+        Role::State(Memory::Counter) => true,
+        Role::Values | Role::Delay | Role::Branch | Role::Sensor | Role::Halt => true,
     }
 }
 
@@ -279,54 +147,14 @@ fn is_column(n: i128, p: Port) -> bool
     is_equal(p.cols, 1) && is_wide_equal(i128::from(p.rows), n)
 }
 
-fn all_scalar(kind: Kind) -> bool
-    ensures { result ≡ all_scalar kind }
+fn as_first(sizes: Sizes, s: &Spec, p: Port) -> bool
+    ensures { result ≡ as_first sizes s.now p }
 {
-    match kind {
-        Kind::Logic
-        | Kind::AndLog
-        | Kind::Register
-        | Kind::ModuloCount
-        | Kind::Sensor
-        | Kind::EvtVarDly
-        | Kind::IfThEl
-        | Kind::ESelect => true,
-        Kind::Const
-        | Kind::Summation
-        | Kind::GainBlk
-        | Kind::Product
-        | Kind::AbsValue
-        | Kind::Signum
-        | Kind::MaxMin
-        | Kind::Saturation
-        | Kind::DeadBand
-        | Kind::Convert
-        | Kind::Mux
-        | Kind::Demux
-        | Kind::Extractor
-        | Kind::LogicalOp
-        | Kind::RelationalOp
-        | Kind::Shift
-        | Kind::BitSet
-        | Kind::BitClear
-        | Kind::ExtractBits
-        | Kind::Switch2
-        | Kind::Select
-        | Kind::Dollar
-        | Kind::SampHold
-        | Kind::GatedDelay
-        | Kind::EvtDly
-        | Kind::Halt => false,
-    }
-}
-
-fn as_first(s: &Spec, p: Port) -> bool
-    ensures { result ≡ as_first s.now.kind s.now p }
-{
-    if all_scalar(s.kind) {
-        is_scalar(p)
-    } else {
-        same_size(p, first_port(s))
+    match sizes {
+        Sizes::Scalars => is_scalar(p),
+        Sizes::Alike | Sizes::ScalarSecond | Sizes::Stacked | Sizes::Cut | Sizes::Chosen => {
+            same_size(p, first_port(s))
+        }
     }
 }
 
@@ -334,46 +162,17 @@ fn in_size_ok(s: &Spec, k: usize) -> bool
     ensures { result ≡ in_size_ok s.now.kind s.now k }
 {
     let p = s.ins.port(k);
-    match s.kind {
-        Kind::Mux => is_equal(p.cols, 1),
-        Kind::Demux => is_column(s.outs.sum_rows(), p),
-        Kind::Extractor => true,
-        Kind::Switch2 | Kind::GatedDelay => {
-            if k == 1 {
-                is_scalar(p)
-            } else {
-                same_size(p, first_port(s))
-            }
-        }
-        Kind::Const
-        | Kind::Summation
-        | Kind::GainBlk
-        | Kind::Product
-        | Kind::AbsValue
-        | Kind::Signum
-        | Kind::MaxMin
-        | Kind::Saturation
-        | Kind::DeadBand
-        | Kind::Convert
-        | Kind::LogicalOp
-        | Kind::RelationalOp
-        | Kind::Shift
-        | Kind::BitSet
-        | Kind::BitClear
-        | Kind::ExtractBits
-        | Kind::Select
-        | Kind::Logic
-        | Kind::AndLog
-        | Kind::Dollar
-        | Kind::SampHold
-        | Kind::Register
-        | Kind::ModuloCount
-        | Kind::Sensor
-        | Kind::EvtDly
-        | Kind::EvtVarDly
-        | Kind::IfThEl
-        | Kind::ESelect
-        | Kind::Halt => as_first(s, p),
+    let sizes = s.kind.form().sizes;
+    match sizes {
+        Sizes::Alike | Sizes::Scalars => as_first(sizes, s, p),
+        Sizes::ScalarSecond => if k == 1 {
+            is_scalar(p)
+        } else {
+            same_size(p, first_port(s))
+        },
+        Sizes::Stacked => is_equal(p.cols, 1),
+        Sizes::Cut => is_column(s.outs.sum_rows(), p),
+        Sizes::Chosen => true,
     }
 }
 
@@ -381,41 +180,12 @@ fn out_size_ok(s: &Spec, k: usize) -> bool
     ensures { result ≡ out_size_ok s.now.kind s.now k }
 {
     let p = s.outs.port(k);
-    match s.kind {
-        Kind::Mux => is_column(s.ins.sum_rows(), p),
-        Kind::Demux => is_equal(p.cols, 1),
-        Kind::Extractor => is_column(s.params.len() as i128, p),
-        Kind::Const
-        | Kind::Summation
-        | Kind::GainBlk
-        | Kind::Product
-        | Kind::AbsValue
-        | Kind::Signum
-        | Kind::MaxMin
-        | Kind::Saturation
-        | Kind::DeadBand
-        | Kind::Convert
-        | Kind::LogicalOp
-        | Kind::RelationalOp
-        | Kind::Shift
-        | Kind::BitSet
-        | Kind::BitClear
-        | Kind::ExtractBits
-        | Kind::Switch2
-        | Kind::Select
-        | Kind::Logic
-        | Kind::AndLog
-        | Kind::Dollar
-        | Kind::SampHold
-        | Kind::Register
-        | Kind::ModuloCount
-        | Kind::GatedDelay
-        | Kind::Sensor
-        | Kind::EvtDly
-        | Kind::EvtVarDly
-        | Kind::IfThEl
-        | Kind::ESelect
-        | Kind::Halt => as_first(s, p),
+    let sizes = s.kind.form().sizes;
+    match sizes {
+        Sizes::Alike | Sizes::Scalars | Sizes::ScalarSecond => as_first(sizes, s, p),
+        Sizes::Stacked => is_column(s.ins.sum_rows(), p),
+        Sizes::Cut => is_equal(p.cols, 1),
+        Sizes::Chosen => is_column(s.params.len() as i128, p),
     }
 }
 
@@ -428,81 +198,20 @@ fn is_spread(len: usize, n: u128) -> bool
 fn params_spread(s: &Spec) -> bool
     ensures { result ≡ params_spread s.now.kind s.now }
 {
-    match s.kind {
-        Kind::Const => is_spread(s.params.len(), s.outs.port(0).elements()),
-        Kind::Summation
-        | Kind::GainBlk
-        | Kind::Product
-        | Kind::AbsValue
-        | Kind::Signum
-        | Kind::MaxMin
-        | Kind::Saturation
-        | Kind::DeadBand
-        | Kind::Convert
-        | Kind::Mux
-        | Kind::Demux
-        | Kind::Extractor
-        | Kind::LogicalOp
-        | Kind::RelationalOp
-        | Kind::Shift
-        | Kind::BitSet
-        | Kind::BitClear
-        | Kind::ExtractBits
-        | Kind::Switch2
-        | Kind::Select
-        | Kind::Logic
-        | Kind::AndLog
-        | Kind::Dollar
-        | Kind::SampHold
-        | Kind::Register
-        | Kind::ModuloCount
-        | Kind::GatedDelay
-        | Kind::Sensor
-        | Kind::EvtDly
-        | Kind::EvtVarDly
-        | Kind::IfThEl
-        | Kind::ESelect
-        | Kind::Halt => true,
+    match s.kind.form().params.count {
+        ParamCount::PerElement => is_spread(s.params.len(), s.outs.port(0).elements()),
+        ParamCount::Exactly(_) | ParamCount::PerRow | ParamCount::BehindOne | ParamCount::Truths =>
+            true,
     }
 }
 
 fn state_spread(s: &Spec) -> bool
     ensures { result ≡ state_spread s.now.kind s.now }
 {
-    match s.kind {
-        Kind::Dollar | Kind::GatedDelay => is_spread(s.state.len(), s.outs.port(0).elements()),
-        Kind::Const
-        | Kind::Summation
-        | Kind::GainBlk
-        | Kind::Product
-        | Kind::AbsValue
-        | Kind::Signum
-        | Kind::MaxMin
-        | Kind::Saturation
-        | Kind::DeadBand
-        | Kind::Convert
-        | Kind::Mux
-        | Kind::Demux
-        | Kind::Extractor
-        | Kind::LogicalOp
-        | Kind::RelationalOp
-        | Kind::Shift
-        | Kind::BitSet
-        | Kind::BitClear
-        | Kind::ExtractBits
-        | Kind::Switch2
-        | Kind::Select
-        | Kind::Logic
-        | Kind::AndLog
-        | Kind::SampHold
-        | Kind::Register
-        | Kind::ModuloCount
-        | Kind::Sensor
-        | Kind::EvtDly
-        | Kind::EvtVarDly
-        | Kind::IfThEl
-        | Kind::ESelect
-        | Kind::Halt => true,
+    match s.kind.role() {
+        Role::State(Memory::Elements) => is_spread(s.state.len(), s.outs.port(0).elements()),
+        Role::State(Memory::Moving) | Role::State(Memory::Counter) => true,
+        Role::Values | Role::Delay | Role::Branch | Role::Sensor | Role::Halt => true,
     }
 }
 
@@ -512,45 +221,30 @@ fn at_most(v: i64, n: u128) -> bool
     v < 0 || v as u128 <= n
 }
 
+fn names_element(param: Param, s: &Spec, k: usize) -> bool
+    ensures { result ≡ names_element s.now k param }
+{
+    match param {
+        Param::Element => at_most(s.params.at(k), s.ins.port(0).elements()),
+        Param::Any
+        | Param::Between(_, _)
+        | Param::Mode
+        | Param::Sign
+        | Param::Flag
+        | Param::Value
+        | Param::High
+        | Param::Operation
+        | Param::Places
+        | Param::Bit
+        | Param::LastBit
+        | Param::Base => true,
+    }
+}
+
 fn index_ok(s: &Spec, k: usize) -> bool
     ensures { result ≡ index_ok s.now.kind s.now k }
 {
-    match s.kind {
-        Kind::Extractor => at_most(s.params.at(k), s.ins.port(0).elements()),
-        Kind::Const
-        | Kind::Summation
-        | Kind::GainBlk
-        | Kind::Product
-        | Kind::AbsValue
-        | Kind::Signum
-        | Kind::MaxMin
-        | Kind::Saturation
-        | Kind::DeadBand
-        | Kind::Convert
-        | Kind::Mux
-        | Kind::Demux
-        | Kind::LogicalOp
-        | Kind::RelationalOp
-        | Kind::Shift
-        | Kind::BitSet
-        | Kind::BitClear
-        | Kind::ExtractBits
-        | Kind::Switch2
-        | Kind::Select
-        | Kind::Logic
-        | Kind::AndLog
-        | Kind::Dollar
-        | Kind::SampHold
-        | Kind::Register
-        | Kind::ModuloCount
-        | Kind::GatedDelay
-        | Kind::Sensor
-        | Kind::EvtDly
-        | Kind::EvtVarDly
-        | Kind::IfThEl
-        | Kind::ESelect
-        | Kind::Halt => true,
-    }
+    names_element(param_at(s.kind.form().params, k), s, k)
 }
 
 fn is_known(p: Port) -> bool
@@ -661,40 +355,27 @@ impl Spec {
         requires { typed self.now ≡ true }
         ensures { result ≡ state_len_of self.now.kind self.now }
     {
-        match self.kind {
-            Kind::Dollar | Kind::GatedDelay => self.outs.port(0).elements() as usize,
-            Kind::Register => self.state.len(),
-            Kind::ModuloCount => 1,
-            Kind::Const
-            | Kind::Summation
-            | Kind::GainBlk
-            | Kind::Product
-            | Kind::AbsValue
-            | Kind::Signum
-            | Kind::MaxMin
-            | Kind::Saturation
-            | Kind::DeadBand
-            | Kind::Convert
-            | Kind::Mux
-            | Kind::Demux
-            | Kind::Extractor
-            | Kind::LogicalOp
-            | Kind::RelationalOp
-            | Kind::Shift
-            | Kind::BitSet
-            | Kind::BitClear
-            | Kind::ExtractBits
-            | Kind::Switch2
-            | Kind::Select
-            | Kind::Logic
-            | Kind::AndLog
-            | Kind::SampHold
-            | Kind::Sensor
-            | Kind::EvtDly
-            | Kind::EvtVarDly
-            | Kind::IfThEl
-            | Kind::ESelect
-            | Kind::Halt => 0,
+        match self.kind.role() {
+            Role::State(Memory::Elements) => self.outs.port(0).elements() as usize,
+            Role::State(Memory::Moving) => self.state.len(),
+            Role::State(Memory::Counter) => 1,
+            Role::Values | Role::Delay | Role::Branch | Role::Sensor | Role::Halt => 0,
+        }
+    }
+
+    /// Element `at` of the outputs before the block's first activation.
+    pub fn held(&self, at: usize) -> i64
+        ensures { result ≡ held_of self.now.kind self.now at }
+    {
+        if !self.kind.form().holds_state {
+            return 0;
+        }
+        match self.kind.role() {
+            Role::State(Memory::Elements) => self
+                .state
+                .at(if self.state.len() == 1 { 0 } else { at }),
+            Role::State(Memory::Moving) | Role::State(Memory::Counter) => self.state.at(0),
+            Role::Values | Role::Delay | Role::Branch | Role::Sensor | Role::Halt => 0,
         }
     }
 

@@ -1,11 +1,14 @@
 //! The tests of a block's parameters and state, each by one column of the table of forms.
-ghost use Rattle.std.specs.Prelude.{◌≡◌, ◌<◌, ◌≤◌, ◌^◌, ◌*◌, length, ℕ, IfSome, IfOk, true, not, ◌||◌};
+ghost use Rattle.std.specs.Prelude.{◌≡◌, ◌<◌, ◌≤◌, ◌^◌, ◌*◌, ◌⊎◌, length, ℕ, Bool, IfSome, IfOk, true, not, ◌||◌};
 ghost use Rattle.sci_base.specs.Lists.{at, truth_at};
 ghost use Rattle.sci_base.specs.Fit.{int_eq};
 ghost use Rattle.sci_forms.specs.declared.Kind.TheVariants.{Logic as LogicKind, ModuloCount as CountKind};
-ghost use Rattle.sci_forms.specs.Forms.{between, is_sign, is_operation, params_len_ok, param_ok, state_len_ok, state_ok, within, first_not, fed, unfed, own_feed};
+ghost use Rattle.sci_forms.specs.declared.form.Param.{Param};
+ghost use Rattle.sci_forms.specs.declared.form.Param.TheVariants.{High, LastBit};
+ghost use Rattle.sci_forms.specs.Forms.{by_place, is_param, between, is_sign, is_operation, params_len_ok, param_ok, state_len_ok, state_ok, within, first_not, fed, unfed, own_feed};
 
 use crate::Kind;
+use crate::form::{Memory, Param, ParamCount, Params, Role};
 use crate::search::first_failing;
 use sci_base::{NoMemory, Truths};
 use std::alloc::Global;
@@ -76,41 +79,46 @@ pub fn params_len_ok(kind: Kind, n: usize, m: usize, len: usize) -> bool
     requires outs { kind ≡ LogicKind → m ≤ 8 }
     ensures { result ≡ params_len_ok kind n m len }
 {
-    match kind {
-        Kind::Const => 1 <= len,
-        Kind::Summation => len == n + 1,
-        Kind::GainBlk
-        | Kind::Product
-        | Kind::Saturation
-        | Kind::LogicalOp
-        | Kind::Shift
-        | Kind::ExtractBits
-        | Kind::Switch2 => len == 2,
-        Kind::AbsValue
-        | Kind::MaxMin
-        | Kind::Convert
-        | Kind::RelationalOp
-        | Kind::BitSet
-        | Kind::BitClear
-        | Kind::ModuloCount
-        | Kind::Sensor
-        | Kind::EvtDly => len == 1,
-        Kind::DeadBand => len == 3,
-        Kind::Extractor => 1 <= len && len <= 256,
-        Kind::Logic => len == table_len(n, m),
-        Kind::Signum
-        | Kind::Mux
-        | Kind::Demux
-        | Kind::Select
-        | Kind::AndLog
-        | Kind::Dollar
-        | Kind::SampHold
-        | Kind::Register
-        | Kind::GatedDelay
-        | Kind::EvtVarDly
-        | Kind::IfThEl
-        | Kind::ESelect
-        | Kind::Halt => len == 0,
+    match kind.form().params.count {
+        ParamCount::Exactly(k) => len == k,
+        ParamCount::PerElement => 1 <= len,
+        ParamCount::PerRow => 1 <= len && len <= 256,
+        ParamCount::BehindOne => len == n + 1,
+        ParamCount::Truths => len == table_len(n, m),
+    }
+}
+
+/// What parameter `k` is.
+pub(crate) fn param_at(params: Params, k: usize) -> Param
+    ensures { (f : Param → Bool) → f result ≡ by_place f params k }
+{
+    match k {
+        0 => params.first,
+        1 => params.second,
+        _ => params.third,
+    }
+}
+
+/// Whether number `k` is such a parameter.
+fn is_param(param: Param, n: usize, ps: &[i64], k: usize) -> bool
+    requires at { k < length ps.now }
+    requires before { (param ≡ High) ⊎ (param ≡ LastBit) → 0 < k }
+    ensures { result ≡ is_param n ps.now k param }
+{
+    let v = ps[k];
+    match param {
+        Param::Any | Param::Value => true,
+        Param::Between(low, high) => between(low, high, v),
+        Param::Mode => between(0, 2, v),
+        Param::Sign => is_sign(v),
+        Param::Flag => between(0, 1, v),
+        Param::High => ps[k - 1] <= v,
+        Param::Element => 1 <= v,
+        Param::Operation => is_operation(n, v),
+        Param::Places => between(-31, 31, v),
+        Param::Bit => between(0, 31, v),
+        Param::LastBit => between(0, 31, v) && ps[k - 1] <= v,
+        Param::Base => between(1, 2147483647, v),
     }
 }
 
@@ -119,106 +127,18 @@ pub fn param_ok(kind: Kind, n: usize, ps: &[i64], k: usize) -> bool
     requires { k < length ps.now }
     ensures { result ≡ param_ok kind n ps.now k }
 {
-    let v = ps[k];
-    match kind {
-        Kind::Summation | Kind::Product => if k == 0 { between(0, 2, v) } else { is_sign(v) },
-        Kind::GainBlk => if k == 0 { between(0, 2, v) } else { true },
-        Kind::AbsValue | Kind::Convert => between(0, 2, v),
-        Kind::MaxMin => between(1, 2, v),
-        Kind::Saturation => if k == 1 { ps[0] <= v } else { true },
-        Kind::DeadBand => {
-            if k == 0 {
-                between(0, 2, v)
-            } else if k == 2 {
-                ps[1] <= v
-            } else {
-                true
-            }
-        }
-        Kind::Extractor => 1 <= v,
-        Kind::LogicalOp => if k == 0 {
-            is_operation(n, v)
-        } else {
-            between(0, 1, v)
-        },
-        Kind::RelationalOp => between(0, 5, v),
-        Kind::Shift => if k == 0 {
-            between(-31, 31, v)
-        } else {
-            between(0, 1, v)
-        },
-        Kind::BitSet | Kind::BitClear => between(0, 31, v),
-        Kind::ExtractBits => {
-            if k == 0 {
-                between(0, 31, v)
-            } else {
-                between(0, 31, v) && ps[0] <= v
-            }
-        }
-        Kind::Switch2 => if k == 0 {
-            between(0, 2, v)
-        } else {
-            between(-2147483648, 4294967295, v)
-        },
-        Kind::Logic => between(0, 1, v),
-        Kind::ModuloCount => between(1, 2147483647, v),
-        Kind::Sensor => between(1, 255, v),
-        Kind::EvtDly => between(-1, 2147483647, v),
-        Kind::Const
-        | Kind::Signum
-        | Kind::Mux
-        | Kind::Demux
-        | Kind::Select
-        | Kind::AndLog
-        | Kind::Dollar
-        | Kind::SampHold
-        | Kind::Register
-        | Kind::GatedDelay
-        | Kind::EvtVarDly
-        | Kind::IfThEl
-        | Kind::ESelect
-        | Kind::Halt => true,
-    }
+    is_param(param_at(kind.form().params, k), n, ps, k)
 }
 
 /// The number of values of the state.
 pub fn state_len_ok(kind: Kind, len: usize) -> bool
     ensures { result ≡ state_len_ok kind len }
 {
-    match kind {
-        Kind::Dollar | Kind::GatedDelay => 1 <= len,
-        Kind::Register => 1 <= len && len <= 256,
-        Kind::ModuloCount => len == 1,
-        Kind::Const
-        | Kind::Summation
-        | Kind::GainBlk
-        | Kind::Product
-        | Kind::AbsValue
-        | Kind::Signum
-        | Kind::MaxMin
-        | Kind::Saturation
-        | Kind::DeadBand
-        | Kind::Convert
-        | Kind::Mux
-        | Kind::Demux
-        | Kind::Extractor
-        | Kind::LogicalOp
-        | Kind::RelationalOp
-        | Kind::Shift
-        | Kind::BitSet
-        | Kind::BitClear
-        | Kind::ExtractBits
-        | Kind::Switch2
-        | Kind::Select
-        | Kind::Logic
-        | Kind::AndLog
-        | Kind::SampHold
-        | Kind::Sensor
-        | Kind::EvtDly
-        | Kind::EvtVarDly
-        | Kind::IfThEl
-        | Kind::ESelect
-        | Kind::Halt => true,
+    match kind.role() {
+        Role::State(Memory::Elements) => 1 <= len,
+        Role::State(Memory::Moving) => 1 <= len && len <= 256,
+        Role::State(Memory::Counter) => len == 1,
+        Role::Values | Role::Delay | Role::Branch | Role::Sensor | Role::Halt => true,
     }
 }
 
@@ -228,41 +148,10 @@ pub fn state_ok(kind: Kind, ps: &[i64], xs: &[i64], k: usize) -> bool
     requires base { kind ≡ CountKind → 0 < length ps.now }
     ensures { result ≡ state_ok kind ps.now xs.now k }
 {
-    match kind {
-        Kind::ModuloCount => 0 <= xs[k] && xs[k] < ps[0],
-        Kind::Const
-        | Kind::Summation
-        | Kind::GainBlk
-        | Kind::Product
-        | Kind::AbsValue
-        | Kind::Signum
-        | Kind::MaxMin
-        | Kind::Saturation
-        | Kind::DeadBand
-        | Kind::Convert
-        | Kind::Mux
-        | Kind::Demux
-        | Kind::Extractor
-        | Kind::LogicalOp
-        | Kind::RelationalOp
-        | Kind::Shift
-        | Kind::BitSet
-        | Kind::BitClear
-        | Kind::ExtractBits
-        | Kind::Switch2
-        | Kind::Select
-        | Kind::Logic
-        | Kind::AndLog
-        | Kind::Dollar
-        | Kind::SampHold
-        | Kind::Register
-        | Kind::GatedDelay
-        | Kind::Sensor
-        | Kind::EvtDly
-        | Kind::EvtVarDly
-        | Kind::IfThEl
-        | Kind::ESelect
-        | Kind::Halt => true,
+    match kind.role() {
+        Role::State(Memory::Counter) => 0 <= xs[k] && xs[k] < ps[0],
+        Role::State(Memory::Elements) | Role::State(Memory::Moving) => true,
+        Role::Values | Role::Delay | Role::Branch | Role::Sensor | Role::Halt => true,
     }
 }
 

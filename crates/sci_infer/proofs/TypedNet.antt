@@ -11,11 +11,12 @@ use Rattle.sci_forms.proofs.TestLemmas.{nat_le_told}
 use Rattle.sci_forms.specs.declared.Kind.{Kind}
 use Rattle.sci_forms.specs.declared.ports.Port.{Port}
 use Rattle.sci_forms.specs.declared.spec.Spec.{Spec}
+use Rattle.sci_forms.specs.Form.{is_sensor}
 use Rattle.sci_forms.specs.Forms.{or_else, unless, first_not, all_to}
 use Rattle.sci_forms.specs.Ports.{elements, port_at, no_port}
 use Rattle.sci_forms.specs.Typed.{typed, formed_of, is_known, known_in, known_out, types_broken_of, sizes_broken_of}
 use Rattle.sci_net.specs.declared.Wire.{Wire}
-use Rattle.sci_net.specs.Parts.{Parts, IsBlock, IsInput, IsOutput, IsActivationInput, IsActivationOutput, IsSensor, IsWired, numbered, spec_of, wire_of, feeds_of, input_of, output_of, column_of, no_spec}
+use Rattle.sci_net.specs.Parts.{Parts, IsBlock, IsInput, IsOutput, IsActivationInput, IsActivationOutput, IsSensor, IsWired, spec_of, wire_of, input_of, output_of, column_of, no_spec}
 use Rattle.sci_net.specs.Flat.{IsFlat}
 use Rattle.sci_net.specs.Net.{IsNet, all_elements}
 use Rattle.sci_infer.specs.declared.parts.Side.{Side}
@@ -149,7 +150,7 @@ module _ (n : Parts) (flat : IsFlat n) (vs : List ℤ) (typing : IsTheTyping (pa
   sensor_back : (b : ℕ) → IsSensor (typed_parts vs n) b → IsSensor n b
   sensor_back b h =
       let block = block_back b h.block in
-      record { block = block; sensor = subst (λ (s : Spec). Rattle.sci_net.specs.Parts.is_sensor s.kind ≡ true) (spec_typed b block) h.sensor }
+      record { block = block; sensor = subst (λ (s : Spec). is_sensor s.kind ≡ true) (spec_typed b block) h.sensor }
 
   wired : IsWired (typed_parts vs n)
   wired =

@@ -4,7 +4,7 @@ use Rattle.std.specs.Prelude.{Contains, All}
 use Rattle.std.proofs.lemmas.Bool.{cases_eq}
 use Rattle.std.proofs.lemmas.List.{get_or_append_left, get_or_push}
 use Rattle.std.proofs.lemmas.List.Elements.{Contains-get_or}
-use Rattle.sci_forms.specs.Forms.{is_sync}
+use Rattle.sci_forms.specs.Form.{is_sync}
 use Rattle.sci_loop.specs.Lists.{list_at}
 use Rattle.sci_loop.specs.Reached.{IsReached, start, onward}
 use Rattle.sci_loop.specs.Walk.{IsMarked}

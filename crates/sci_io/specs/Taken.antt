@@ -1,5 +1,5 @@
 -- What a sink took of a text that was due on it.
-use Rattle.std.specs.Prelude.{ℕ, ◌≡◌, ◌≤◌, ◌++◌, List, [], ◌∷◌, Option, Result, OnOk, OnErr, Bool, true, false, ◌||◌}
+use Rattle.std.specs.Prelude.{ℕ, ◌≡◌, ◌≤◌, ◌++◌, List, [], ◌∷◌, Option, None, Result, OnOk, OnErr, Bool, true, false, ◌||◌}
 use Rattle.std.specs.Borrow.{Bor}
 use Rattle.std.specs.Io.KnownBytes.{Appends}
 use Rattle.sci_io.specs.Causes.{Rose}
@@ -27,6 +27,12 @@ before_text s = record { taken = s.taken; held = s.held; faults = s.faults; begu
 -- the bytes given on, those held and the faults are as they were
 abbrev pub IsUntouched : SinkState → SinkState → Type 0
 IsUntouched old new = (new.taken ≡ old.taken) × (new.held ≡ old.held) × (new.faults ≡ old.faults)
+
+-- a text that has a byte was taken by a sink that tells nothing, holds nothing back and didn't fail, whichever text it is
+pub record TakesUnseen (old new : SinkState) : Type 0 where
+  pub tells_nothing : old.taken ≡ None
+  pub holds_nothing : old.held ≡ []
+  pub same : new ≡ record old { begun = true }
 
 -- the text has a byte
 abbrev pub is_some_text : List ℕ → Bool

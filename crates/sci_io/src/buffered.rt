@@ -119,6 +119,10 @@ impl<S: Sink + Drop> Sink for BufferedSink<S> {
         self.sink.flush()
     }
 
+    fn take_unseen(&mut self) -> bool {
+        false
+    }
+
     fn begin(&mut self) {
         self.begun = false;
     }

@@ -96,6 +96,10 @@ impl Sink for MemSink {
         Ok(())
     }
 
+    fn take_unseen(&mut self) -> bool {
+        false
+    }
+
     fn begin(&mut self) {
         self.begun = false;
     }

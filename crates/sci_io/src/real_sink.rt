@@ -58,6 +58,10 @@ impl<W: Write + Drop> Sink for RealSink<W> {
         Err(Failed)
     }
 
+    fn take_unseen(&mut self) -> bool {
+        false
+    }
+
     fn begin(&mut self) {
         self.begun = false;
     }

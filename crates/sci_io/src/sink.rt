@@ -1,5 +1,5 @@
-ghost use Rattle.std.specs.Prelude.{◌<◌, ◌≡◌, [], ℕ, length, OnOk, IsOk, true, false};
-ghost use Rattle.sci_io.specs.Taken.{SinkState, Writes, before_text};
+ghost use Rattle.std.specs.Prelude.{◌<◌, ◌≡◌, [], ℕ, length, OnOk, IsOk, IsTrue, true, false};
+ghost use Rattle.sci_io.specs.Taken.{SinkState, Writes, TakesUnseen, before_text};
 
 /// A sink didn't take a piece.
 #[derive(Clone, Copy, Debug, PartialEq, Eq)]
@@ -21,6 +21,12 @@ pub trait Sink {
     fn flush(&mut self) -> Result<(), Failed>
         ensures written { Writes (state self.old) (state self.new) [] result }
         ensures all { OnOk result ((state self.new).held ≡ []) };
+
+    /// Where the sink tells nothing of what it takes, holds nothing back and never fails: takes a text that has a byte without seeing it, and
+    /// answers true. Else it takes nothing, and answers false.
+    fn take_unseen(&mut self) -> bool
+        ensures taken { IsTrue result → TakesUnseen (state self.old) (state self.new) }
+        ensures kept { result ≡ false → state self.new ≡ state self.old };
 
     /// Begins a text: nothing of it was put yet.
     fn begin(&mut self)

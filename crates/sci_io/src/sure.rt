@@ -21,8 +21,8 @@ impl SureSink {
 }
 
 impl Sink for SureSink {
-    ghost use Rattle.std.specs.Prelude.{◌≡◌, ◌<◌, [], length, IsOk, OnOk};
-    ghost use Rattle.sci_io.specs.Taken.{Writes};
+    ghost use Rattle.std.specs.Prelude.{◌≡◌, ◌<◌, [], length, IsOk, OnOk, IsTrue, true, false};
+    ghost use Rattle.sci_io.specs.Taken.{Writes, TakesUnseen};
 
     ghost state = { λ s. direct None 0 s.begun };
 
@@ -41,6 +41,15 @@ impl Sink for SureSink {
         ensures sure { IsOk result }
     {
         Ok(())
+    }
+
+    fn take_unseen(&mut self) -> bool
+        ensures taken { IsTrue result → TakesUnseen (direct None 0 self.old.begun) (direct None 0 self.new.begun) }
+        ensures kept { result ≡ false → direct None 0 self.new.begun ≡ direct None 0 self.old.begun }
+        ensures always { result ≡ true }
+    {
+        self.begun = true;
+        true
     }
 
     fn begin(&mut self) {

@@ -1,12 +1,10 @@
 -- The guards of an entry, and what it tells of its block.
-use Rattle.std.proofs.Common.{◌≡◌, ℕ, zero, suc, true≢false, ◌+◌, ◌<◌, ◌⊎◌, true, ⊎_elim, List, [], ◌∷◌, ◌++◌, length, take, get_or, Contains, sym, subst, ◌∙◌, arith}
+use Rattle.std.proofs.Common.{◌≡◌, ℕ, ◌+◌, ◌<◌, ◌⊎◌, ⊎_elim, List, [], ◌∷◌, ◌++◌, length, take, get_or, Contains, sym, subst, ◌∙◌, arith}
 use Rattle.std.proofs.lemmas.List.{take_more}
 use Rattle.std.proofs.lemmas.List.Elements.{Contains-append_left, Contains-push, Contains-push_cases, Contains-get_or}
 use Rattle.sci_net.specs.declared.Feed.{Feed}
 use Rattle.sci_net.specs.declared.Source.TheVariants.{Start}
-use Rattle.sci_forms.specs.declared.spec.Spec.{Spec}
-use Rattle.sci_forms.specs.Forms.{is_sync}
-use Rattle.sci_net.specs.Parts.{Parts, IsBlock, numbered, no_spec}
+use Rattle.sci_net.specs.Parts.{Parts, IsBlock, numbered}
 use Rattle.sci_net.specs.Sources.{sources_of, source_of}
 use Rattle.sci_reaction.specs.Active.{Possible, IsSync, Reaches}
 use Rattle.sci_reaction.specs.Schedule.{Guard, branch_of}
@@ -54,13 +52,3 @@ module _ (n : Parts) (o : Origins) (are : AreOrigins n o) (b : ℕ) where
   branch_there k q l may sync reaches =
       (are.branches_are b q).1
       (record { source = source_of n k; is_source = (sources_are n (source_of n k)).0 (Contains-get_or (sources_of n) k Start l); possible = may }, sync, reaches)
-
--- a synchronous block is a block of the net
-sync_at : (ss : List Spec) (k : ℕ) → is_sync (get_or ss k no_spec).kind ≡ true → k < length ss
-sync_at [] k h = absurd (true≢false (sym h))
-sync_at (s ∷ ss) zero h = omega arith
-sync_at (s ∷ ss) (suc k) h = let l = sync_at ss k h in omega (arith, l)
-
-pub sync_block : (n : Parts) (b : ℕ) → IsSync n b → IsBlock n b
-sync_block n zero h = absurd (true≢false (sym h))
-sync_block n (suc k) h = let l = sync_at n.specs k h in record { least = omega arith; most = omega (arith, l) }

@@ -3,14 +3,14 @@ pub mod Releasing
 pub mod Waiting
 pub mod Staging
 pub mod Rounding
+pub mod Ranking
 pub mod MaskBits
-pub mod Marked
 pub mod Programs
 pub mod Guarded
 pub mod Delayed
-pub mod Passing
 pub mod Reacting
 pub mod Sinking
 pub mod Stepping
 pub mod Told
 pub mod Runs
+pub mod Coming

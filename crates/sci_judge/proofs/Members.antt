@@ -27,9 +27,6 @@ has xs q = list_any (eqb q) xs
 pub hasnt : (xs : List ℕ) (q : ℕ) → (Contains xs q → ⊥) → has xs q ≡ false
 hasnt xs q out = ⊎_elim (λ on. absurd (out (has-Contains xs q on))) (λ off. off) (cases_Bool (has xs q))
 
-pub has_not : (xs : List ℕ) (q : ℕ) → has xs q ≡ false → Contains xs q → ⊥
-has_not xs q off h = true≢false (sym (Contains-has xs q h) ∙ off)
-
 pub not_same : (a b : ℕ) → (a ≡ b → ⊥) → eqb a b ≡ false
 not_same a b other = ⊎_elim (λ on. absurd (other (eqb-true a b on))) (λ off. off) (cases_Bool (eqb a b))
 

@@ -1,5 +1,6 @@
 -- The reaction of a source, by its row.
-use Rattle.std.proofs.Common.{◌≡◌, ℕ, suc, ◌≤◌, ◌+◌, ⊎_elim, Bool, true, false, ℤ, List, [], ◌∷◌, ◌++◌, length, pos, refl, sym, ap, ◌∙◌, arith, Contains}
+use Rattle.std.proofs.Common.{◌≡◌, ℕ, suc, ◌<◌, ◌≤◌, ◌+◌, ⊎_elim, Bool, true, false, ℤ, List, [], ◌∷◌, ◌++◌, length, get_or, pos, refl, sym, ap, subst, ◌∙◌, arith, Contains}
+use Rattle.std.proofs.lemmas.List.{get_or-map}
 use Rattle.std.specs.Prelude.{if◌then◌else◌, Option, Some, None, negsuc}
 use Rattle.sci_base.specs.Lists.{at, listed}
 use Rattle.sci_base.specs.declared.observation.Obs.{Obs}
@@ -15,7 +16,7 @@ use Rattle.sci_net.specs.declared.Source.{Source}
 use Rattle.sci_net.specs.declared.Source.TheVariants.{Start, Port}
 use Rattle.sci_net.specs.Parts.{Parts, IsBlock, spec_of, wire_of}
 use Rattle.sci_net.specs.Net.{IsNet}
-use Rattle.sci_net.specs.Sources.{sources_of}
+use Rattle.sci_net.specs.Sources.{sources_of, source_of}
 use Rattle.sci_reaction.specs.Equations.{Signals, output_among, input_in, all_inputs}
 use Rattle.sci_reaction.proofs.Lists.{cons-Contains}
 use Rattle.sci_reaction.proofs.Next.{some_next}
@@ -31,14 +32,19 @@ use Rattle.sci_run.specs.Run.{State, ReactionOutcome, Leads, StopsWith, IsOutcom
 use Rattle.sci_places.specs.Flat.{values_at}
 use Rattle.sci_bank.specs.Bank.{Meaning}
 use Rattle.sci_store.specs.Frame.{Fixed, IsFrame, AreSeated}
-use Rattle.sci_store.specs.Store.{Standing, ShowsValues}
+use Rattle.sci_store.specs.Blocks.{AreBlocksByNumber}
+use Rattle.sci_store.specs.Rows.{Row, IsRowOf, IsReadyRow}
+use Rattle.sci_store.specs.Runs.{MayStep}
+use Rattle.sci_store.specs.Store.{Standing, ShowsMemory, ShowsValues}
 use Rattle.sci_store.specs.Passed.{IsValued, IsPassed, IsStepped, AreAlikeCounts}
-use Rattle.sci_store.specs.Written.{AreAmong}
+use Rattle.sci_store.specs.Written.{AreAmong, IsHeader, IsPlain}
 use Rattle.sci_store.specs.Delays.{delays_in}
-use Rattle.sci_store.proofs.Reacting.{outcome_here}
+use Rattle.sci_store.proofs.Covering.{row_blocks}
+use Rattle.sci_store.proofs.Reacting.{outcome_here, AreKept, range_alike, masks_alike, sensed_alike, range_here, masks_here, sensed_here, states_here}
 use Rattle.sci_judge.specs.Programming.{with_sources, AreSourcesOf}
-use Rattle.sci_judge.specs.Rows.{Row, IsRowOf}
-use Rattle.sci_judge.specs.Reacting.{Shows, seen_in}
+use Rattle.sci_judge.specs.declared.rows.SourcePlan.{SourcePlan}
+use Rattle.sci_judge.specs.Rows.{IsPlanOf, ArePlans}
+use Rattle.sci_judge.specs.Reacting.{Shows, seen_in, blocks_at}
 
 -- ---- what the active blocks program
 
@@ -89,12 +95,73 @@ module _ (f : Fixed) (frame : IsFrame f) (source : Source) (s : Standing) (y : S
       (λ still. no_delay (spec_of f.net q.block) q.port (all_inputs (spec_of f.net q.block) (input_in f.net y q.block)) still) none))
       ∙ same_delays date (delays_in f s) (delay_of f.net y active) 0 (sources_of f.net) p (λ q c. shown_delays q ((sources_are f.net (Port q)).0 c).0.block)
 
+-- ---- the plan of a source
+
+-- the plan that is read of a source
+pub record IsPlanned (f : Fixed) (plans : List SourcePlan) (k : ℕ) (p : SourcePlan) : Type 0 where
+  pub plan : IsPlanOf f (source_of f.net k) p
+  pub ready : IsReadyRow f p.row
+  pub blocks_are : blocks_at plans k ≡ p.row.blocks
+
+pub planned : (f : Fixed) (plans : List SourcePlan) → ArePlans f plans → (k : ℕ) → k < length (sources_of f.net) → (p : SourcePlan) → p ≡ get_or plans k p → IsPlanned f plans k p
+planned f plans are k l p read =
+    let within : k < length plans = let enough = are.enough in omega (arith, l, enough) in
+    let plan = subst (IsPlanOf f (source_of f.net k)) (sym read) (are.each k p within) in
+    record {
+      plan = plan;
+      ready = (source_of f.net k, plan.row);
+      blocks_are = get_or-map (λ (q : SourcePlan). q.row.blocks) plans k p [] within ∙ ap (λ (q : SourcePlan). q.row.blocks) (sym read);
+    }
+
+-- its blocks by number
+pub blocks_by_number : (f : Fixed) (plans : List SourcePlan) (k : ℕ) (p : SourcePlan) → IsPlanned f plans k p → AreBlocksByNumber f.net p.row.blocks
+blocks_by_number f plans k p h = row_blocks f p.row h.ready
+
 -- ---- what a reaction comes to
 
+-- marks apart, what is kept stands for the same state
+pub shows_marked : (f : Fixed) (s t : Standing) (banks : List Meaning) (pending : Pending) (st : State) → t ≡ record s { marks = t.marks } → Shows f s banks pending st
+    → Shows f t banks pending st
+shows_marked f s t banks pending st marked shows = record {
+  seated = shows.seated;
+  memory = subst (λ (u : Standing). ShowsMemory f u banks st.memory) (sym marked)
+      (record { held = shows.memory.held; cursor = shows.memory.cursor; state = shows.memory.state });
+  in_range = shows.in_range;
+  pending_is = shows.pending_is;
+  counts = shows.counts;
+}
+
 -- a block that is active is one of the row's
-pub among_row : (f : Fixed) (source : Source) (row : Row) → IsRowOf f.net source row → (i : Columns) (st : State) (s t : Standing) (banks mid : List Meaning)
+pub among_row : (f : Fixed) (source : Source) (row : Row) → IsRowOf f source row → (i : Columns) (st : State) (s t : Standing) (banks mid : List Meaning)
     (v : IsValued f i source st.memory s t banks mid) → AreAmong f.net v.active row.blocks
-among_row f source row is i st s t banks mid v b block on = (is.exactly b).1 (possible f.net source _ ((v.active_are b block).0 on))
+among_row f source row is i st s t banks mid v b block on =
+    (is.row.blocks_are.same b).1 ((is.entries.exactly b).1 (possible f.net source _ ((v.active_are b block).0 on)))
+
+-- behind the values the states may be stepped
+pub may_step : (f : Fixed) → IsFrame f → (source : Source) (i : Columns) (st : State) (s t : Standing) (banks mid : List Meaning) (pending : Pending) → Shows f s banks pending st
+    → IsValued f i source st.memory s t banks mid → MayStep f i t mid
+may_step f frame source i st s t banks mid pending shows v = record {
+  values = range_here f source frame i st.memory s t banks mid v;
+  masks = masks_here f source frame i st.memory s t banks mid v;
+  sensed = sensed_here f source frame i st.memory s t banks mid v shows.memory;
+  states = states_here f source frame i st.memory s t banks mid v shows.memory shows.in_range;
+}
+
+pub may_step_alike : (f : Fixed) (i : Columns) (s t : Standing) (banks : List Meaning) → AreKept s t → MayStep f i s banks → MayStep f i t banks
+may_step_alike f i s t banks kept may = record {
+  values = range_alike f s t kept may.values;
+  masks = masks_alike f s t kept may.masks;
+  sensed = sensed_alike f s t kept i may.sensed;
+  states = may.states;
+}
+
+pub header_is : (date : ℕ) (source : Source) → IsHeader (header date source)
+header_is date Start = tt
+header_is date (Port q) = tt
+
+pub plain_is : (date : ℕ) (source : Source) → IsPlain (header date source)
+plain_is date Start = tt
+plain_is date (Port q) = tt
 
 -- whatever the pass came to, there is an outcome, which begins with its header
 pub some_outcome : (f : Fixed) (source : Source) (i : Columns) (st : State) (s t : Standing) (banks mid : List Meaning) (date : ℕ) (stop : Option (ℕ × StopWord))

@@ -12,10 +12,12 @@ use Rattle.std.proofs.lemmas.Map.Keys.{IsDistinct-IsPermutation}
 use Rattle.std.proofs.lemmas.Map.Made.{length-le_from_is_member}
 use Rattle.sci_loop.specs.declared.table.DepTable.{DepTable}
 use Rattle.sci_loop.specs.Table.{Needs, IsTable}
+use Rattle.sci_loop.proofs.Depth.{depth_level}
 use Rattle.sci_net.specs.declared.Source.{Source}
 use Rattle.sci_net.specs.Parts.{Parts}
 use Rattle.sci_reaction.specs.Active.{Possible}
-use Rattle.sci_reaction.specs.Depends.{IsLoopFree, Precedes}
+use Rattle.sci_reaction.specs.Depends.{Depends, HasDepth, IsLoopFree, Precedes}
+use Rattle.sci_reaction.proofs.OneResult.{depth_of}
 use Rattle.sci_reaction.proofs.Lists.{Has-split, once, cons-Contains}
 use Rattle.sci_reaction.proofs.Rows.{Contains-has, has-Contains}
 use Rattle.sci_reaction.proofs.Spreading.{Spread-block}
@@ -41,7 +43,7 @@ behind_distinct : (xs ys : List ℕ) → IsDistinct eqb (xs ++ ys) → IsDistinc
 behind_distinct [] ys d = d
 behind_distinct (x ∷ xs) ys d = behind_distinct xs ys (tail_distinct x (xs ++ ys) d)
 
-in_take : (xs : List ℕ) (i p c : ℕ) → p < i → i < length xs → get_or xs p 0 ≡ c → Contains (take i xs) c
+pub in_take : (xs : List ℕ) (i p c : ℕ) → p < i → i < length xs → get_or xs p 0 ≡ c → Contains (take i xs) c
 in_take [] i p c early less same = absurd (omega (arith, less))
 in_take (x ∷ xs) zero p c early less same = absurd (omega (arith, early))
 in_take (x ∷ xs) (suc i) zero c early less same = (0, omega arith, same)
@@ -148,6 +150,17 @@ module _ (n : Parts) (s : Source) (t : DepTable) (of : IsTableOf n s t) (done re
         (λ h. ⊎_elim (λ old. inl old) (λ new. inr (ready_to c new)) (Contains-append_cases done ready c h)),
         λ h. ⊎_elim (λ old. Contains-append_left done ready c old) (λ new. Contains-append_right done ready c (ready_from c new)) h,
       ))
+
+  -- the number of a round is the depth of its blocks
+  pub ready_depth : IsLoopFree n s → (k : ℕ) → IsBehindRounds n s k done → (c : ℕ) → Contains ready c → HasDepth n s c (k + 1)
+  ready_depth free k behind c h =
+      let is = ready_to c h in
+      let d = depth_of n s free c is.possible in
+      let low : d.0 ≤ k + 1 = (depth_level (Depends n s) c d.0 (k + 1) d.1).0 (((next_behind k behind).within c is.possible).0 (Contains-append_right done ready c h)) in
+      let high : k < d.0 =
+      ⊎_elim (λ deep. deep) (λ shallow. absurd (is.fresh ((behind.within c is.possible).1 ((depth_level (Depends n s) c d.0 k d.1).1 shallow)))) (cases_lt k d.0) in
+      let same : d.0 ≡ k + 1 = omega (arith, low, high) in
+      subst (HasDepth n s c) same d.1
 
   -- a round by number
   module _ (k : ℕ) (behind : IsBehindRounds n s k done) (sorted : IsNonDecreasing ready) (before : AreInRounds n s done) where

@@ -1,5 +1,6 @@
 -- A step of the run: a reaction, and what comes behind it.
-use Rattle.std.proofs.Common.{◌≡◌, ℕ, Bool, false, List, [], ◌∷◌, ◌++◌, refl, sym, ap, subst, ◌∙◌, append-nil, true≢false, Result, Ok, Err}
+use Rattle.std.specs.declared.alloc.Global.{Global}
+use Rattle.std.proofs.Common.{Vec, Contains, ⊎_elim, ◌≡◌, ℕ, Bool, false, List, [], ◌∷◌, ◌++◌, refl, sym, ap, subst, ◌∙◌, append-nil, true≢false, Result, Ok, Err}
 use Rattle.std.specs.Prelude.{Some, None}
 use Rattle.sci_base.specs.declared.observation.Obs.{Obs}
 use Rattle.sci_base.specs.declared.observation.Obs.TheVariants.{End}
@@ -8,16 +9,22 @@ use Rattle.sci_io.specs.Taken.{SinkState, Writes}
 use Rattle.sci_io.proofs.Advance.{stopped, same_text, then_writes}
 use Rattle.sci_trace.specs.Lines.{line, text}
 use Rattle.sci_net.specs.declared.Source.{Source}
-use Rattle.sci_net.specs.Parts.{Parts}
+use Rattle.sci_net.specs.Parts.{Parts, IsBlock}
+use Rattle.sci_reaction.proofs.Lists.{Has-cases}
+use Rattle.sci_reaction.proofs.Rows.{Contains-has, has-Contains}
 use Rattle.sci_pending.specs.Pending.{Pending, without}
 use Rattle.sci_run.specs.Run.{State, ReactionOutcome, Leads, StopsWith, Decision, Over, Fires, comes_next}
 use Rattle.sci_bank.specs.Bank.{Meaning}
 use Rattle.sci_events.specs.declared.events.Event.{Event as Kept}
 use Rattle.sci_events.specs.Events.{event_of, Waiting}
 use Rattle.sci_store.specs.Frame.{Fixed}
-use Rattle.sci_store.specs.Store.{Standing, ShowsMemory}
+use Rattle.sci_store.specs.Marks.{mark_at, idle}
+use Rattle.sci_store.specs.Store.{Standing, AreIdle}
+use Rattle.sci_judge.specs.declared.rows.SourcePlan.{SourcePlan}
+use Rattle.sci_judge.specs.declared.judging.Due.{Due}
+use Rattle.sci_judge.proofs.Reacting.{shows_marked}
 use Rattle.sci_store.proofs.Writing.{text-append}
-use Rattle.sci_judge.specs.Reacting.{Shows, AreMarksOf, IsReacted, seen_in, end_seen, step_seen, Follows, IsStep}
+use Rattle.sci_judge.specs.Reacting.{Shows, AreMarksOf, IsReacted, blocks_at, decision_of, seen_in, end_seen, step_seen, Follows, IsStep}
 use Rattle.sci_judge.proofs.Sinking.{err_writes, ok_writes}
 
 -- the reaction was cut off
@@ -73,13 +80,30 @@ module _ (f : Fixed) (until left : ℕ) (o : ReactionOutcome) (seen : List Obs) 
           k,
           refl,
           refl,
-          record {
-            seated = shows.seated;
-            memory = subst (λ (u : Standing). ShowsMemory f u banks after.memory) (sym cleared)
-                (record { held = shows.memory.held; cursor = shows.memory.cursor; state = shows.memory.state });
-            in_range = shows.in_range;
-            pending_is = ap (λ (w : Waiting). w.pending) moved
-                ∙ ap (λ (p : Pending). let x : Pending = record p { events = without k.order p.events } in x) shows.pending_is;
-            counts = shows.counts;
-          },
+          (let here = shows_marked f s t banks old.pending after cleared shows in
+              record {
+                seated = here.seated;
+                memory = here.memory;
+                in_range = here.in_range;
+                pending_is = ap (λ (w : Waiting). w.pending) moved
+                    ∙ ap (λ (p : Pending). let x : Pending = record p { events = without k.order p.events } in x) shows.pending_is;
+                counts = here.counts;
+              }),
         ))
+
+-- no block is marked: those of the source are cleared, and no other was
+pub all_idle : (f : Fixed) (blocks : List ℕ) (s t : Standing) → ((b : ℕ) → Contains blocks b → mark_at t.marks b ≡ idle) → ((b : ℕ) → (Contains blocks b → ⊥) → mark_at t.marks b ≡ mark_at s.marks b)
+    → ((b : ℕ) → IsBlock f.net b → (Contains blocks b → ⊥) → mark_at s.marks b ≡ idle) → AreIdle f t
+all_idle f blocks s t cleared others marked b block =
+    ⊎_elim (λ on. cleared b (has-Contains blocks b on))
+    (λ off. let out : Contains blocks b → ⊥ = λ h. off (Contains-has blocks b h) in others b out ∙ marked b block out) (Has-cases blocks b)
+
+-- what comes behind a reaction over which the frame and the plans stay
+pub decided : (f k : Fixed) (plans later : Vec SourcePlan Global) (at : ℕ) (source : Source) (until left : ℕ) (s : Standing) (pending : Pending) (due : Due) (after : State) → k ≡ f → later ≡ plans
+    → ((source : Source) (st : State) → pending ≡ st.pending → AreMarksOf k source (blocks_at later.items at) s st → decision_of due ≡ comes_next k.net until left st)
+    → pending ≡ after.pending → AreMarksOf f source (blocks_at plans.items at) s after → decision_of due ≡ comes_next f.net until left after
+decided f k plans later at source until left s pending due after same_frame same_plans behind is marks =
+    subst (λ (x : Fixed). decision_of due ≡ comes_next x.net until left after) same_frame
+    (behind source after is
+    (subst (λ (x : Fixed). AreMarksOf x source (blocks_at later.items at) s after) (sym same_frame)
+    (subst (λ (ps : Vec SourcePlan Global). AreMarksOf f source (blocks_at ps.items at) s after) (sym same_plans) marks)))

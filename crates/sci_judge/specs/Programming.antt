@@ -1,6 +1,6 @@
 -- Sources that program their events one after another.
 use Rattle.std.specs.Prelude.{◌≡◌, ℕ, ◌<◌, ◌≤◌, ◌⊎◌, true, false, ℤ, negsuc, List, [], ◌∷◌, length, All, Contains}
-use Rattle.sci_forms.specs.Forms.{has_delay}
+use Rattle.sci_forms.specs.Form.{has_delay}
 use Rattle.sci_net.specs.declared.Feed.{Feed}
 use Rattle.sci_net.specs.declared.Source.{Source}
 use Rattle.sci_net.specs.declared.Source.TheVariants.{Start, Port}

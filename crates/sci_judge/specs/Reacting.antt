@@ -1,10 +1,11 @@
 -- A reaction of the run, and what comes behind it.
-use Rattle.std.specs.Prelude.{◌≡◌, ℕ, ◌≤◌, Bool, true, false, List, [], ◌∷◌, ◌++◌, Option, Some, None}
+use Rattle.std.specs.Prelude.{◌≡◌, ℕ, ◌≤◌, Bool, true, false, List, [], ◌∷◌, ◌++◌, map, length, slice_index_or, Option, Some, None}
 use Rattle.sci_base.specs.declared.observation.Obs.{Obs}
 use Rattle.sci_base.specs.declared.observation.Obs.TheVariants.{End}
 use Rattle.sci_forms.specs.declared.Kind.{Kind}
 use Rattle.sci_net.specs.declared.Source.{Source}
 use Rattle.sci_net.specs.Parts.{Parts}
+use Rattle.sci_net.specs.Sources.{sources_of}
 use Rattle.sci_reaction.specs.Memory.{IsMemory}
 use Rattle.sci_reaction.specs.Equations.{Signals}
 use Rattle.sci_pending.specs.Pending.{Pending}
@@ -14,10 +15,13 @@ use Rattle.sci_bank.specs.Library.{bank_of}
 use Rattle.sci_events.specs.declared.events.Event.{Event as Kept}
 use Rattle.sci_events.specs.Events.{event_of}
 use Rattle.sci_store.specs.Frame.{Fixed, AreSeated}
-use Rattle.sci_store.specs.Store.{Standing, ShowsMemory, ShowsValues}
+use Rattle.sci_store.specs.Store.{Standing, IsStore, ShowsMemory, ShowsValues}
 use Rattle.sci_store.specs.Written.{AreAmong}
-use Rattle.sci_judge.specs.declared.reaction.Due.{Due}
-use Rattle.sci_judge.specs.declared.reaction.Due.TheVariants.{Over as IsOver, Fires as DoesFire}
+use Rattle.sci_judge.specs.declared.rows.SourcePlan.{SourcePlan}
+use Rattle.sci_judge.specs.declared.judging.Judging.{Judging}
+use Rattle.sci_judge.specs.Rows.{ArePlans}
+use Rattle.sci_judge.specs.declared.judging.Due.{Due}
+use Rattle.sci_judge.specs.declared.judging.Due.TheVariants.{Over as IsOver, Fires as DoesFire}
 
 -- what is kept stands for this state of a run
 pub record Shows (f : Fixed) (s : Standing) (banks : List Meaning) (pending : Pending) (st : State) : Type 0 where
@@ -26,6 +30,16 @@ pub record Shows (f : Fixed) (s : Standing) (banks : List Meaning) (pending : Pe
   pub in_range : IsMemory f.net st.memory
   pub pending_is : pending ≡ st.pending
   pub counts : (k : Kind) → (bank_of banks k).outs ≤ 18446744073709551615
+
+-- the blocks that a source may activate, by its place
+abbrev pub blocks_at : List SourcePlan → ℕ → List ℕ
+blocks_at plans k = slice_index_or (map (λ (p : SourcePlan). p.row.blocks) plans) k []
+
+-- a net that is run to be judged: what is kept of it fits the net
+pub record IsSound (j : Judging) : Type 0 where
+  pub plans_are : ArePlans j.frame j.plans.items
+  pub store_is : IsStore j.frame j.store
+  pub sources_are : j.events.sources ≡ length (sources_of j.frame.net)
 
 -- ---- what a reaction comes to
 

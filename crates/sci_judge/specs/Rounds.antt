@@ -1,5 +1,5 @@
 -- The possible blocks of a source, round by round: what is done, what is ready, and on how many blocks that aren't done the others depend.
-use Rattle.std.specs.Prelude.{◌≡◌, ℕ, ◌+◌, ◌<◌, ◌↔◌, ◌++◌, ◌∷◌, [], List, if◌then◌else◌, not, length, take, slice_index, slice_index_or, Contains, nat_eq}
+use Rattle.std.specs.Prelude.{◌≡◌, ℕ, ◌+◌, ◌<◌, ◌↔◌, ◌++◌, ◌∷◌, [], List, if◌then◌else◌, not, map, length, take, slice_index, slice_index_or, Contains, nat_eq}
 use Rattle.std.specs.List.{IsDistinct, count_by}
 use Rattle.std.specs.Set.{is_member}
 use Rattle.sci_loop.specs.declared.table.DepTable.{DepTable}
@@ -10,6 +10,7 @@ use Rattle.sci_net.specs.Parts.{Parts}
 use Rattle.sci_reaction.specs.Active.{Possible}
 use Rattle.sci_reaction.specs.Depends.{Precedes}
 use Rattle.sci_rounds.specs.Rounds.{IsReady}
+use Rattle.sci_judge.specs.declared.rounds.Rank.{Rank}
 
 -- ---- the possible blocks in order
 
@@ -18,6 +19,10 @@ pub record AreByRounds (n : Parts) (s : Source) (blocks : List ℕ) : Type 0 whe
   pub exactly : (b : ℕ) → Contains blocks b ↔ Possible n s b
   pub ready : (k : ℕ) → k < length blocks → IsReady n s (take k blocks) (slice_index blocks k)
   pub earlier : (k c : ℕ) → k < length blocks → Possible n s c → Precedes n s c (slice_index blocks k) → Contains (take k blocks) c
+
+-- the blocks of ranks
+abbrev pub ranked : List Rank → List ℕ
+ranked rs = map (λ (r : Rank). r.block) rs
 
 -- ---- counts of what is open
 

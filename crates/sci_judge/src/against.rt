@@ -59,6 +59,10 @@ impl<'a> Sink for Against<'a> {
         self.out.flush()
     }
 
+    fn take_unseen(&mut self) -> bool {
+        false
+    }
+
     fn begin(&mut self) {
         self.begun = false;
     }

@@ -1,5 +1,5 @@
 // When a possible block is active, and on which activation inputs.
-ghost use Rattle.std.specs.Prelude.{◌≡◌, ◌≤◌, ◌<◌, ◌+◌, ℕ, [], length, All, Contains, IfOk};
+ghost use Rattle.std.specs.Prelude.{◌≡◌, ◌<◌, ◌+◌, ℕ, [], length, Contains, IfOk};
 ghost use Rattle.sci_net.specs.declared.Feed.{Feed};
 ghost use Rattle.sci_net.specs.Parts.{IsBlock, spec_of, feeds_of, numbered};
 ghost use Rattle.sci_net.specs.Sources.{sources_of, source_of};
@@ -8,38 +8,17 @@ ghost use Rattle.sci_reaction.specs.Equations.{HasBits};
 ghost use Rattle.sci_inherit.specs.Origins.{AreOrigins};
 ghost use Rattle.sci_dep.specs.Tables.{ArePossible};
 ghost use Rattle.sci_rounds.specs.Rounds.{TellsActivation};
-ghost use Rattle.sci_judge.specs.Entries.{guard_of, guards_of, entry_of, HasBitsTo, AreBranches, AreAlways, HasMark, is_taken, activation};
+ghost use Rattle.sci_judge.specs.Entries.{HasBitsTo, AreBranches, AreAlways};
+ghost use Rattle.sci_reaction.specs.Kept.{guards_of, entry_of};
 
+use crate::rounds::Rank;
 use sci_base::NoMemory;
 use sci_base::bits::set_bit;
 use sci_inherit::{Reach, contains};
 use sci_loop::walk::Walk;
 use sci_net::{Feed, Net, Source};
-use sci_store::Mark;
+use sci_reaction::{Entry, Guard};
 use std::alloc::Global;
-
-/// A branch of a synchronous block that may activate another block.
-#[derive(Clone, Copy, Debug, Drop, PartialEq, Eq)]
-pub struct Guard {
-    /// The synchronous block.
-    pub block: u32,
-    /// Its activation output.
-    pub port: u32,
-    /// The activation inputs that it feeds: bit `p - 1` for input `p`.
-    pub mask: u64,
-}
-
-/// A possible block of a source.
-#[derive(Drop)]
-pub struct Entry {
-    pub block: u32,
-    /// Whether the source activates it whatever the values are.
-    pub always: bool,
-    /// The activation inputs that the source feeds: bit `p - 1` for input `p`.
-    pub mask: u64,
-    /// The branches that may activate it, of blocks that the source may activate.
-    pub guards: Vec<Guard>,
-}
 
 // The mask with activation input `at + 1`, if the activation output feeds it.
 fn with_input(net: &Net, block: u32, feed: Feed, mask: u64, at: u32) -> u64
@@ -116,7 +95,7 @@ pub fn entry_for(
     source: u32,
     possible: &Walk,
     always: &Walk,
-    block: u32,
+    rank: Rank,
 ) -> Result<Entry, NoMemory>
     requires reach { AreOrigins net.now reach.now }
     requires source { source < length (sources_of net.now) }
@@ -124,40 +103,17 @@ pub fn entry_for(
     requires always_count { always.now.count ≡ length net.now.specs + 1 }
     requires possible { ArePossible net.now (source_of net.now source) possible.now.found }
     requires always { AreAlways net.now (source_of net.now source) always.now.found }
-    requires block { IsBlock net.now block }
-    ensures block { IfOk result (λ e. e.block ≡ block) }
+    requires block { IsBlock net.now rank.block }
+    ensures block { IfOk result (λ e. e.block ≡ rank.block) }
+    ensures depth { IfOk result (λ e. e.depth ≡ rank.depth) }
     ensures tells { IfOk result (λ e. TellsActivation net.now (source_of net.now source) (entry_of e)) }
 {
-    let guards = guards(alloc, net, reach, possible, block)?;
+    let guards = guards(alloc, net, reach, possible, rank.block)?;
     Ok(Entry {
-        block,
-        always: always.has(block),
-        mask: source_mask(net, source, block),
+        block: rank.block,
+        depth: rank.depth,
+        always: always.has(rank.block),
+        mask: source_mask(net, source, rank.block),
         guards,
     })
-}
-
-// Whether the guard's block is active and takes the guard's port.
-fn is_taken(marks: &[Mark], guard: &Guard) -> bool
-    requires { HasMark marks.now (guard_of guard.now) }
-    ensures { result ≡ is_taken marks.now (guard_of guard.now) }
-{
-    let mark = marks[guard.block as usize - 1];
-    mark.active && mark.branch == guard.port
-}
-
-/// The activation inputs on which the block of an entry is active, if it is, where the blocks that it depends on are done.
-pub fn activation(marks: &[Mark], entry: &Entry) -> Option<u64>
-    requires { All (HasMark marks.now) (entry_of entry.now).guards }
-    ensures { result ≡ activation marks.now (entry_of entry.now) }
-{
-    let mut active = entry.always;
-    let mut mask = entry.mask;
-    for guard in entry.guards.iter() {
-        if is_taken(marks, guard) {
-            active = true;
-            mask |= guard.mask;
-        }
-    }
-    if active { Some(mask) } else { None }
 }

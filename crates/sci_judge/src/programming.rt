@@ -1,6 +1,6 @@
 // Programming events.
 ghost use Rattle.std.specs.Prelude.{◌≡◌, ℕ, ◌+◌, ◌-◌, ◌<◌, ◌≤◌, ◌^◌, ◌<ℤ◌, ℤ, pos, [], length, true, All};
-ghost use Rattle.sci_forms.specs.Forms.{has_delay};
+ghost use Rattle.sci_forms.specs.Form.{has_delay};
 ghost use Rattle.sci_net.specs.Sources.{sources_of, source_of};
 ghost use Rattle.sci_reaction.specs.Equations.{AreInRange};
 ghost use Rattle.sci_run.specs.Programs.{first_pending, with_delay};
@@ -10,7 +10,8 @@ ghost use Rattle.sci_store.specs.Store.{IsStore};
 ghost use Rattle.sci_store.specs.Delays.{delays_in};
 ghost use Rattle.sci_judge.specs.Programming.{firing_at, with_source, with_sources, IsDelayed};
 
-use sci_bank::library::{Banks, Library};
+use sci_bank::Bank;
+use sci_bank::library::Library;
 use sci_events::Events;
 use sci_net::{Net, Source};
 use sci_store::{Frame, Store};
@@ -59,16 +60,16 @@ pub fn program_first(net: &Net, events: &mut Events)
 }
 
 // The source at this place programs its next event, if it is an activation output of an active block.
-fn program_source(
+fn program_source<B: Bank>(
     store: &mut Store,
     frame: &Frame,
-    lib: &Library,
+    lib: &Library<B>,
     source: u32,
     date: u64,
     events: &mut Events,
 )
     requires store { IsStore frame.now store.old }
-    requires seated { AreSeated frame.now (⟦<Library as Banks>⟧.banks lib.now) }
+    requires seated { AreSeated frame.now lib.now }
     requires source { IsDelayed frame.now.net source }
     requires values { AreInRange frame.now.net (values_at frame.now.net store.old.values) }
     requires date { date < 2 ^ 63 }
@@ -87,16 +88,16 @@ fn program_source(
 }
 
 /// The sources at these places program their next events, those that are activation outputs of active blocks.
-pub fn program_all(
+pub fn program_all<B: Bank>(
     store: &mut Store,
     frame: &Frame,
     sources: &[u32],
-    lib: &Library,
+    lib: &Library<B>,
     date: u64,
     events: &mut Events,
 )
     requires store { IsStore frame.now store.old }
-    requires seated { AreSeated frame.now (⟦<Library as Banks>⟧.banks lib.now) }
+    requires seated { AreSeated frame.now lib.now }
     requires delayed { All (IsDelayed frame.now.net) sources.now }
     requires values { AreInRange frame.now.net (values_at frame.now.net store.old.values) }
     requires date { date < 2 ^ 63 }

@@ -1,20 +1,27 @@
 // The possible blocks of a source, round by round.
-ghost use Rattle.std.specs.Prelude.{◌≡◌, ℕ, ◌+◌, ◌<◌, ◌↔◌, ◌++◌, ◌∷◌, [], ◌==◌, if◌then◌else◌, filter, length, slice_index_or, All, Contains, vec_len, IfOk, OnOk, nat_eq};
+ghost use Rattle.std.specs.Prelude.{◌≡◌, ℕ, ◌+◌, ◌<◌, ◌↔◌, ◌++◌, ◌∷◌, [], ◌==◌, if◌then◌else◌, filter, length, map, slice_index_or, All, Contains, vec_len, IfOk, OnOk, nat_eq};
 ghost use Rattle.std.specs.List.{IsDistinct};
 ghost use Rattle.std.specs.List.Sorted.{IsStrictlyIncreasing};
 ghost use Rattle.std.specs.Set.{is_member};
 ghost use Rattle.sci_loop.specs.Table.{IsTable};
 ghost use Rattle.sci_loop.specs.Lists.{plain, list_at};
 ghost use Rattle.sci_net.specs.Sources.{source_of};
-ghost use Rattle.sci_reaction.specs.Depends.{IsLoopFree};
+ghost use Rattle.sci_reaction.specs.Depends.{IsLoopFree, HasDepth};
 ghost use Rattle.sci_dep.specs.Tables.{IsTableOf};
-ghost use Rattle.sci_judge.specs.Rounds.{AreCounts, AreWaiting, IsPutTo, IsReleased, IsStage, AreByRounds};
+ghost use Rattle.sci_judge.specs.Rounds.{ranked, AreCounts, AreWaiting, IsPutTo, IsReleased, IsStage, AreByRounds};
 
 use sci_base::NoMemory;
 use sci_loop::DepTable;
 use sci_loop::walk::{empty_lists, push_at};
 use sci_net::Net;
 use std::alloc::Global;
+
+/// A block and its round, counted from 1: how many blocks the longest chain of dependencies has that ends at it.
+#[derive(Clone, Copy, Debug, Drop, PartialEq, Eq)]
+pub struct Rank {
+    pub block: u32,
+    pub depth: usize,
+}
 
 // Puts a member at the end of the lists of the blocks that it depends on.
 fn put(lists: &mut Vec<Vec<u32>>, member: u32, needs: &[u32]) -> Result<(), NoMemory>
@@ -100,19 +107,23 @@ fn round(
     _table: &DepTable,
     waiting: &[Vec<u32>],
     round: &[u32],
+    depth: usize,
     counts: &mut [usize],
-    done: &mut Vec<u32>,
+    done: &mut Vec<Rank>,
 ) -> Result<Vec<u32>, NoMemory>
     requires table { IsTable _table.now }
     requires below { All (λ b. b < length counts.old) _table.now.members.items }
     requires waiting { AreWaiting _table.now (length counts.old) (plain waiting.now) }
-    requires stage { IsStage _table.now done.old.items round.now counts.old }
-    ensures done { IfOk result (λ _. done.new.items ≡ done.old.items ++ round.now) }
-    ensures stage { IfOk result (λ next. IsStage _table.now done.new.items next.items counts.new) }
+    requires stage { IsStage _table.now (ranked done.old.items) round.now counts.old }
+    ensures done { IfOk result (λ _. done.new.items ≡ done.old.items ++ map (λ b. record { block = b; depth = depth }) round.now) }
+    ensures stage { IfOk result (λ next. IsStage _table.now (ranked done.new.items) next.items counts.new) }
 {
     let mut next = Vec::new(alloc);
     for block in round {
-        done.push(*block)?;
+        done.push(Rank {
+            block: *block,
+            depth,
+        })?;
         release(&waiting[*block as usize], counts, &mut next)?;
     }
     Ok(next)
@@ -125,10 +136,11 @@ pub fn by_rounds(
     net: &Net,
     _source: u32,
     table: &DepTable,
-) -> Result<Vec<u32>, NoMemory>
+) -> Result<Vec<Rank>, NoMemory>
     requires table { IsTableOf net.now (source_of net.now _source) table.now }
     requires free { IsLoopFree net.now (source_of net.now _source) }
-    ensures { IfOk result (λ v. AreByRounds net.now (source_of net.now _source) v.items) }
+    ensures rounds { IfOk result (λ v. AreByRounds net.now (source_of net.now _source) (ranked v.items)) }
+    ensures depths { IfOk result (λ v. All (λ r. HasDepth net.now (source_of net.now _source) r.block r.depth) v.items) }
 {
     net.well_formed();
     let count = net.len() as usize + 1;
@@ -136,9 +148,19 @@ pub fn by_rounds(
     let mut counts = open_counts(alloc, table, count)?;
     let mut done = Vec::new(alloc);
     let mut ready = first_round(alloc, &table.members, &counts)?;
+    let mut depth = 0;
     while !ready.is_empty() {
         ready.sort_unstable();
-        ready = round(alloc, table, &waiting, &ready, &mut counts, &mut done)?;
+        depth += 1;
+        ready = round(
+            alloc,
+            table,
+            &waiting,
+            &ready,
+            depth,
+            &mut counts,
+            &mut done,
+        )?;
     }
     Ok(done)
 }

@@ -7,27 +7,28 @@ ghost use Rattle.sci_reaction.specs.Schedule.{blocks_of};
 ghost use Rattle.sci_inherit.specs.Origins.{AreOrigins};
 ghost use Rattle.sci_dep.specs.Tables.{AreWaits, ArePossible};
 ghost use Rattle.sci_rounds.specs.Rounds.{TellsActivation};
-ghost use Rattle.sci_run.specs.Laws.{AreLoopFree};
-ghost use Rattle.sci_judge.specs.Entries.{AreAlways, entries_of};
+ghost use Rattle.sci_judge.specs.Entries.{AreAlways};
+ghost use Rattle.sci_reaction.specs.Kept.{entries_of};
 ghost use Rattle.sci_judge.specs.Programming.{IsDelayed, AreSourcesOf};
-ghost use Rattle.sci_judge.specs.Rows.{row_of, IsRowOf, AreRows, IsOfFound};
+ghost use Rattle.sci_judge.specs.Rounds.{ranked};
+ghost use Rattle.sci_judge.specs.Rows.{IsPlanOf, ArePlans, IsOfFound};
 
-use crate::entries::{Entry, entry_for};
-use crate::rounds::by_rounds;
+use crate::entries::entry_for;
+use crate::rounds::{Rank, by_rounds};
 use sci_base::NoMemory;
 use sci_dep::{Waits, depends, possible, waits};
 use sci_inherit::{Reach, origins};
 use sci_loop::walk::Walk;
 use sci_net::{Net, Source};
+use sci_reaction::Entry;
+use sci_store::{Frame, Row};
 use std::alloc::Global;
 
-/// The possible blocks of a source.
+/// What a source may do in a reaction.
 #[derive(Drop)]
-pub struct Row {
-    /// Round by round: each after those that it depends on.
-    pub entries: Vec<Entry>,
-    /// The same blocks by number.
-    pub blocks: Vec<u32>,
+pub struct SourcePlan {
+    /// Its possible blocks.
+    pub row: Row,
     /// The sources that they are, by place, where they have delays.
     pub sources: Vec<u32>,
 }
@@ -40,7 +41,7 @@ fn entries(
     source: u32,
     possible: &Walk,
     always: &Walk,
-    blocks: &[u32],
+    ranks: &[Rank],
 ) -> Result<Vec<Entry>, NoMemory>
     requires reach { AreOrigins net.now reach.now }
     requires source { source < length (sources_of net.now) }
@@ -48,13 +49,14 @@ fn entries(
     requires always_count { always.now.count ≡ length net.now.specs + 1 }
     requires possible { ArePossible net.now (source_of net.now source) possible.now.found }
     requires always { AreAlways net.now (source_of net.now source) always.now.found }
-    requires blocks { All (IsBlock net.now) blocks.now }
-    ensures blocks { IfOk result (λ v. blocks_of (entries_of v.items) ≡ blocks.now) }
+    requires blocks { All (λ r. IsBlock net.now r.block) ranks.now }
+    ensures blocks { IfOk result (λ v. blocks_of (entries_of v.items) ≡ ranked ranks.now) }
+    ensures depths { IfOk result (λ v. map (λ e. e.depth) v.items ≡ map (λ r. r.depth) ranks.now) }
     ensures tells { IfOk result (λ v. All (TellsActivation net.now (source_of net.now source)) (entries_of v.items)) }
 {
-    let mut entries = Vec::with_capacity(alloc, blocks.len())?;
-    for block in blocks {
-        entries.push(entry_for(alloc, net, reach, source, possible, always, *block)?)?;
+    let mut entries = Vec::with_capacity(alloc, ranks.len())?;
+    for rank in ranks {
+        entries.push(entry_for(alloc, net, reach, source, possible, always, *rank)?)?;
     }
     Ok(entries)
 }
@@ -85,53 +87,61 @@ fn delayed(alloc: Global, net: &Net, found: &Walk) -> Result<Vec<u32>, NoMemory>
     Ok(sources)
 }
 
-// The row of the source at this place. The two walks are over all numbers of blocks and 0.
-fn row_for(
+// What the source at this place may do. The two walks are over all numbers of blocks and 0.
+fn plan_for(
     alloc: Global,
-    net: &Net,
+    frame: &Frame,
     reach: &Reach,
     waits: &Waits,
     source: u32,
     found: &mut Walk,
     always: &mut Walk,
-) -> Result<Row, NoMemory>
-    requires reach { AreOrigins net.now reach.now }
-    requires waits { AreWaits net.now waits.now }
-    requires source { source < length (sources_of net.now) }
-    requires free { IsLoopFree net.now (source_of net.now source) }
-    requires count { found.old.count ≡ length net.now.specs + 1 }
-    requires always_count { always.old.count ≡ length net.now.specs + 1 }
-    ensures row { IfOk result (λ r. IsRowOf net.now (source_of net.now source) (row_of r)) }
+) -> Result<SourcePlan, NoMemory>
+    requires reach { AreOrigins frame.now.net reach.now }
+    requires waits { AreWaits frame.now.net waits.now }
+    requires source { source < length (sources_of frame.now.net) }
+    requires free { IsLoopFree frame.now.net (source_of frame.now.net source) }
+    requires count { found.old.count ≡ length frame.now.net.specs + 1 }
+    requires always_count { always.old.count ≡ length frame.now.net.specs + 1 }
+    ensures plan { IfOk result (λ p. IsPlanOf frame.now (source_of frame.now.net source) p) }
     ensures count { found.new.count ≡ found.old.count }
     ensures always_count { always.new.count ≡ always.old.count }
 {
-    net.well_formed();
+    frame.well_formed();
+    let net = &frame.net;
     possible(net, reach, source, found)?;
     let table = depends(alloc, net, waits, source, found)?;
     let order = by_rounds(alloc, net, source, &table)?;
     always.take(reach.always(source))?;
     let entries = entries(alloc, net, reach, source, found, always, &order)?;
     let sources = delayed(alloc, net, found)?;
-    Ok(Row {
-        entries,
-        blocks: table.members,
+    Ok(SourcePlan {
+        row: Row::of(alloc, frame, entries)?,
         sources,
     })
 }
 
-/// The rows of all sources of a net, none of which has a loop, in their order. Want of memory is the only error.
-pub fn rows(alloc: Global, net: &Net) -> Result<Vec<Row>, NoMemory>
-    requires { AreLoopFree net.now }
-    ensures { IfOk result (λ v. AreRows net.now v.items) }
+/// What each source of a net may do, in their order. Want of memory is the only error.
+pub fn plans(alloc: Global, frame: &Frame) -> Result<Vec<SourcePlan>, NoMemory>
+    ensures { IfOk result (λ v. ArePlans frame.now v.items) }
 {
-    net.well_formed();
+    frame.well_formed();
+    let net = &frame.net;
     let reach = origins(alloc, net)?;
     let waits = waits(alloc, net, &reach)?;
     let mut found = Walk::new(alloc, net.len() as usize + 1)?;
     let mut always = Walk::new(alloc, net.len() as usize + 1)?;
-    let mut rows = Vec::with_capacity(alloc, net.source_count() as usize)?;
+    let mut plans = Vec::with_capacity(alloc, net.source_count() as usize)?;
     for source in 0..net.source_count() {
-        rows.push(row_for(alloc, net, &reach, &waits, source, &mut found, &mut always)?)?;
+        plans.push(plan_for(
+            alloc,
+            frame,
+            &reach,
+            &waits,
+            source,
+            &mut found,
+            &mut always,
+        )?)?;
     }
-    Ok(rows)
+    Ok(plans)
 }

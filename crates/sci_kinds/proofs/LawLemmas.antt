@@ -11,9 +11,9 @@ use Rattle.sci_forms.specs.declared.Kind.TheVariants.{Const, AndLog, Dollar, Reg
 use Rattle.sci_kinds.specs.declared.Cell.TheVariants.{Value}
 use Rattle.sci_forms.specs.declared.spec.Spec.{Spec}
 use Rattle.sci_forms.specs.Ports.{total, type_at, before, Fills}
-use Rattle.sci_kinds.specs.Table.{brought, cell_of, next_of, delay_of, branch_of, held_of, cell, state_len, next, first_state, first_held, delay, branch, Values, out}
-use Rattle.sci_forms.specs.Words.{param, out_type, size, state_len_of}
-use Rattle.sci_forms.specs.Forms.{feeds, is_sync}
+use Rattle.sci_kinds.specs.Table.{brought, cell_of, next_of, delay_of, branch_of, cell, state_len, next, first_state, first_held, delay, branch, Values, out}
+use Rattle.sci_forms.specs.Words.{param, out_type, size, state_len_of, held_of}
+use Rattle.sci_forms.specs.Form.{feeds, is_sync}
 use Rattle.sci_kinds.specs.Asks.{Asks, IsState, IsMask, entering_of, entering, SameBut}
 use Rattle.sci_base.proofs.FitLemmas.{rem_bounds}
 use Rattle.sci_kinds.proofs.Inputs.{before_all}

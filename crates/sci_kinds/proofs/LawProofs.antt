@@ -2,7 +2,7 @@ use Rattle.std.proofs.Common.{◌≡◌, ℕ, zero, suc, ◌+◌, ◌*◌, ◌^�
 use Rattle.std.proofs.lemmas.Int.{ints}
 use Rattle.std.proofs.lemmas.Bool.Decides.{nat_tests}
 use Rattle.std.specs.Prelude.{nat_eq, nat_le, int_lt, int_le, unsigned_abs}
-use Rattle.sci_base.specs.Fit.{int_eq, width}
+use Rattle.sci_base.specs.Fit.{int_eq, in_range, width}
 use Rattle.sci_base.specs.Lists.{at, truth_at}
 use Rattle.sci_forms.specs.declared.Kind.{Kind}
 use Rattle.sci_forms.specs.declared.Kind.TheVariants.{Const, Summation, GainBlk, Product, AbsValue, Signum, MaxMin, Saturation, DeadBand, Convert, Mux, Demux, Extractor, LogicalOp, RelationalOp, Shift, BitSet, BitClear, ExtractBits, Switch2, Select, Logic, AndLog, Dollar, SampHold, Register, ModuloCount, GatedDelay, Sensor, EvtDly, EvtVarDly, IfThEl, ESelect, Halt}
@@ -10,7 +10,8 @@ use Rattle.sci_forms.specs.declared.spec.Spec.{Spec}
 use Rattle.sci_forms.specs.Ports.{port_at, elements, type_of, total, sum_rows}
 use Rattle.sci_kinds.specs.Table.{out}
 use Rattle.sci_forms.specs.Words.{param, out_type, size}
-use Rattle.sci_forms.specs.Forms.{feeds, fed, all_to, between, is_flag, is_sign, first_port, same_size, is_scalar, is_spread}
+use Rattle.sci_forms.specs.Forms.{fed, all_to, between, is_flag, is_sign, first_port, same_size, is_scalar, is_spread}
+use Rattle.sci_forms.specs.Form.{feeds}
 use Rattle.sci_forms.specs.Typed.{typed}
 use Rattle.sci_kinds.specs.Asks.{IsAlikeSpec, IsSign, Asks, SameFed, laid}
 use Rattle.sci_kinds.proofs.Inputs.{all_or_one, same_fed, length_laid, laid_same}
@@ -25,6 +26,15 @@ spread_of len n h = elim (either_true (nat_eq len 1) (nat_eq len n) h) [ inl p �
 
 past_zero : (k : ℕ) (a b : Bool) → cond (nat_eq (k + 1) 0) a b ≡ true → b ≡ true
 past_zero k a b h = let e : nat_eq (k + 1) 0 ≡ false = grind (arith, nat_tests) in rw e at h
+
+-- a test that is the same at each place
+same_places : (b a : Bool) → cond b a a ≡ true → a ≡ true
+same_places true a h = h
+same_places false a h = h
+
+every_place : (b c a : Bool) → cond b a (cond c a a) ≡ true → a ≡ true
+every_place true c a h = h
+every_place false c a h = same_places c a h
 
 sign_of : (v : ℤ) → is_sign v ≡ true → IsSign v
 sign_of v h = elim (either_true (int_eq v (pos 1)) (int_eq v (negsuc 0)) h) [ inl p ↦ inl (int_same v (pos 1) p) | inr p ↦ inr (int_same v (negsuc 0) p) ]
@@ -78,7 +88,7 @@ asks_of : (k : Kind) (s : Spec) → Tests k s → Asks k s
 asks_of Const s t = (
   alike_of s (one_of s t.outs_least t.outs_most) t.in_sizes t.out_sizes t.in_types t.out_types,
   omega (arith, t.ins_most),
-  (spread_of (length s.params) (size s) t.params_spread_is, λ k l. in_range_told (out_type s) (at s.params k) (t.params_fit k l)),
+  (spread_of (length s.params) (size s) t.params_spread_is, λ k l. in_range_told (out_type s) (at s.params k) (every_place (nat_eq k 0) (nat_eq k 1) (in_range (out_type s) (at s.params k)) (t.params_fit k l))),
 )
 asks_of Summation s t =
     let len : length s.params ≡ length s.ins + 1 = nat_same (length s.params) (length s.ins + 1) t.params_len in (
@@ -86,7 +96,7 @@ asks_of Summation s t =
       t.ins_least,
       t.ins_most,
       len,
-      λ k l. sign_of (param s (k + 1)) (past_zero k _ _ (t.params (k + 1) (omega (arith, len, l)))),
+      λ k l. sign_of (param s (k + 1)) (same_places (nat_eq (k + 1) 1) (is_sign (param s (k + 1))) (past_zero k _ _ (t.params (k + 1) (omega (arith, len, l))))),
     )
 asks_of GainBlk s t =
     let len : length s.params ≡ 2 = nat_same (length s.params) 2 t.params_len in (
@@ -152,8 +162,9 @@ asks_of Extractor s t =
         sizes = λ k h. let z : k ≡ 0 = omega (arith, h, in_one) in rw z refl;
       },
       column_total (port_at s.outs 0) (pos (length s.params)) (length s.params) (t.out_sizes 0 (omega (arith, one))) refl,
-      λ k l. let p : pos 1 ≤ℤ param s k = int_le_told (pos 1) (param s k) (t.params k l) in
-          (p, abs_at_most (param s k) (elements (port_at s.ins 0)) p (int_le_told (param s k) (pos (elements (port_at s.ins 0))) (t.indices k l))),
+      λ k l. let most = pos (elements (port_at s.ins 0)) in
+          let p : pos 1 ≤ℤ param s k = int_le_told (pos 1) (param s k) (every_place (nat_eq k 0) (nat_eq k 1) (int_le (pos 1) (param s k)) (t.params k l)) in
+          (p, abs_at_most (param s k) (elements (port_at s.ins 0)) p (int_le_told (param s k) most (every_place (nat_eq k 0) (nat_eq k 1) (int_le (param s k) most) (t.indices k l)))),
     )
 asks_of LogicalOp s t = (
   alike_of s (one_of s t.outs_least t.outs_most) t.in_sizes t.out_sizes t.in_types t.out_types,
@@ -228,7 +239,7 @@ asks_of Logic s t = (
   scalars s.ins t.in_sizes,
   scalars s.outs t.out_sizes,
   nat_same (length s.params) (2 ^ length s.ins * length s.outs) t.params_len,
-  λ k l. flag_of (param s k) (t.params k l),
+  λ k l. flag_of (param s k) (every_place (nat_eq k 0) (nat_eq k 1) (is_flag (param s k)) (t.params k l)),
 )
 asks_of AndLog s t =
     let one = one_of s t.outs_least t.outs_most in

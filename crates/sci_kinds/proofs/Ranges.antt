@@ -213,7 +213,7 @@ cell_in_range Switch2 s x m u kd a st mk f e v h c =
     (λ _. subst (λ t. InRange t (at u (size s + 1 + e))) (a.0.last e q) (f.in_range (size s + 1 + e) (omega (arith, a.0.total_ins)))))) c
 cell_in_range Select s x m u kd a st mk f e v h c =
     alike s _ v e a.0 h (λ q. value_cell (out_type s) _
-    (input_in_range s.ins (out_type s) (size s) u a.0.ins_alike f (least_set m s.evtin) e (omega (arith, a.1, least_set_below s.evtin m mk.few (mk.some kd))) q)) c
+    (input_in_range s.ins (out_type s) (size s) u a.0.ins_alike f (least_set m s.evtin) e (omega (arith, a.1, least_set_below s.evtin m mk.few (mk.some (rw kd refl)))) q)) c
 cell_in_range Logic s x m u kd a st mk f e v h c =
     let at_row = mul-add-lt (row_to (at u) (length s.ins)) (length s.outs) e (2 ^ length s.ins) (row_below (at u) (length s.ins)) (omega (arith, a.3)) in
     value_cell (type_at s.outs e) _ (flag (type_at s.outs e) _ (a.5 (row_to (at u) (length s.ins) * length s.outs + e) (omega (arith, at_row, a.4)))) v c

@@ -10,7 +10,8 @@ use Rattle.sci_forms.specs.declared.Kind.{Kind}
 use Rattle.sci_forms.specs.declared.spec.Spec.{Spec}
 use Rattle.sci_forms.specs.Ports.{port_at, elements, type_of, total, type_at, IsAlike, before, sum_rows}
 use Rattle.sci_forms.specs.Words.{out_type, size}
-use Rattle.sci_forms.specs.Forms.{counts_of, has_delay, has_state, between, params_len_ok, param_ok, state_len_ok, state_ok, firing_ok, first_port, in_type_ok, out_type_ok, param_fits, state_fits, is_scalar, same_size, is_column, in_size_ok, out_size_ok, params_spread, state_spread, index_ok, all_to, within, or_else, unless, first_not, given}
+use Rattle.sci_forms.specs.Forms.{counts_of, between, params_len_ok, param_ok, state_len_ok, state_ok, firing_ok, first_port, in_type_ok, out_type_ok, param_fits, state_fits, is_scalar, same_size, is_column, in_size_ok, out_size_ok, params_spread, state_spread, index_ok, all_to, within, or_else, unless, first_not, given}
+use Rattle.sci_forms.specs.Form.{has_delay, has_state}
 use Rattle.sci_forms.specs.Typed.{is_known, known_in, known_out, feed_ok, counted, formed_of, known_of, types_broken_of, sizes_broken_of, type_not_here, value_not_here, wrong_size, wrong_shape, param_fits_at, state_fits_at}
 use Rattle.sci_kinds.specs.Asks.{IsOneOut, IsAlikeSpec, IsSizedSpec, IsJoined}
 use Rattle.sci_forms.proofs.TestLemmas.{both_true, none_parts, none_given, none_unless, all_to_at, nat_same, nat_le_told, int_le_told, int_same}

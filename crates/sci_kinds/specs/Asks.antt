@@ -9,6 +9,10 @@ use Rattle.sci_forms.specs.declared.Kind.TheVariants.{Const, Summation, GainBlk,
 use Rattle.sci_forms.specs.declared.ports.Port.{Port}
 use Rattle.sci_forms.specs.declared.spec.Spec.{Spec}
 use Rattle.sci_forms.specs.Ports.{port_at, elements, total, before, type_at, IsAlike}
+use Rattle.sci_forms.specs.declared.form.Role.{Role}
+use Rattle.sci_forms.specs.declared.form.Role.TheVariants.{Values, State, Delay, Branch, Sensor as Senses, Halt as Halts}
+use Rattle.sci_forms.specs.declared.form.Mask.TheVariants.{Needed}
+use Rattle.sci_forms.specs.Form.{form, role_of}
 use Rattle.sci_forms.specs.Words.{param, out_type, in_type, size, state_len_of}
 
 -- numbers in range of t, one or one per element
@@ -110,15 +114,22 @@ pub record IsState (s : Spec) (x : List ℤ) : Type 0 where
   pub enough : length x ≡ state_len_of s.kind s
   pub in_range : (i : ℕ) → i < state_len_of s.kind s → InRange (out_type s) (at x i)
 
--- the mask has bits for activation inputs alone, and where the kind selects, a bit
+-- the mask has bits for activation inputs alone, and where the kind needs one, a bit
 pub record IsMask (s : Spec) (m : ℕ) : Type 0 where
   pub few : m < 2 ^ s.evtin
-  pub some : s.kind ≡ Select → m ≢ 0
+  pub some : (form s.kind).mask ≡ Needed → m ≢ 0
 
 -- the ports whose values go in: the inputs, and to a SENSOR the next value of its column, as its output has it
+abbrev pub entering_by : Role → Spec → List Port
+entering_by Senses s = s.outs
+entering_by Values s = s.ins
+entering_by (State m) s = s.ins
+entering_by Delay s = s.ins
+entering_by Branch s = s.ins
+entering_by Halts s = s.ins
+
 abbrev pub entering_of : Kind → Spec → List Port
-entering_of Sensor s = s.outs
-entering_of _ s = s.ins
+entering_of c s = entering_by (role_of c) s
 
 abbrev pub entering : Spec → List Port
 entering s = entering_of s.kind s

@@ -3,7 +3,7 @@ use Rattle.sci_base.specs.Lists.{truth_at}
 use Rattle.sci_forms.specs.declared.spec.Spec.{Spec}
 use Rattle.sci_forms.specs.Ports.{total, Fills}
 use Rattle.sci_kinds.specs.Table.{Values, out, next, delay, branch, first_state, first_held}
-use Rattle.sci_forms.specs.Forms.{is_sync}
+use Rattle.sci_forms.specs.Form.{is_sync}
 use Rattle.sci_forms.specs.Typed.{typed}
 use Rattle.sci_kinds.specs.Asks.{IsState, IsMask, entering, SameBut, SameFed, laid}
 

@@ -13,7 +13,7 @@ use Rattle.sci_kinds.specs.declared.Cell.{Cell}
 use Rattle.sci_kinds.specs.declared.Cell.TheVariants.{Value, Overflow, Zero}
 use Rattle.sci_forms.specs.declared.spec.Spec.{Spec}
 use Rattle.sci_forms.specs.Ports.{total}
-use Rattle.sci_forms.specs.Words.{param, out_type, size, state_len_of}
+use Rattle.sci_forms.specs.Words.{param, out_type, size, state_len_of, held_of}
 
 -- ---- words
 
@@ -207,13 +207,6 @@ abbrev pub branch_of : Kind → Spec → List ℤ → ℕ
 branch_of IfThEl s u = if int_lt (pos 0) (at u 0) then 1 else 2
 branch_of ESelect s u = unsigned_abs (brought (pos 1) (pos s.evtout) (at u 0))
 branch_of _ s u = 1
-
--- element e of the outputs before the block's first activation
-abbrev pub held_of : Kind → Spec → ℕ → ℤ
-held_of Dollar s e = spread s.state e
-held_of Register s e = at s.state 0
-held_of ModuloCount s e = at s.state 0
-held_of _ s e = pos 0
 
 -- ---- all elements
 

@@ -5,7 +5,7 @@
 ghost use Rattle.sci_kinds.specs.Laws.{FreeInputLaw, FedInputsLaw, LaidInputsLaw, RangeLaw, FirstHeldLaw, DelayLaw, BranchLaw};
 
 pub use sci_check::check_spec;
-pub use sci_forms::{Broken, Counts, Detail, Kind, Port, Ports, Spec};
+pub use sci_forms::{Broken, Counts, Detail, Kind, Port, Ports, Role, Spec};
 
 /// What one element of an output is.
 #[derive(Clone, Copy, Debug, Drop, PartialEq, Eq)]

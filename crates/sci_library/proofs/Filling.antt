@@ -1,17 +1,14 @@
 -- Libraries that are filled kind by kind.
 use Rattle.std.proofs.Common.{◌≡◌, ℕ, zero, suc, ◌+◌, ◌<◌, ◌≤◌, List, [], ◌∷◌, ◌++◌, length, refl, ap, sym, ◌∙◌, arith, subst, inl, inr, Some, None, Bool, true, false, cond}
-use denote.Param.Object.{Made, read_made}
-use denote.Param.Table.{Table}
-use mir.Syntax.{Dict}
 use Rattle.std.specs.Prelude.{nat_lt}
 use Rattle.std.proofs.lemmas.List.{get_or_append_left, get_or_push, length-append}
 use Rattle.std.proofs.lemmas.Bool.{cases_lt}
 use Rattle.std.proofs.lemmas.Bool.Decides.{nat_tests}
 use Rattle.sci_forms.specs.declared.Kind.{Kind}
 use Rattle.sci_forms.specs.Names.{kind_at}
-use Rattle.sci_bank.specs.contracts.library.Library.new.dyn-1.{Members}
 use Rattle.sci_bank.specs.Bank.{Meaning, no_bank}
-use Rattle.sci_bank.specs.Library.{kinds, next_of, AreInOrder, IsFull}
+use Rattle.sci_bank.specs.Library.{next_of, AreInOrder, IsFull}
+use Rattle.sci_forms.specs.Names.{kinds}
 use Rattle.sci_library.specs.Banks.{fresh, AreFresh, IsBegun}
 
 -- no banks
@@ -93,8 +90,3 @@ next_there (suc (suc (suc (suc (suc (suc (suc (suc (suc (suc (suc (suc (suc (suc
 -- where no kind is next, the library is full
 pub begun_full : (banks : List Meaning) → IsBegun banks → next_of (length banks) ≡ None → IsFull banks
 begun_full banks f n = let there = next_there (length banks) n in let few = f.few in omega (arith, there, few)
-
--- what is boxed keeps its meaning
-pub boxed_meaning : (T : Table Members Dict) (at i : T.I) (y : (T.entry i).0.Denot) (x : (T.entry at).0.Denot) → Made (λ j. (T.entry j).0.coded.code) (T.entry at).0.coded.code at i y x
-    → (T.entry i).1.meaning y ≡ (T.entry at).1.meaning x
-boxed_meaning T at i y x m = read_made T (T.entry at) at refl Meaning (λ j v. j.1.meaning v) i y x m

@@ -2,7 +2,7 @@
 ghost use Rattle.std.specs.Prelude.{◌≡◌};
 ghost use Rattle.sci_library.specs.Banks.{fresh, meaning_of};
 
-use sci_bank::{Bank, Fate};
+use sci_bank::{Bank, Call, Fate, Stuck};
 use sci_bank_logic::{
     AndLog, BitClear, BitSet, ExtractBits, Logic, LogicalOp, RelationalOp, Select, Shift, Switch2,
 };
@@ -16,6 +16,7 @@ use sci_bank_time::{
 };
 use sci_base::NoMemory;
 use sci_kinds::{Kind, Spec};
+use sci_span::Place;
 use std::alloc::Global;
 
 /// The bank of any kind.
@@ -168,6 +169,10 @@ impl Bank for AnyBank {
         call!(self, bank => bank.out(slot, mask, ins, outs))
     }
 
+    fn out_run(&mut self, calls: &[Call], places: &[Place], values: &mut [i64]) -> Option<Stuck> {
+        call!(self, bank => bank.out_run(calls, places, values))
+    }
+
     fn branch(&self, slot: usize, ins: &[i64]) -> u32 {
         call!(self, bank => bank.branch(slot, ins))
     }
@@ -178,6 +183,10 @@ impl Bank for AnyBank {
 
     fn update(&mut self, slot: usize, mask: u64, ins: &[i64]) {
         call!(self, bank => bank.update(slot, mask, ins))
+    }
+
+    fn update_run(&mut self, calls: &[Call], places: &[Place], values: &[i64]) {
+        call!(self, bank => bank.update_run(calls, places, values))
     }
 
     fn state_at(&self, slot: usize, i: usize) -> i64 {

@@ -1,10 +1,10 @@
-//! The library of the banks of all kinds.
+//! The banks of all kinds, in boxes.
 //!
-//! The function that makes it keeps it, and lends it to others: what is proved of a boxed bank is proved where it is boxed, so the gate
-//! takes no function that fills a library and hands it out. It puts kind by kind what `AnyBank::of_kind` gives, while `next_kind` names one.
+//! The function that makes them keeps them, and lends them to a function that knows of each no more than that it is a bank, which makes a library
+//! of them.
 #![tactic(auto)]
 
-ghost use Rattle.std.specs.Prelude.{◌≡◌, ◌+◌, Some, length, OnOk};
+ghost use Rattle.std.specs.Prelude.{◌≡◌, ◌+◌, Some, length, map, OnOk, OnErr};
 ghost use Rattle.sci_bank.specs.Bank.{Meaning};
 ghost use Rattle.sci_bank.specs.Library.{next_of};
 ghost use Rattle.sci_library.specs.Banks.{fresh, IsBegun};
@@ -13,19 +13,35 @@ mod any_bank;
 
 pub use any_bank::AnyBank;
 use sci_bank::Bank;
-use sci_bank::library::{Banks, Library};
 use sci_base::NoMemory;
+use sci_forms::KINDS;
 use sci_kinds::Kind;
 
-/// Puts the bank of the next kind, without instances and calls, into a library.
-pub fn put_fresh(lib: &mut Library, kind: Kind, bank: Box<dyn Bank>) -> Result<(), NoMemory>
-    requires begun { IsBegun (⟦<Library as Banks>⟧.banks lib.old) }
-    requires next { next_of (length (⟦<Library as Banks>⟧.banks lib.old)) ≡ Some kind }
-    requires fresh { meaning bank ≡ fresh kind }
-    ensures begun { OnOk result (IsBegun (⟦<Library as Banks>⟧.banks lib.new)) }
-    ensures count { OnOk result (length (⟦<Library as Banks>⟧.banks lib.new) ≡ length (⟦<Library as Banks>⟧.banks lib.old) + 1) }
+/// The kind whose bank comes next behind so many; none where all are there.
+pub fn next_kind(count: usize) -> Option<Kind>
+    ensures { result ≡ next_of count }
 {
-    match lib.put(bank) {
+    if count < usize::from(KINDS) {
+        Kind::at((count + 1) as u8)
+    } else {
+        None
+    }
+}
+
+/// Puts the bank of the next kind, without instances and calls, behind those that are there.
+pub fn put_fresh(
+    banks: &mut Vec<Box<dyn Bank>>,
+    kind: Kind,
+    bank: Box<dyn Bank>,
+) -> Result<(), NoMemory>
+    requires begun { IsBegun (map meaning banks.old.items) }
+    requires next { next_of (length banks.old.items) ≡ Some kind }
+    requires fresh { meaning bank ≡ fresh kind }
+    ensures begun { OnOk result (IsBegun (map meaning banks.new.items)) }
+    ensures count { OnOk result (length banks.new.items ≡ length banks.old.items + 1) }
+    ensures kept { OnErr result (map meaning banks.new.items ≡ map meaning banks.old.items) }
+{
+    match banks.push(bank) {
         Ok(()) => Ok(()),
         Err(_) => Err(NoMemory),
     }

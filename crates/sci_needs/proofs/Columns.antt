@@ -1,12 +1,11 @@
 -- An input file that has what a net needs of it has columns in range.
-use Rattle.std.proofs.Common.{◌≡◌, ℕ, zero, suc, ◌+◌, ℤ, List, [], ◌∷◌, length, Bool, true, false, cond, Option, Some, None, Result, Ok, Err, option_map, refl, sym, ◌∙◌, ap, subst, arith}
-use Rattle.std.specs.Prelude.{Contains, not, nat_lt, slice_index_or}
+use Rattle.std.proofs.Common.{◌≡◌, ℕ, zero, suc, ◌+◌, ℤ, List, [], ◌∷◌, length, Bool, true, false, cond, Option, Some, None, Ok, Err, option_map, refl, sym, ◌∙◌, subst, arith}
+use Rattle.std.specs.Prelude.{Contains, not, nat_lt}
 use Rattle.std.specs.List.{position, position_from}
 use Rattle.std.proofs.lemmas.Iterator.Adapters.{position_from-zero}
 use Rattle.std.proofs.lemmas.Option.{unwrap_or-slice_get}
 use Rattle.sci_base.specs.Plain.{Violation}
 use Rattle.sci_base.specs.Fit.{InRange, in_range}
-use Rattle.sci_forms.specs.Words.{out_type}
 use Rattle.sci_forms.proofs.TestLemmas.{in_range_told}
 use Rattle.sci_net.specs.Parts.{Parts, numbered, spec_of, column_of}
 use Rattle.sci_reaction.specs.Memory.{AreColumns}

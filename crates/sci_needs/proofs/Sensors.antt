@@ -6,7 +6,8 @@ use Rattle.std.proofs.lemmas.List.Elements.{All-append, Contains-append_left, Co
 use Rattle.sci_forms.specs.declared.spec.Spec.{Spec}
 use Rattle.sci_forms.specs.Words.{out_type}
 use Rattle.sci_net.specs.declared.net.Column.{Column}
-use Rattle.sci_net.specs.Parts.{Parts, IsBlock, IsSensor, is_sensor, column_of, spec_of, no_spec}
+use Rattle.sci_net.specs.Parts.{Parts, IsBlock, IsSensor, column_of, spec_of, no_spec}
+use Rattle.sci_forms.specs.Form.{is_sensor}
 use Rattle.sci_net.specs.Sources.{sensor_columns, columns_from, columns_of}
 use Rattle.sci_trace.specs.Columns.{Needed}
 use Rattle.sci_needs.specs.Needs.{need_of, needs_of, need_at, AreOfSensors}

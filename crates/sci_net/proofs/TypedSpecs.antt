@@ -7,7 +7,8 @@ use Rattle.sci_base.specs.Lists.{at}
 use Rattle.sci_forms.specs.declared.Kind.{Kind}
 use Rattle.sci_forms.specs.declared.Kind.TheVariants.{Sensor, IfThEl, ESelect}
 use Rattle.sci_forms.specs.declared.spec.Spec.{Spec}
-use Rattle.sci_forms.specs.Forms.{unless, between, all_to, param_ok, counts_of, is_sync}
+use Rattle.sci_forms.specs.Forms.{unless, between, all_to, param_ok, counts_of}
+use Rattle.sci_forms.specs.Form.{is_sync, is_sensor}
 use Rattle.sci_forms.specs.Typed.{typed, formed_of, counted}
 use Rattle.sci_net.specs.Parts.{Parts, spec_of, no_spec, column_of, numbered}
 use Rattle.sci_net.specs.Net.{IsNet}
@@ -44,6 +45,10 @@ sensor_column : (s : Spec) → formed_of Sensor s ≡ true → column_of s ≤ 2
 sensor_column s h =
     let params = left _ _ (left _ _ (left _ _ (left _ _ h))) in
     below (at s.params 0) (one_of (param_ok Sensor (length s.ins) s.params) (length s.params) (right _ _ (left _ _ params)) (right _ _ params))
+
+pub sensor_kind : (c : Kind) → is_sensor c ≡ true → c ≡ Sensor
+sensor_kind Sensor h = refl
+sensor_kind _ h = cc
 
 pub column_fits : (s : Spec) → s.kind ≡ Sensor → typed s ≡ true → column_of s < 2 ^ 32
 column_fits s e h =

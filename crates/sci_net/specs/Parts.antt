@@ -1,15 +1,15 @@
 -- The parts of a flat net: its blocks, numbered from 1, and which port feeds which.
-use Rattle.std.specs.Prelude.{◌≡◌, ℕ, zero, suc, ◌<◌, ◌≤◌, Bool, true, false, ◌&&◌, ◌||◌, nat_lt, nat_eq, List, [], length, map, slice_index_or, unsigned_abs, AllPairs, Contains, Vec}
+use Rattle.std.specs.Prelude.{◌≡◌, ℕ, zero, suc, ◌<◌, ◌≤◌, Bool, true, ◌&&◌, ◌||◌, nat_lt, nat_eq, List, [], length, map, slice_index_or, unsigned_abs, AllPairs, Contains, Vec}
 use Rattle.std.specs.declared.alloc.Global.{Global}
 use Rattle.sci_base.specs.Lists.{at}
 use Rattle.sci_base.specs.declared.refusal.Place.{Place}
-use Rattle.sci_forms.specs.declared.Kind.{Kind}
-use Rattle.sci_forms.specs.declared.Kind.TheVariants.{Sensor, Halt}
+use Rattle.sci_forms.specs.declared.Kind.TheVariants.{Halt}
 use Rattle.sci_forms.specs.declared.ports.Port.{Port}
 use Rattle.sci_forms.specs.declared.spec.Spec.{Spec}
 use Rattle.sci_forms.specs.Ports.{no_port}
 use Rattle.sci_net.specs.declared.Wire.{Wire}
 use Rattle.sci_net.specs.declared.Feed.{Feed}
+use Rattle.sci_forms.specs.Form.{is_sensor}
 
 -- by block: the spec, the place of the object, for each regular input the output that feeds it, and for each activation input
 -- the activation outputs that feed it
@@ -109,10 +109,6 @@ precedes a b = nat_lt a.block b.block || (nat_eq a.block b.block && nat_lt a.por
 -- sorted, without repeats
 abbrev pub AreRising : List Feed → Type 0
 AreRising fs = AllPairs (λ a b. precedes a b ≡ true) fs
-
-abbrev pub is_sensor : Kind → Bool
-is_sensor Sensor = true
-is_sensor _ = false
 
 -- the column of the input file that a sensor reads
 abbrev pub column_of : Spec → ℕ

@@ -2,13 +2,14 @@
 ghost use Rattle.std.specs.Prelude.{◌≡◌, ◌<◌, ◌≤◌, ◌^◌, ◌++◌, ◌∷◌, length, IfOk, OnOk, All, true};
 ghost use Rattle.sci_forms.specs.Typed.{typed};
 ghost use Rattle.sci_net.specs.declared.Source.TheVariants.{Start};
-ghost use Rattle.sci_net.specs.Parts.{with_specs, spec_of, path_of, wire_of, feeds_of, is_sensor, column_of};
+ghost use Rattle.sci_net.specs.Parts.{with_specs, spec_of, path_of, wire_of, feeds_of, column_of};
+ghost use Rattle.sci_forms.specs.Form.{is_sensor};
 ghost use Rattle.sci_net.specs.Net.{IsNet};
 ghost use Rattle.sci_net.specs.Sources.{ports_to, block_sources, sources_from, sources_of, source_of, sensor_columns, columns_from, columns_of};
 
 use crate::{Feed, Source, Wire, Wiring};
 use sci_base::{NoMemory, Place, Ty};
-use sci_forms::{Kind, Spec};
+use sci_forms::Spec;
 use std::alloc::Global;
 use std::marker::Model;
 
@@ -169,7 +170,7 @@ fn push_column(columns: &mut Vec<Column>, block: u32, spec: &Spec) -> Result<(),
     requires { typed spec.now ≡ true }
     ensures { OnOk result (columns.new.items ≡ columns.old.items ++ sensor_columns block spec.now) }
 {
-    if let Kind::Sensor = spec.kind {
+    if spec.kind.is_sensor() {
         columns.push(Column {
             number: spec.params.at(0).unsigned_abs() as u32,
             ty: spec.outs.port(0).kind_of_type(),

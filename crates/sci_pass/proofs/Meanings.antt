@@ -4,7 +4,7 @@ use Rattle.sci_base.specs.Lists.{at, listed}
 use Rattle.sci_forms.specs.declared.Kind.{Kind}
 use Rattle.sci_forms.specs.declared.Kind.TheVariants.{Const, Dollar, Register, ModuloCount, GatedDelay, EvtDly, EvtVarDly}
 use Rattle.sci_forms.specs.declared.spec.Spec.{Spec}
-use Rattle.sci_forms.specs.Forms.{has_state, has_delay}
+use Rattle.sci_forms.specs.Form.{has_state, has_delay}
 use Rattle.sci_forms.specs.Ports.{total}
 use Rattle.sci_forms.specs.Words.{state_len_of}
 use Rattle.sci_kinds.specs.Table.{cell_of, next_of, delay_of, branch_of, cell, state_len, next, delay}

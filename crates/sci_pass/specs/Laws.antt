@@ -1,7 +1,7 @@
 -- The laws of the pass over a row, and of a block's state.
 use Rattle.std.specs.Prelude.{◌≡◌, ℕ, ◌↔◌, true, false, ℤ, negsuc, List, [], ◌∷◌, ◌++◌, Contains}
 use Rattle.sci_forms.specs.declared.spec.Spec.{Spec}
-use Rattle.sci_forms.specs.Forms.{has_state, has_delay}
+use Rattle.sci_forms.specs.Form.{has_state, has_delay}
 use Rattle.sci_kinds.specs.Table.{next, delay, state_len}
 use Rattle.sci_kinds.specs.Asks.{IsState}
 use Rattle.sci_net.specs.declared.Source.{Source}

@@ -11,13 +11,15 @@ use Rattle.sci_net.specs.Parts.{Parts, IsBlock, IsInput, IsOutput, numbered, no_
 use Rattle.sci_net.specs.Net.{IsNet, all_elements}
 use Rattle.sci_reaction.specs.Equations.{input_in, output_among}
 use Rattle.sci_places.specs.Flat.{start_of, values_at, IsWhole}
-use Rattle.sci_places.specs.Layout.{output_span, gathered, AreWithin, spans_length, read_at, span_end}
+use Rattle.sci_places.specs.Layout.{output_span}
+use Rattle.sci_span.specs.Values.{gathered, AreWithin, spans_length, read_at, span_end}
 use Rattle.sci_places.specs.Laws.{InputsAreGathered}
-use Rattle.sci_places.proofs.Lists.{up_to, read_within, read_length}
+use Rattle.sci_places.proofs.Lists.{up_to, read_within}
+use Rattle.sci_span.proofs.Runs.{read_length}
 use Rattle.sci_places.proofs.Outputs.{block_within}
 use Rattle.std.proofs.lemmas.List.{ext_get_or, get_or-map, length-map}
 use Rattle.std.proofs.lemmas.List.Sums.{sum_by-cons}
-use Rattle.sci_places.specs.declared.span.Span.{Span}
+use Rattle.sci_span.specs.declared.span.Span.{Span}
 
 -- a list by its elements
 pub listed_all : (vs : List ℤ) (n : ℕ) → length vs ≡ n → listed (at vs) n ≡ vs

@@ -18,9 +18,10 @@ use Rattle.sci_kinds.proofs.TypedLemmas.{tests}
 use Rattle.sci_net.specs.declared.Wire.{Wire}
 use Rattle.sci_net.specs.Parts.{Parts, IsBlock, IsInput, numbered, spec_of, wire_of, output_of, no_wire}
 use Rattle.sci_net.specs.Net.{IsNet}
-use Rattle.sci_places.specs.declared.span.Span.{Span}
-use Rattle.sci_places.specs.declared.laying.BlockPlace.{BlockPlace as Kept}
-use Rattle.sci_places.specs.Layout.{IsLayout, BlockPlace, place_of, no_place, laid_down, spans_length}
+use Rattle.sci_span.specs.declared.span.Span.{Span}
+use Rattle.sci_places.specs.Layout.{IsLayout, laid_down}
+use Rattle.sci_span.specs.declared.place.Place.{Place}
+use Rattle.sci_span.specs.Values.{no_place, spans_length}
 use Rattle.sci_places.proofs.Inputs.{inputs_law, output_within}
 
 -- one more span
@@ -60,9 +61,9 @@ ins_small n b net block =
         let same : elements (output_of n w.block w.port) ≡ elements (port_at (spec_of n b).ins k) = ap elements (net.joined b (suc k) i) in
         omega (arith, fits, same, net.small)
 
-pub spans_small : (n : Parts) (b : ℕ) (p : Kept) → IsNet n → IsBlock n b → place_of p ≡ laid_down n b → spans_length p.ins < 2 ^ 63
+pub spans_small : (n : Parts) (b : ℕ) (p : Place) → IsNet n → IsBlock n b → p ≡ laid_down n b → spans_length p.ins < 2 ^ 63
 spans_small n b p net block e =
-    let ins = ap (λ (q : BlockPlace). spans_length q.ins) e in
+    let ins = ap (λ (q : Place). spans_length q.ins) e in
     let long = inputs_law.long n b net block in
     let small = ins_small n b net block in
     omega (arith, ins, long, small)
@@ -79,14 +80,14 @@ max_is a b = max_by a b (nat_cmp b a) refl
 
 -- ---- the places of the first k blocks, and the greatest number of elements that one of these takes
 
-pub record LaidTo (n : Parts) (k : ℕ) (ps : List Kept) (longest : ℕ) : Type 0 where
+pub record LaidTo (n : Parts) (k : ℕ) (ps : List Place) (longest : ℕ) : Type 0 where
   pub one_each : length ps ≡ k
-  pub places : (b : ℕ) → 1 ≤ b → b ≤ k → numbered no_place (map place_of ps) b ≡ laid_down n b
+  pub places : (b : ℕ) → 1 ≤ b → b ≤ k → numbered no_place ps b ≡ laid_down n b
   pub long_enough : (b : ℕ) → 1 ≤ b → b ≤ k → total (spec_of n b).ins ≤ longest
   pub some : 1 ≤ longest
   pub no_longer : (longest ≡ 1) ⊎ ((b : ℕ) × (1 ≤ b) × (b ≤ k) × (total (spec_of n b).ins ≡ longest))
 
-pub laid_none : (n : Parts) (ps : List Kept) → ps ≡ [] → LaidTo n 0 ps 1
+pub laid_none : (n : Parts) (ps : List Place) → ps ≡ [] → LaidTo n 0 ps 1
 laid_none n ps e = record {
   one_each = ap length e;
   places = λ b h l. absurd (omega (arith, h, l));
@@ -103,17 +104,14 @@ pub numbered_new : {A : Type 0} (d : A) (xs : List A) (y : A) (b : ℕ) → b �
 numbered_new d xs y zero h = absurd (omega (arith, h))
 numbered_new d xs y (suc k) h = get_or_push xs y d k (omega (arith, h))
 
-module _ (n : Parts) (k : ℕ) (ps : List Kept) (longest : ℕ) (p : Kept) (h : LaidTo n k ps longest) (e : place_of p ≡ laid_down n (k + 1)) where
-  place_more : (b : ℕ) → 1 ≤ b → b ≤ k + 1 → numbered no_place (map place_of (ps ++ (p ∷ []))) b ≡ laid_down n b
-  place_more b least most =
-      let long = length-map ps place_of in
-      ap (λ xs. numbered no_place xs b) (map_push place_of ps p)
-      ∙ elim (cases_lt b (k + 1)) as (λ _. numbered no_place (map place_of ps ++ (place_of p ∷ [])) b ≡ laid_down n b) [
-        | inl l ↦ numbered_old no_place (map place_of ps) (place_of p ∷ []) b (omega (arith, l, long, h.one_each)) ∙ h.places b least (omega (arith, l))
-        | inr l ↦
-            let last : b ≡ k + 1 = omega (arith, l, most) in
-            numbered_new no_place (map place_of ps) (place_of p) b (omega (arith, last, long, h.one_each)) ∙ (e ∙ ap (laid_down n) (sym last))
-      ]
+module _ (n : Parts) (k : ℕ) (ps : List Place) (longest : ℕ) (p : Place) (h : LaidTo n k ps longest) (e : p ≡ laid_down n (k + 1)) where
+  place_more : (b : ℕ) → 1 ≤ b → b ≤ k + 1 → numbered no_place (ps ++ (p ∷ [])) b ≡ laid_down n b
+  place_more b least most = elim (cases_lt b (k + 1)) [
+    | inl l ↦ numbered_old no_place ps (p ∷ []) b (omega (arith, l, h.one_each)) ∙ h.places b least (omega (arith, l))
+    | inr l ↦
+        let last : b ≡ k + 1 = omega (arith, l, most) in
+        numbered_new no_place ps p b (omega (arith, last, h.one_each)) ∙ (e ∙ ap (laid_down n) (sym last))
+  ]
 
   length_more : (t : ℕ) → t ≡ total (spec_of n (k + 1)).ins → (b : ℕ) → 1 ≤ b → b ≤ k + 1 → total (spec_of n b).ins ≤ max longest t
   length_more t g b least most = elim (cases_lt b (k + 1)) [
@@ -137,19 +135,19 @@ module _ (n : Parts) (k : ℕ) (ps : List Kept) (longest : ℕ) (p : Kept) (h : 
         ]
   ]
 
-  pub laid_next : (ps' : List Kept) (t : ℕ) → ps' ≡ ps ++ (p ∷ []) → t ≡ total (spec_of n (k + 1)).ins → LaidTo n (k + 1) ps' (max longest t)
+  pub laid_next : (ps' : List Place) (t : ℕ) → ps' ≡ ps ++ (p ∷ []) → t ≡ total (spec_of n (k + 1)).ins → LaidTo n (k + 1) ps' (max longest t)
   laid_next ps' t f g = record {
     one_each = ap length f ∙ (length_push ps p ∙ ap (λ m. m + 1) h.one_each);
-    places = λ b least most. ap (λ xs. numbered no_place (map place_of xs) b) f ∙ place_more b least most;
+    places = λ b least most. ap (λ xs. numbered no_place xs b) f ∙ place_more b least most;
     long_enough = length_more t g;
     some = let more = le-max_left longest t in omega (arith, more, h.some);
     no_longer = no_longer_more t g;
   }
 
-pub laid_all : (n : Parts) (k : ℕ) (ps : List Kept) (longest : ℕ) → k ≡ length n.specs → LaidTo n k ps longest
-    → IsLayout n (record { blocks = map place_of ps; longest = longest })
+pub laid_all : (n : Parts) (k : ℕ) (ps : List Place) (longest : ℕ) → k ≡ length n.specs → LaidTo n k ps longest
+    → IsLayout n (record { blocks = ps; longest = longest })
 laid_all n k ps longest e h = record {
-  one_each = length-map ps place_of ∙ (h.one_each ∙ e);
+  one_each = h.one_each ∙ e;
   places = λ b block. h.places b block.least (omega (arith, block.most, e));
   long_enough = λ b block. h.long_enough b block.least (omega (arith, block.most, e));
   some = h.some;

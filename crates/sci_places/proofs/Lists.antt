@@ -67,9 +67,6 @@ read_within xs start whole from n h =
     ∙ (take-take n (whole - from) (drop from (drop start xs)) fits
     ∙ ap (take n) (drop-drop from start xs)))
 
-pub read_length : {A : Type 0} (xs : List A) (start n : ℕ) → start + n ≤ length xs → length (take n (drop start xs)) ≡ n
-read_length xs start n h = let long = length-drop start xs in length-take-le n (drop start xs) (omega (arith, h, long))
-
 -- what is written at a place stands there
 pub written_at : {A : Type 0} (xs vs : List A) (start n : ℕ) → length vs ≡ n → start + n ≤ length xs
     → take n (drop start (take start xs ++ (vs ++ drop (start + length vs) xs))) ≡ vs

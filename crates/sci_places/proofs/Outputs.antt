@@ -4,7 +4,8 @@ use Rattle.std.proofs.lemmas.Bool.{cases_lt}
 use Rattle.sci_forms.specs.Ports.{total}
 use Rattle.sci_net.specs.Parts.{Parts, IsBlock, spec_of}
 use Rattle.sci_net.specs.Net.{IsNet, all_elements}
-use Rattle.sci_places.specs.Flat.{start_of, values_at, IsWhole, overwritten}
+use Rattle.sci_places.specs.Flat.{start_of, values_at, IsWhole}
+use Rattle.sci_span.specs.Values.{overwritten}
 use Rattle.sci_places.specs.Laws.{OutputsAreWritten}
 use Rattle.sci_places.proofs.Lists.{start_within, start_apart, written_at, written_length, kept_before, kept_behind}
 

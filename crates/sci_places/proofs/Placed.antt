@@ -6,20 +6,20 @@ use Rattle.sci_forms.specs.declared.spec.Spec.{Spec}
 use Rattle.sci_forms.specs.Ports.{port_at, elements, total, before}
 use Rattle.sci_net.specs.declared.Wire.{Wire}
 use Rattle.sci_net.specs.Parts.{Parts, IsOutput, numbered, spec_of, no_spec}
-use Rattle.sci_net.proofs.Numbered.{numbered_map, numbered_next}
-use Rattle.sci_places.specs.declared.span.Span.{Span}
-use Rattle.sci_places.specs.declared.laying.BlockPlace.{BlockPlace as Kept}
+use Rattle.sci_net.proofs.Numbered.{numbered_read, numbered_next}
+use Rattle.sci_span.specs.declared.span.Span.{Span}
+use Rattle.sci_span.specs.declared.place.Place.{Place}
 use Rattle.sci_places.specs.Flat.{start_in}
-use Rattle.sci_places.specs.Layout.{Layout, AreStarts, place_of, place_at, no_place, output_span}
+use Rattle.sci_places.specs.Layout.{Layout, AreStarts, place_at, output_span}
+use Rattle.sci_span.specs.Values.{no_place}
 use Rattle.sci_places.proofs.Lists.{start_next}
 
 -- the place of a block is the one that is kept for it
-pub place_kept : (ps : List Kept) (l : Layout) (b : ℕ) (v : Kept) → map place_of ps ≡ l.blocks → 1 ≤ b → b ≤ length l.blocks → v ≡ get_or ps (b - 1) v
-    → place_at l b ≡ place_of v
+pub place_kept : (ps : List Place) (l : Layout) (b : ℕ) (v : Place) → ps ≡ l.blocks → 1 ≤ b → b ≤ length l.blocks → v ≡ get_or ps (b - 1) v
+    → place_at l b ≡ v
 place_kept ps l b v e h k r =
-    let long = length-map ps place_of in
     let same = ap length e in
-    ap (λ ls. numbered no_place ls b) (sym e) ∙ numbered_map place_of no_place ps b v h (omega (arith, k, long, same)) r
+    ap (λ ls. numbered no_place ls b) (sym e) ∙ sym (numbered_read no_place ps b v h (omega (arith, k, same)) r)
 
 -- a number from 1 on is that of the element before it
 pub numbered_at : {A : Type 0} (d : A) (xs : List A) (b : ℕ) → 1 ≤ b → numbered d xs b ≡ get_or xs (b - 1) d

@@ -1,5 +1,5 @@
 -- The values of all outputs of a net as one list: by block, port and element.
-use Rattle.std.specs.Prelude.{◌≡◌, ℕ, zero, suc, ◌+◌, ◌-◌, ℤ, List, [], ◌∷◌, ◌++◌, take, drop, length}
+use Rattle.std.specs.Prelude.{◌≡◌, ℕ, zero, suc, ◌+◌, ◌-◌, ℤ, List, [], ◌∷◌, take, drop, length}
 use Rattle.sci_forms.specs.declared.spec.Spec.{Spec}
 use Rattle.sci_forms.specs.Ports.{total}
 use Rattle.sci_net.specs.Parts.{Parts, spec_of}
@@ -23,7 +23,3 @@ values_at n values b = take (total (spec_of n b).outs) (drop (start_of n b) valu
 -- one value for each element
 abbrev pub IsWhole : Parts → List ℤ → Type 0
 IsWhole n values = length values ≡ all_elements n.specs
-
--- these instead, from a place on
-abbrev pub overwritten : List ℤ → ℕ → List ℤ → List ℤ
-overwritten values start vs = take start values ++ (vs ++ drop (start + length vs) values)

@@ -4,8 +4,10 @@ use Rattle.sci_forms.specs.Ports.{total}
 use Rattle.sci_net.specs.Parts.{Parts, IsBlock, spec_of}
 use Rattle.sci_net.specs.Net.{IsNet}
 use Rattle.sci_reaction.specs.Equations.{input_in, all_inputs}
-use Rattle.sci_places.specs.Flat.{start_of, values_at, IsWhole, overwritten}
-use Rattle.sci_places.specs.Layout.{input_spans, gathered, AreWithin, spans_length}
+use Rattle.sci_places.specs.Flat.{start_of, values_at, IsWhole}
+use Rattle.sci_span.specs.Values.{overwritten}
+use Rattle.sci_places.specs.Layout.{input_spans}
+use Rattle.sci_span.specs.Values.{gathered, AreWithin, spans_length}
 
 -- the values at the places of a block's inputs are those of its inputs, and there are as many as its inputs have elements
 pub record InputsAreGathered : Type 0 where

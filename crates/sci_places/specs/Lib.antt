@@ -1,4 +1,3 @@
 pub mod Flat
 pub mod Layout
-pub mod Singles
 pub mod Laws

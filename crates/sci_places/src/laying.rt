@@ -2,21 +2,14 @@
 ghost use Rattle.std.specs.Prelude.{◌≡◌, ◌+◌, ◌≤◌, ◌<◌, ◌^◌, length, IfOk};
 ghost use Rattle.sci_forms.specs.Ports.{total, before};
 ghost use Rattle.sci_net.specs.Parts.{IsBlock, IsOutput, spec_of};
-ghost use Rattle.sci_places.specs.Layout.{AreStarts, place_of, laid_down, output_span, spans_length};
+ghost use Rattle.sci_places.specs.Layout.{AreStarts, laid_down, output_span};
+ghost use Rattle.sci_span.specs.Values.{spans_length};
 
-use crate::Span;
-use crate::block_inputs::Inputs;
 use sci_base::NoMemory;
 use sci_forms::Ports;
 use sci_net::{Net, Wire};
+use sci_span::{Inputs, Place, Span};
 use std::alloc::Global;
-
-/// Where the outputs of a block lie, and for each of its inputs the output that feeds it.
-#[derive(Drop)]
-pub struct BlockPlace {
-    pub outs: Span,
-    pub ins: Inputs,
-}
 
 /// How many elements the first `k` of some ports have.
 #[tactic(auto, using(crate::proofs::Lists::up_to, crate::proofs::Lists::before_next))]
@@ -82,10 +75,10 @@ pub fn block_place(
     net: &Net,
     starts: &[usize],
     block: u32,
-) -> Result<BlockPlace, NoMemory>
+) -> Result<Place, NoMemory>
     requires block { IsBlock net.now block }
     requires starts { AreStarts net.now starts.now }
-    ensures { IfOk result (λ p. place_of p ≡ laid_down net.now block) }
+    ensures { IfOk result (λ p. p ≡ laid_down net.now block) }
 {
     net.well_formed();
     let inputs = net.spec(block).ins.len();
@@ -93,23 +86,11 @@ pub fn block_place(
     for port in 0..inputs {
         ins.push(output_span(net, starts, net.wire(block, port as u32 + 1)))?;
     }
-    Ok(BlockPlace {
+    Ok(Place {
         outs: Span {
             start: starts[block as usize - 1],
             len: outs_length(net, block),
         },
         ins: Inputs::of(alloc, ins)?,
     })
-}
-
-/// How many values some spans have.
-pub fn spans_length(spans: &[Span]) -> usize
-    requires { spans_length spans.now < 2 ^ 63 }
-    ensures { result ≡ spans_length spans.now }
-{
-    let mut count = 0;
-    for span in spans {
-        count += span.len;
-    }
-    count
 }

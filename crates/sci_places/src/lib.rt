@@ -3,13 +3,11 @@
 
 ghost use Rattle.sci_places.specs.Laws.{InputsAreGathered, OutputsAreWritten};
 
-mod block_inputs;
 mod laying;
 mod places;
-mod span;
 
 pub use places::Places;
-pub use span::Span;
+pub use sci_span::Span;
 
 /// The values at the places of a block's inputs are those of its inputs.
 pub fn inputs_are_gathered()

@@ -1,31 +1,31 @@
 // The places of a net's values.
 ghost use Rattle.std.specs.Prelude.{◌≡◌, ◌≤◌, take, length, IfOk};
 
-use crate::Span;
-use crate::laying::{BlockPlace, block_place, spans_length, starts};
+use crate::laying::{block_place, starts};
 use sci_base::NoMemory;
 use sci_net::Net;
+use sci_span::{Place, Span, spans_length};
 use std::alloc::Global;
 use std::marker::Model;
 
 /// Where the values of a net lie in one list of the values of all outputs, by block, port and element. Blocks are counted from 1.
 #[derive(Drop)]
 pub struct Places {
-    blocks: Vec<BlockPlace>,
+    blocks: Vec<Place>,
     longest: usize,
 }
 
 impl Model for Places {
-    ghost use Rattle.std.specs.Prelude.{map};
-    ghost use Rattle.sci_places.specs.Layout.{Layout, place_of};
+    ghost use Rattle.sci_places.specs.Layout.{Layout};
 
     ghost Value = { Layout };
 
-    ghost view = { λ p. record { blocks = map place_of p.blocks.items; longest = p.longest } };
+    ghost view = { λ p. record { blocks = p.blocks.items; longest = p.longest } };
 }
 
 impl Places {
-    ghost use Rattle.sci_places.specs.Layout.{IsLayout, place_at, gathered, spans_length, AreWithin};
+    ghost use Rattle.sci_places.specs.Layout.{IsLayout, place_at};
+    ghost use Rattle.sci_span.specs.Values.{gathered, spans_length, AreWithin};
 
     /// The places of a net's values.
     pub fn new(alloc: Global, net: &Net) -> Result<Places, NoMemory>
@@ -48,6 +48,14 @@ impl Places {
         ensures { result ≡ self.now.longest }
     {
         self.longest
+    }
+
+    /// Where the values of each block lie, by block.
+    #[inline(always)]
+    pub fn blocks(&self) -> &[Place]
+        ensures { result.now ≡ self.now.blocks }
+    {
+        &self.blocks
     }
 
     /// Where the outputs of a block lie.

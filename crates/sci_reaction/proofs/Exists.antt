@@ -8,7 +8,7 @@ use Rattle.std.proofs.lemmas.List.Kept.{AllPairs-cons}
 use Rattle.std.proofs.lemmas.List.Quantifiers.{all_pairs_push}
 use Rattle.std.specs.List.{AllPairs}
 use Rattle.std.specs.Int.{bit_at}
-use Rattle.sci_forms.specs.Forms.{is_sync}
+use Rattle.sci_forms.specs.Form.{is_sync}
 use Rattle.sci_loop.proofs.Decided.{Decided, decide_true}
 use Rattle.sci_net.specs.declared.Feed.{Feed}
 use Rattle.sci_net.specs.declared.Source.{Source}
@@ -16,13 +16,13 @@ use Rattle.sci_net.specs.declared.Source.TheVariants.{Start, Port}
 use Rattle.sci_net.specs.Parts.{Parts, IsBlock, IsWired, IsActivationOutput, spec_of, feeds_of, precedes}
 use Rattle.sci_reaction.specs.Links.{SourceFeeds}
 use Rattle.sci_reaction.specs.Active.{seeded, passed, Possible, Reaches}
-use Rattle.sci_reaction.specs.Depends.{IsLoopFree, Precedes}
+use Rattle.sci_reaction.specs.Depends.{IsLoopFree, HasDepth, Precedes}
 use Rattle.sci_reaction.specs.Equations.{HasBits}
 use Rattle.sci_reaction.specs.Schedule.{Guard, Entry, blocks_of, branch_of, IsGuard, IsEntry, IsRow}
 use Rattle.sci_reaction.proofs.Lists.{Has, or_left, or_right, and_true, Contains-cons}
 use Rattle.sci_reaction.proofs.Spreading.{Spread-block}
 use Rattle.sci_reaction.proofs.Decide.{bound, block_below, decide_both, decide_like, decide_has, decide_possible, decide_always, decide_reaches}
-use Rattle.sci_reaction.proofs.OneResult.{precedes_trans, precedes_cases}
+use Rattle.sci_reaction.proofs.OneResult.{depth_of, precedes_trans, precedes_cases}
 use Rattle.sci_reaction.proofs.Rows.{Has-cons, Contains-has, has-Contains, block_in, Sorted, feeds_within, test, mask_number, mask_number-bits, guard_mask, guard_mask-bits}
 
 -- ---- the guards of an entry, by block and port
@@ -172,17 +172,19 @@ module _ (n : Parts) (s : Source) (ok : IsWired n) (b : ℕ) (inside : IsBlock n
   source_most Start p h = absurd h
   source_most (Port q) p h = (feeds_within n ok b p q inside h).most
 
-  pub entry_of : (e : Entry) × (e.block ≡ b) × IsEntry n s e
-  entry_of =
+  pub entry_of : (depth : ℕ) → HasDepth n s b depth → (e : Entry) × (e.block ≡ b) × IsEntry n s e
+  entry_of depth has =
       let gs = guards_of in (
         record {
           block = b;
+          depth = depth;
           always = (test (decide_always n s b)).0;
           mask = mask_number (decide_source s) (spec_of n b).evtin;
           guards = gs.0;
         },
         refl,
         record {
+          depth_is = has;
           always_is = (test (decide_always n s b)).1;
           mask_is = mask_number-bits (SourceFeeds n s b) (decide_source s) (spec_of n b).evtin (source_most s);
           rising = gs.1;
@@ -254,7 +256,9 @@ module _ (n : Parts) (s : Source) (free : IsLoopFree n s) where
     entries_of [] all = ([], refl, λ e h. absurd (omega (arith, h.1)))
     entries_of (x ∷ xs) all =
         let rest = entries_of xs (λ c h. all c ((Has-cons x xs c).1 (inr h))) in
-        let here = entry_of n s ok x (Spread-block n s _ (all x ((Has-cons x xs x).1 (inl refl)))) in (
+        let may = all x ((Has-cons x xs x).1 (inl refl)) in
+        let depth = depth_of n s free x may in
+        let here = entry_of n s ok x (Spread-block n s _ may) depth.0 depth.1 in (
           here.0 ∷ rest.0,
           ap (λ c. c ∷ blocks_of rest.0) here.1 ∙ ap (λ cs. x ∷ cs) rest.1,
           λ e h. ⊎_elim (λ same. subst (IsEntry n s) same here.2) (λ there. rest.2 e there) (Contains-cons here.0 rest.0 e h),

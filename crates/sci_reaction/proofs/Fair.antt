@@ -5,7 +5,8 @@ use Rattle.sci_base.specs.Lists.{truth_at}
 use Rattle.sci_forms.specs.declared.spec.Spec.{Spec}
 use Rattle.sci_forms.specs.Typed.{typed}
 use Rattle.sci_kinds.proofs.LawProofs.{laid_inputs}
-use Rattle.sci_net.specs.Parts.{Parts, IsBlock, spec_of, is_sensor}
+use Rattle.sci_net.specs.Parts.{Parts, IsBlock, spec_of}
+use Rattle.sci_forms.specs.Form.{is_sensor}
 use Rattle.sci_reaction.specs.Memory.{Memory, Columns, next_value}
 use Rattle.sci_reaction.specs.Equations.{branch_on, answer, sensed, values_or_word}
 use Rattle.sci_reaction.proofs.Agreement.{AgreeThrough, IsFair}

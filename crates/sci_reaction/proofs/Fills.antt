@@ -16,7 +16,8 @@ use Rattle.sci_kinds.proofs.LawProofs.{asks, range_law}
 use Rattle.sci_kinds.proofs.Elements.{total_one, type_at_alike}
 use Rattle.sci_loop.specs.Grounded.{Grounded, grounded}
 use Rattle.sci_net.specs.declared.Source.{Source}
-use Rattle.sci_net.specs.Parts.{Parts, IsBlock, IsInput, spec_of, wire_of, numbered, is_sensor, column_of}
+use Rattle.sci_net.specs.Parts.{Parts, IsBlock, IsInput, spec_of, wire_of, numbered, column_of}
+use Rattle.sci_forms.specs.Form.{is_sensor}
 use Rattle.sci_net.specs.Net.{IsNet}
 use Rattle.sci_reaction.specs.Links.{has_feedthrough}
 use Rattle.sci_reaction.specs.Active.{Possible}

@@ -5,6 +5,8 @@ use Rattle.std.proofs.lemmas.Nat.Bits.{same_from_bits, bit_at-lt, bit_at-zero}
 use Rattle.std.specs.Int.{bit_at}
 use Rattle.sci_forms.specs.declared.Kind.{Kind}
 use Rattle.sci_forms.specs.declared.Kind.TheVariants.{Select}
+use Rattle.sci_forms.specs.declared.form.Mask.TheVariants.{Needed}
+use Rattle.sci_forms.specs.Form.{form}
 use Rattle.sci_forms.specs.declared.spec.Spec.{Spec}
 use Rattle.sci_kinds.specs.Asks.{Asks, IsMask}
 use Rattle.sci_kinds.proofs.LawProofs.{asks}
@@ -51,16 +53,17 @@ module _ (n : Parts) (s : Source) (y : Signals) where
       (f.input - 1, subst (IsActivated n s y b) (sym place) here)
   some_input (inherited a b d i u) some = absurd (let none = i.no_activation_input in omega (arith, none, some))
 
-select_inputs : (k : Kind) (s : Spec) → k ≡ Select → Asks k s → 1 ≤ s.evtin
-select_inputs k s e a = let b = subst (λ v. Asks v s) e a in omega (arith, b.2)
+needed_inputs : (k : Kind) (s : Spec) → (form k).mask ≡ Needed → Asks k s → 1 ≤ s.evtin
+needed_inputs Select s e a = omega (arith, a.2)
+needed_inputs _ s e a = cc
 
 pub mask_in_range : (n : Parts) (s : Source) (y : Signals) (b mask : ℕ) → IsNet n → Active n s y b → IsMaskOf n s y b mask → IsMask (spec_of n b) mask
 mask_in_range n s y b mask net active is =
     let inside = Spread-block n s _ active in
     record {
       few = few_bits mask (spec_of n b).evtin (λ p h. let w = ((is p).0 h).within.most in omega (arith, w));
-      some = λ select zero'.
-          let some = select_inputs (spec_of n b).kind (spec_of n b) select (asks (spec_of n b) (net.typed_specs b inside)) in
+      some = λ needed zero'.
+          let some = needed_inputs (spec_of n b).kind (spec_of n b) needed (asks (spec_of n b) (net.typed_specs b inside)) in
           let p = some_input n s y active some in
           let on : bit_at mask p.0 ≡ 1 = (is p.0).1 p.1 in
           let off : bit_at mask p.0 ≡ 0 = subst (λ v. bit_at v p.0 ≡ 0) (sym zero') (bit_at-zero p.0) in

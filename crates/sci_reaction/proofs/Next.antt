@@ -12,7 +12,8 @@ use Rattle.sci_kinds.specs.Asks.{IsState, IsMask}
 use Rattle.sci_kinds.proofs.Elements.{listed_at}
 use Rattle.sci_kinds.proofs.LawProofs.{range_law, first_held_law}
 use Rattle.sci_net.specs.declared.Source.{Source}
-use Rattle.sci_net.specs.Parts.{Parts, IsBlock, spec_of, is_sensor}
+use Rattle.sci_net.specs.Parts.{Parts, IsBlock, spec_of}
+use Rattle.sci_forms.specs.Form.{is_sensor}
 use Rattle.sci_net.specs.Net.{IsNet}
 use Rattle.sci_loop.proofs.Decided.{Decided}
 use Rattle.sci_reaction.specs.Memory.{Memory, IsMemory, first_memory}

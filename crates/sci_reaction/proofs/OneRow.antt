@@ -7,7 +7,8 @@ use Rattle.sci_net.specs.declared.Feed.{Feed}
 use Rattle.sci_net.specs.declared.Source.{Source}
 use Rattle.sci_net.specs.Parts.{Parts, precedes}
 use Rattle.sci_reaction.specs.Links.{SourceFeeds}
-use Rattle.sci_reaction.specs.Depends.{IsLoopFree, Precedes}
+use Rattle.sci_loop.proofs.Depth.{one_depth}
+use Rattle.sci_reaction.specs.Depends.{Depends, IsLoopFree, Precedes}
 use Rattle.sci_reaction.specs.Schedule.{Guard, Entry, blocks_of, branch_of, IsEntry, IsRow}
 use Rattle.sci_reaction.proofs.Lists.{and_both, and_true, or_left, or_right, cons-Contains, Contains-cons}
 use Rattle.sci_reaction.proofs.OneResult.{precedes_trans, irreflexive}
@@ -88,21 +89,23 @@ same_test true false h = sym (h.0 refl)
 same_test false true h = h.1 refl
 same_test false false h = refl
 
-entry_parts : (d e : Entry) → d.block ≡ e.block → d.always ≡ e.always → d.mask ≡ e.mask → d.guards ≡ e.guards → d ≡ e
-entry_parts d e p q r t =
+entry_parts : (d e : Entry) → d.block ≡ e.block → d.depth ≡ e.depth → d.always ≡ e.always → d.mask ≡ e.mask → d.guards ≡ e.guards → d ≡ e
+entry_parts d e p k q r t =
     ap (λ (v : ℕ). record d { block = v }) p
-    ∙ (ap (λ (v : Bool). record d { block = e.block; always = v }) q
-    ∙ (ap (λ (v : ℕ). record d { block = e.block; always = e.always; mask = v }) r ∙ ap (λ (v : List Guard). record e { guards = v }) t))
+    ∙ (ap (λ (v : ℕ). record d { block = e.block; depth = v }) k
+    ∙ (ap (λ (v : Bool). record d { block = e.block; depth = e.depth; always = v }) q
+    ∙ (ap (λ (v : ℕ). record d { block = e.block; depth = e.depth; always = e.always; mask = v }) r ∙ ap (λ (v : List Guard). record e { guards = v }) t)))
 
 module _ (n : Parts) (s : Source) where
   same_entry_at : (d e : Entry) → d.block ≡ e.block → IsEntry n s d → IsEntry n s e → d ≡ e
   same_entry_at d e same x y =
       let z : IsEntry n s (record e { block = d.block }) = moved in
+      let depth = one_depth (Depends n s) d.block d.depth e.depth x.depth_is z.depth_is in
       let always = same_test d.always e.always ((λ h. z.always_is.1 (x.always_is.0 h)), λ h. x.always_is.1 (z.always_is.0 h)) in
       let mask = same_mask (SourceFeeds n s d.block) d.mask e.mask x.mask_is z.mask_is in
       let guards = same_lists (λ g h. precedes (branch_of g) (branch_of h) ≡ true) (λ g. before_strict (branch_of g)) (λ f g h. before_trans (branch_of f) (branch_of g) (branch_of h))
       d.guards e.guards x.rising z.rising (λ g. ((λ c. (z.guards_are g).1 ((x.guards_are g).0 c)), λ c. (x.guards_are g).1 ((z.guards_are g).0 c))) in
-      entry_parts d e same always mask guards
+      entry_parts d e same depth always mask guards
     where
       moved : IsEntry n s (record e { block = d.block })
       moved = subst (λ b. IsEntry n s (record e { block = b })) (sym same) y

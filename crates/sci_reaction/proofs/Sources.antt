@@ -3,7 +3,7 @@ use Rattle.std.proofs.Common.{◌≡◌, ℕ, zero, suc, ◌+◌, ◌<◌, ◌�
 use Rattle.std.proofs.lemmas.Bool.{cases_eq}
 use Rattle.std.proofs.lemmas.List.Elements.{Contains-append_left, Contains-append_right, Contains-append_cases}
 use Rattle.sci_forms.specs.declared.spec.Spec.{Spec}
-use Rattle.sci_forms.specs.Forms.{is_sync}
+use Rattle.sci_forms.specs.Form.{is_sync}
 use Rattle.sci_net.specs.declared.Feed.{Feed}
 use Rattle.sci_net.specs.declared.Source.{Source}
 use Rattle.sci_net.specs.declared.Source.TheVariants.{Start, Port}

@@ -2,7 +2,8 @@
 use Rattle.std.proofs.Common.{◌≡◌, ℕ, zero, suc, ◌≤◌, true, [], ◌∷◌, length, Contains, refl, sym, subst, lit≤, arith, true≢false}
 use Rattle.sci_forms.specs.Typed.{typed}
 use Rattle.sci_net.specs.declared.Feed.{Feed}
-use Rattle.sci_net.specs.Parts.{Parts, IsBlock, IsOutput, IsActivationOutput, AreRising, numbered, is_sensor, spec_of, wire_of, feeds_of, input_of, output_of}
+use Rattle.sci_net.specs.Parts.{Parts, IsBlock, IsOutput, IsActivationOutput, AreRising, numbered, spec_of, wire_of, feeds_of, input_of, output_of}
+use Rattle.sci_forms.specs.Form.{is_sensor}
 use Rattle.sci_net.specs.Net.{IsNet}
 use Rattle.sci_reaction.specs.Worked.{feed, gain_at_other_times}
 

@@ -1,6 +1,6 @@
 -- Which blocks a source activates, as least sets.
 use Rattle.std.specs.Prelude.{◌≡◌, ℕ, true, ⊤}
-use Rattle.sci_forms.specs.Forms.{is_sync}
+use Rattle.sci_forms.specs.Form.{is_sync}
 use Rattle.sci_net.specs.declared.Feed.{Feed}
 use Rattle.sci_net.specs.declared.Source.{Source}
 use Rattle.sci_net.specs.Parts.{Parts, spec_of}

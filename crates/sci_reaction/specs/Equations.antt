@@ -9,7 +9,8 @@ use Rattle.sci_forms.specs.Ports.{port_at, elements, before, Fills}
 use Rattle.sci_kinds.specs.Asks.{laid}
 use Rattle.sci_kinds.specs.Table.{Answer, Values, NoFit, NoQuotient, out, branch}
 use Rattle.sci_net.specs.declared.Source.{Source}
-use Rattle.sci_net.specs.Parts.{Parts, IsBlock, IsActivationInput, spec_of, wire_of, feeds_of, is_sensor}
+use Rattle.sci_net.specs.Parts.{Parts, IsBlock, IsActivationInput, spec_of, wire_of, feeds_of}
+use Rattle.sci_forms.specs.Form.{is_sensor}
 use Rattle.sci_reaction.specs.Links.{SourceFeeds}
 use Rattle.sci_reaction.specs.Active.{IsSync, Spread}
 use Rattle.sci_reaction.specs.Memory.{Memory, Columns, next_value}

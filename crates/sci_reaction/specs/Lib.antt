@@ -9,3 +9,4 @@ pub mod Schedule
 pub mod Pass
 pub mod Laws
 pub mod Worked
+pub mod Kept

@@ -2,7 +2,8 @@
 use Rattle.std.specs.Prelude.{◌≡◌, ℕ, ◌+◌, ◌⊎◌, if◌then◌else◌}
 use Rattle.sci_kinds.specs.Table.{next}
 use Rattle.sci_net.specs.declared.Source.{Source}
-use Rattle.sci_net.specs.Parts.{Parts, IsBlock, spec_of, is_sensor}
+use Rattle.sci_net.specs.Parts.{Parts, IsBlock, spec_of}
+use Rattle.sci_forms.specs.Form.{is_sensor}
 use Rattle.sci_reaction.specs.Memory.{Memory}
 use Rattle.sci_reaction.specs.Equations.{Signals, input_in, all_inputs, Active, IsMaskOf}
 

@@ -6,7 +6,7 @@ use Rattle.sci_net.specs.Parts.{Parts, feeds_of, precedes}
 use Rattle.sci_net.specs.Sources.{sources_of, source_of}
 use Rattle.sci_reaction.specs.Links.{SourceFeeds}
 use Rattle.sci_reaction.specs.Active.{IsSync, Possible, IsAlways, Reaches}
-use Rattle.sci_reaction.specs.Depends.{Precedes}
+use Rattle.sci_reaction.specs.Depends.{HasDepth, Precedes}
 use Rattle.sci_reaction.specs.Equations.{HasBits}
 
 -- a branch that may activate a block, by the synchronous block and its port, and the activation inputs that it feeds
@@ -18,9 +18,10 @@ pub record Guard : Type 0 where
 abbrev pub branch_of : Guard → Feed
 branch_of g = record { block = g.block; port = g.port }
 
--- a possible block: whether the source activates it whatever the values are, the activation inputs that the source feeds, and its guards
+-- a possible block: its depth, whether the source activates it whatever the values are, the activation inputs that the source feeds, and its guards
 pub record Entry : Type 0 where
   pub block : ℕ
+  pub depth : ℕ
   pub always : Bool
   pub mask : ℕ
   pub guards : List Guard
@@ -33,6 +34,7 @@ pub record IsGuard (n : Parts) (s : Source) (b : ℕ) (g : Guard) : Type 0 where
   pub feeds : HasBits g.mask (λ p. Contains (feeds_of n b p) (branch_of g))
 
 pub record IsEntry (n : Parts) (s : Source) (e : Entry) : Type 0 where
+  pub depth_is : HasDepth n s e.block e.depth
   pub always_is : (e.always ≡ true) ↔ IsAlways n s e.block
   pub mask_is : HasBits e.mask (SourceFeeds n s e.block)
   pub rising : AllPairs (λ g h. precedes (branch_of g) (branch_of h) ≡ true) e.guards

@@ -122,8 +122,9 @@ LoopIntoSecond = IsLoop (Depends sum_into_second (Event (feed 1))) (2 ∷ 4 ∷ 
 
 -- ---- reactions
 
-abbrev pub always : ℕ → ℕ → Entry
-always b mask = record { block = b; always = true; mask = mask; guards = [] }
+-- a block of this depth that is active whatever the values are, with these activation inputs fed by the source
+abbrev pub always : ℕ → ℕ → ℕ → Entry
+always b depth mask = record { block = b; depth = depth; always = true; mask = mask; guards = [] }
 
 -- 1 a timer; 2 the constant 1; 3 the sum of 2 and 4; 4 a delay of 3, activated by the timer
 abbrev pub counting : Parts
@@ -139,7 +140,7 @@ value_of (Whole y) b = y b
 value_of (Stopped c word) b = []
 
 abbrev pub start_of_counting : Reaction
-start_of_counting = pass counting (first_memory counting) [] (always 2 0 ∷ always 3 0 ∷ []) (at_rest (first_memory counting))
+start_of_counting = pass counting (first_memory counting) [] (always 2 1 0 ∷ always 3 2 0 ∷ []) (at_rest (first_memory counting))
 
 -- at start the constant is 1, the sum 1 + 0, and the delay holds its initial state
 abbrev pub CountingStarts : Type 0
@@ -157,4 +158,4 @@ overflowing = record {
 
 abbrev pub OverflowStops : Type 0
 OverflowStops =
-    pass overflowing (first_memory overflowing) [] (always 1 0 ∷ always 2 0 ∷ always 3 0 ∷ []) (at_rest (first_memory overflowing)) ≡ Stopped 3 Overflow
+    pass overflowing (first_memory overflowing) [] (always 1 1 0 ∷ always 2 1 0 ∷ always 3 2 0 ∷ []) (at_rest (first_memory overflowing)) ≡ Stopped 3 Overflow

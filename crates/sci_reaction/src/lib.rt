@@ -7,6 +7,10 @@
 ghost use Rattle.sci_reaction.specs.Laws.{OneDepth, DepthRises, OneSolution, AtMostOneResult, SomeResult, ExactlyOneResult, SomeRow, OneRow, SomeSchedule, OneSchedule, SourcesAreListed, PassFindsResult, PassBegins, PassGoesOn, PassEnds, EntriesAreExact, MasksAreExact, OthersAreIdle, MasksInRange, InputsInRange, SignalsInRange, SomeNextMemory, OneNextMemory, NextInRange, FirstInRange};
 ghost use Rattle.sci_reaction.specs.Worked.{LoopThroughCondition, LoopOfFeedthrough, NoLoopAtOtherTimes, OtherTimesIsNet, NoLoopIntoFirst, LoopIntoSecond, CountingStarts, OverflowStops};
 
+mod entry;
+
+pub use entry::{Entry, Guard};
+
 /// Without a loop each possible block has one depth, greater than that of what it depends on.
 pub fn depths()
     ensures one { OneDepth }

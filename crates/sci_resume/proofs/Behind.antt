@@ -1,5 +1,5 @@
 -- What is saved behind a reaction of a run is one thing, and the run goes on from it.
-use Rattle.std.proofs.Common.{◌≡◌, ℕ, zero, suc, ◌+◌, ◌-◌, ◌<◌, ◌≤◌, ◌^◌, Bool, true, false, if◌then◌else◌, ℤ, List, [], ◌∷◌, ◌++◌, length, refl, sym, ap, subst, ◌∙◌, arith}
+use Rattle.std.proofs.Common.{◌≡◌, ℕ, zero, suc, ◌+◌, ◌-◌, ◌≤◌, Bool, true, false, if◌then◌else◌, ℤ, List, [], ◌∷◌, ◌++◌, length, refl, sym, ap, subst, ◌∙◌, arith}
 use Rattle.std.proofs.lemmas.List.{ext_get_or}
 use Rattle.sci_base.specs.declared.observation.Obs.{Obs}
 use Rattle.sci_base.specs.declared.observation.Obs.TheVariants.{End}
@@ -10,14 +10,14 @@ use Rattle.sci_net.specs.declared.Source.TheVariants.{Start, Port}
 use Rattle.sci_net.specs.Parts.{Parts, IsBlock, numbered}
 use Rattle.sci_net.specs.Net.{IsNet}
 use Rattle.sci_net.specs.Sources.{source_of}
-use Rattle.sci_reaction.specs.Memory.{Columns, AreColumns}
+use Rattle.sci_reaction.specs.Memory.{Columns}
 use Rattle.sci_pending.specs.Pending.{Event, Pending}
 use Rattle.sci_pending.specs.Order.{in_order}
 use Rattle.sci_run.specs.Alike.{AreAlike}
 use Rattle.sci_run.specs.Finish.{ByEnd, ended}
 use Rattle.sci_run.specs.Laws.{AreLoopFree}
 use Rattle.sci_run.specs.Observed.{header, is_header, reactions}
-use Rattle.sci_run.specs.Run.{State, taken, ReactionOutcome, Leads, StopsWith, IsOutcome, Decision, Over, Fires, comes_next, Then, EndsOr, Observes, IsRunFrom, IsRest, IsRun, Reachable}
+use Rattle.sci_run.specs.Run.{State, taken, ReactionOutcome, Leads, StopsWith, IsOutcome, Decision, Over, Fires, comes_next, Then, EndsOr, Observes, IsRunFrom, IsRest}
 use Rattle.sci_run.proofs.Reactions.{reactions_joined, counted}
 use Rattle.sci_run.proofs.Unique.{one_trace, one_state}
 use Rattle.sci_run.proofs.Finish.{run_is_over}
@@ -28,7 +28,7 @@ use Rattle.sci_save.specs.Valid.{AreCursors, IsValid}
 use Rattle.sci_save.specs.Resumed.{IsSavedOf, state_of}
 use Rattle.sci_save.proofs.Reached.{reached_is_saved}
 use Rattle.sci_save.proofs.Resumed.{resumed_goes_on}
-use Rattle.sci_resume.specs.Behind.{IsSavedBehind, HasEnded}
+use Rattle.sci_resume.specs.Behind.{IsSavedBehind}
 use Rattle.sci_resume.specs.Laws.{OneSaved, OneEnd, NotBoth, SavedIsValid, AreParted, RunGoesOn}
 
 -- ---- one thing is saved of a state

@@ -1,5 +1,5 @@
 -- How many reactions were observed of a run, step after step.
-use Rattle.std.proofs.Common.{◌≡◌, ℕ, ◌+◌, ◌-◌, ◌<◌, ◌≤◌, ◌^◌, Bool, true, false, List, [], ◌∷◌, ◌++◌, inl, inr, refl, sym, ap, subst, ◌∙◌, arith, Result, Ok, Err, Option, Some, None}
+use Rattle.std.proofs.Common.{◌≡◌, ℕ, ◌+◌, ◌-◌, ◌<◌, ◌≤◌, ◌^◌, Bool, true, false, List, [], ◌∷◌, ◌++◌, inl, inr, refl, sym, ap, subst, ◌∙◌, arith}
 use Rattle.std.specs.Prelude.{if◌then◌else◌}
 use Rattle.sci_base.specs.declared.observation.Obs.{Obs}
 use Rattle.sci_base.specs.declared.observation.Obs.TheVariants.{End}
@@ -11,7 +11,7 @@ use Rattle.sci_reaction.specs.Memory.{Columns, AreColumns}
 use Rattle.sci_bank.specs.Bank.{Meaning}
 use Rattle.sci_run.specs.Laws.{AreLoopFree}
 use Rattle.sci_run.specs.Observed.{reactions}
-use Rattle.sci_run.specs.Run.{State, Fires, comes_next, IsRun}
+use Rattle.sci_run.specs.Run.{State, IsRun}
 use Rattle.sci_run.specs.Finish.{Ending, ByEnd, ByStop, Finish, ended, stopped, stopped_at_start}
 use Rattle.sci_run.proofs.Traces.{some_rest, run_goes_on}
 use Rattle.sci_save.specs.Saved.{Saved}
@@ -22,7 +22,7 @@ use Rattle.sci_sim.specs.declared.end.RunEnd.{RunEnd}
 use Rattle.sci_sim.specs.declared.end.RunEnd.TheVariants.{End as Ended, Stop as Stopped}
 use Rattle.sci_store.specs.Frame.{Fixed}
 use Rattle.sci_sim.specs.At.{Running}
-use Rattle.sci_sim.specs.Steps.{IsFiring, start, event, StopsRun, IsFinished}
+use Rattle.sci_sim.specs.Steps.{IsFiring, start, event, IsFinished}
 use Rattle.sci_sim.proofs.Runs.{IsBeforeStep, IsOnWay}
 use Rattle.sci_resume.specs.Behind.{IsSavedBehind, HasEnded}
 use Rattle.sci_resume.proofs.Behind.{fires_headed, headed_counts}

@@ -5,13 +5,14 @@ ghost use Rattle.std.specs.Prelude.{◌≡◌, ◌≤◌, ◌^◌, IfOk, IfSome,
 ghost use Rattle.sci_net.specs.Net.{IsNet};
 ghost use Rattle.sci_reaction.specs.Memory.{AreColumns};
 ghost use Rattle.sci_run.specs.Laws.{AreLoopFree};
-ghost use Rattle.sci_bank.specs.Library.{AreInOrder, IsFull};
+ghost use Rattle.sci_bank.specs.Library.{IsFull};
 ghost use Rattle.sci_sim.specs.At.{IsAtStart};
 ghost use Rattle.sci_resume.specs.Behind.{HasEnded, IsReached};
 ghost use Rattle.sci_resume.specs.Stands.{StandsBehind};
 ghost use Rattle.sci_resume.specs.Laws.{OneSaved, OneEnd, NotBoth, SomeReached, SavedIsValid, RunGoesOn};
 
-use sci_bank::library::{Banks, Library};
+use sci_bank::Bank;
+use sci_bank::library::Library;
 use sci_base::NoMemory;
 use sci_io::{Failed, SureSink};
 use sci_save::Image;
@@ -29,9 +30,9 @@ pub enum Reached {
 }
 
 // Does the first so many reactions of the run, start's first. Where the run is over by then, the answer is how many it has.
-fn react_times(
+fn react_times<B: Bank>(
     ready: &mut Ready,
-    lib: &mut Library,
+    lib: &mut Library<B>,
     ins: &Inputs,
     until: u64,
     limit: u64,
@@ -40,13 +41,12 @@ fn react_times(
     requires until { until ≤ 2 ^ 62 }
     requires limit { limit ≤ 1000000 }
     requires columns { AreColumns ready.old.fixed.net ins.now }
-    requires start { IsAtStart ready.old.fixed.net ready.old (⟦<Library as Banks>⟧.banks lib.old) }
+    requires start { IsAtStart ready.old.fixed.net ready.old lib.old }
     requires some { 1 ≤ count }
     ensures ended { IfSome result (λ k. HasEnded ready.old.fixed.net ins.now until limit count k) }
-    ensures stands { IfNone result (StandsBehind ins.now until limit count ready.new (⟦<Library as Banks>⟧.banks lib.new)) }
+    ensures stands { IfNone result (StandsBehind ins.now until limit count ready.new lib.new) }
     ensures net { ready.new.fixed ≡ ready.old.fixed }
-    ensures full { IsFull (⟦<Library as Banks>⟧.banks lib.new) }
-    ensures in_order { AreInOrder (⟦<Library as Banks>⟧.banks lib.new) }
+    ensures full { IsFull lib.new }
 {
     let mut nowhere = SureSink::new();
     for done in 0..count {
@@ -62,10 +62,10 @@ fn react_times(
 /// Runs the net from before start through the reaction of this number, at most 1,000,001, start's being 1, past no date over `until` and for at
 /// most `limit` events. What is observed is not kept. Where the run goes on behind this reaction, its state is saved; else the answer is how many
 /// reactions it has. The net is of use for its reader of the net alone then.
-pub fn run_to(
+pub fn run_to<B: Bank>(
     alloc: Global,
     ready: &mut Ready,
-    lib: &mut Library,
+    lib: &mut Library<B>,
     ins: &Inputs,
     until: u64,
     limit: u64,
@@ -76,12 +76,11 @@ pub fn run_to(
     requires net { IsNet ready.old.fixed.net }
     requires free { AreLoopFree ready.old.fixed.net }
     requires columns { AreColumns ready.old.fixed.net ins.now }
-    requires start { IsAtStart ready.old.fixed.net ready.old (⟦<Library as Banks>⟧.banks lib.old) }
+    requires start { IsAtStart ready.old.fixed.net ready.old lib.old }
     requires some { 1 ≤ reaction }
     ensures reached { IfOk result (λ x. IsReached ready.old.fixed.net ins.now until limit reaction x) }
     ensures net { ready.new.fixed ≡ ready.old.fixed }
-    ensures full { IsFull (⟦<Library as Banks>⟧.banks lib.new) }
-    ensures in_order { AreInOrder (⟦<Library as Banks>⟧.banks lib.new) }
+    ensures full { IsFull lib.new }
 {
     match react_times(ready, lib, ins, until, limit, reaction) {
         Some(count) => Ok(Reached::Ended(count)),

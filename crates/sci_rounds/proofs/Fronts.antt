@@ -26,18 +26,18 @@ use Rattle.sci_reaction.proofs.OneResult.{ground}
 use Rattle.sci_reaction.proofs.Rows.{Contains-has, has-Contains, feeds_within}
 use Rattle.sci_reaction.proofs.PassMeets.{with_guards-at}
 use Rattle.sci_pass.specs.Noted.{IsNoted}
-use Rattle.sci_rounds.specs.Rounds.{IsClosed, IsReady, TellsActivation, IsNextDone}
+use Rattle.sci_rounds.specs.Rounds.{IsClosed, IsReady, TellsActivation, IsNextDone, IsAlikeOn}
 
 -- ---- frames
 
 module _ (n : Parts) (m : Memory) (i : Columns) (s : Source) (ok : IsWired n) (fair : IsFair n m i) (free : IsLoopFree n s) where
   -- Values that agree on a closed set of blocks, and on all that are not possible, are alike there.
   module _ (S : ℕ → Type 0) (closed : (c d : ℕ) → S c → Depends n s c d → S d) (y z : Signals)
-      (same : (a : ℕ) → (Possible n s a → S a) → y a ≡ z a) where
+      (same : (a : ℕ) → IsBlock n a → (Possible n s a → S a) → y a ≡ z a) where
     alike_inputs : (b : ℕ) → Possible n s b → ((d : ℕ) → Depends n s b d → S d) → AgreeThrough n b (input_in n y b) (input_in n z b)
     alike_inputs b may needs k within through =
         ap (λ v. output_among (spec_of n (wire_of n b k).block).outs v (wire_of n b k).port)
-        (same (wire_of n b k).block
+        (same (wire_of n b k).block (ok.wires_lead b k within).block
         (λ p. needs (wire_of n b k).block (record { possible = may; on_possible = p; waits = inl (record { input = k; within = within; from = refl; through = through }) })))
 
     alike : {c : ℕ} → Grounded (Depends n s) c → S c → Agrees n s y z c
@@ -47,7 +47,7 @@ module _ (n : Parts) (m : Memory) (i : Columns) (s : Source) (ok : IsWired n) (f
           inputs = λ may. alike_inputs c may (λ d dep. closed c d h dep);
           there = active_there n m i s ok fair y z c settled;
           back = active_there n m i s ok fair z y c (Settled-flip n m i s ok fair y z c settled);
-          value = λ inside. same c (λ p. h);
+          value = λ inside. same c inside (λ p. h);
         }
 
     alike_settled : (b : ℕ) → ((d : ℕ) → Depends n s b d → S d) → Settled n m i s ok fair y z b
@@ -72,9 +72,9 @@ module _ (n : Parts) (m : Memory) (i : Columns) (s : Source) (ok : IsWired n) (f
           active = (known may).there on.active;
           mask = on.mask;
           mask_is = alike_mask c on.mask may needs on.mask_is;
-          answer_is = sym (alike_answer c on.mask may needs) ∙ (on.answer_is ∙ ap Ok (same c within));
+          answer_is = sym (alike_answer c on.mask may needs) ∙ (on.answer_is ∙ ap Ok (same c inside within));
         }))
-        (λ off. inr (record { idle = λ h. off.idle ((known (possible n s _ h)).back h); held = sym (same c within) ∙ off.held }))
+        (λ off. inr (record { idle = λ h. off.idle ((known (possible n s _ h)).back h); held = sym (same c inside within) ∙ off.held }))
         meets
 
   -- the blocks that are done have their values, and the others are at rest
@@ -201,8 +201,8 @@ module _ (n : Parts) (m : Memory) (i : Columns) (s : Source) (ok : IsWired n) (f
       abbrev valued : Signals
       valued = put w.values b vs
 
-      unchanged : (a : ℕ) → (Possible n s a → Has done a) → w.values a ≡ valued a
-      unchanged a within =
+      unchanged : (a : ℕ) → IsBlock n a → (Possible n s a → Has done a) → w.values a ≡ valued a
+      unchanged a inside within =
           sym (put_other w.values b vs a (λ same. fresh_here (subst (Has done) same (within (subst (Possible n s) (sym same) here_possible)))))
 
       apart : (c : ℕ) → Has done c → c ≡ b → ⊥
@@ -346,6 +346,20 @@ ready_is_next n m i s done w b net free closed front ready =
           noted n m i s net.wired f free done w b sound under here ready.possible fresh needs vs branch mask taken at notes takes is;
       stops = λ mask word before active is nothing.
           stops_here n m i s net.wired f free done w b sound under here ready.possible fresh needs mask word before active is nothing;
+    }
+
+pub ready_is_alike : (n : Parts) (m : Memory) (i : Columns) (s : Source) (done : List ℕ) (b : ℕ) (y z : Signals) → IsNet n → IsLoopFree n s → IsClosed n s done →
+    IsReady n s done b → ((a : ℕ) → IsBlock n a → (Possible n s a → Contains done a) → y a ≡ z a) → IsAlikeOn n m i s b y z
+ready_is_alike n m i s done b y z net free closed ready same =
+    let f = fair n m i net.typed_specs in
+    let under = closed_under n s done b closed ready in
+    let needs : (d : ℕ) → Depends n s b d → Has done d = λ d dep. Contains-has done d (ready.needs d dep) in
+    let agree : (a : ℕ) → IsBlock n a → (Possible n s a → Has done a) → y a ≡ z a = λ a inside within. same a inside (λ may. has-Contains done a (within may)) in
+    record {
+      active = active_there n m i s net.wired f y z b (alike_settled n m i s net.wired f free (Has done) under y z agree b needs);
+      masks = λ mask is. alike_mask n m i s net.wired f free (Has done) under y z agree b mask ready.possible needs is;
+      answers = λ mask. alike_answer n m i s net.wired f free (Has done) under y z agree b mask ready.possible needs;
+      branches = f.branches b _ _ (Spread-block n s _ ready.possible) (alike_inputs n m i s net.wired f free (Has done) under y z agree b ready.possible needs);
     }
 
 pub all_done : (n : Parts) (m : Memory) (i : Columns) (s : Source) (done : List ℕ) (w : Progress) → IsFront n m i s done w → ((c : ℕ) → Possible n s c → Contains done c) →

@@ -1,2 +1,4 @@
 pub mod Fronts
 pub mod Levels
+pub mod Together
+pub mod ByDepth

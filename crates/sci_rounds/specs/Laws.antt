@@ -1,14 +1,15 @@
 -- The laws of a reaction by rounds.
-use Rattle.std.specs.Prelude.{ℕ, ◌+◌, ◌⊎◌, ◌↔◌, List, [], Contains}
+use Rattle.std.specs.Prelude.{◌≡◌, ℕ, ◌+◌, ◌⊎◌, ◌↔◌, List, [], Contains}
 use Rattle.sci_net.specs.declared.Source.{Source}
-use Rattle.sci_net.specs.Parts.{Parts}
+use Rattle.sci_net.specs.Parts.{Parts, IsBlock}
 use Rattle.sci_net.specs.Net.{IsNet}
 use Rattle.sci_reaction.specs.Active.{Possible}
 use Rattle.sci_reaction.specs.Depends.{IsLoopFree, Precedes}
 use Rattle.sci_reaction.specs.Memory.{Memory, Columns}
+use Rattle.sci_reaction.specs.Equations.{Signals}
 use Rattle.sci_reaction.specs.Result.{Whole, IsResult}
 use Rattle.sci_reaction.specs.Pass.{Progress, IsFront}
-use Rattle.sci_rounds.specs.Rounds.{IsClosed, IsReady, IsNextDone, IsBehindRounds, IsInRound}
+use Rattle.sci_rounds.specs.Rounds.{IsClosed, IsReady, IsNextDone, IsAlikeOn, IsBehindRounds, IsInRound}
 
 -- a ready block is the next that may be done, whichever it is
 abbrev pub ReadyIsNext : Type 0
@@ -21,6 +22,12 @@ abbrev pub AllDoneIsWhole : Type 0
 AllDoneIsWhole =
     (n : Parts) (m : Memory) (i : Columns) (s : Source) (done : List ℕ) (w : Progress) → IsFront n m i s done w → ((c : ℕ) → Possible n s c → Contains done c) →
     IsResult n m i s (Whole w.values)
+
+-- a ready block comes to the same on values that are the same at the blocks that are done and at those that aren't possible
+abbrev pub ReadyIsAlike : Type 0
+ReadyIsAlike =
+    (n : Parts) (m : Memory) (i : Columns) (s : Source) (done : List ℕ) (b : ℕ) (y z : Signals) → IsNet n → IsLoopFree n s → IsClosed n s done →
+    IsReady n s done b → ((a : ℕ) → IsBlock n a → (Possible n s a → Contains done a) → y a ≡ z a) → IsAlikeOn n m i s b y z
 
 -- before the first round nothing is done
 abbrev pub RoundsBegin : Type 0

@@ -10,7 +10,7 @@ use Rattle.sci_reaction.specs.Links.{SourceFeeds}
 use Rattle.sci_reaction.specs.Active.{IsSync, Possible, IsAlways, Reaches}
 use Rattle.sci_reaction.specs.Depends.{Depends, Precedes}
 use Rattle.sci_reaction.specs.Memory.{Memory, Columns}
-use Rattle.sci_reaction.specs.Equations.{HasBits, input_in, branch_on, answer, Active, IsMaskOf}
+use Rattle.sci_reaction.specs.Equations.{Signals, HasBits, input_in, branch_on, answer, Active, IsMaskOf}
 use Rattle.sci_reaction.specs.Result.{Stopped, IsResult}
 use Rattle.sci_reaction.specs.Schedule.{Guard, Entry, branch_of}
 use Rattle.sci_reaction.specs.Pass.{Progress, put, applies, mask_in, with_values, IsFront}
@@ -60,6 +60,13 @@ pub record IsNextDone (n : Parts) (m : Memory) (i : Columns) (s : Source) (done 
       → IsMaskOf n s w.values b here → IsNoted n s (with_values w b vs) (put branch b taken) (put mask b here)
   pub stops : (mask : ℕ) (word : StopWord) → ((c : ℕ) → Possible n s c → Precedes n s c b → Contains done c) → Active n s w.values b → IsMaskOf n s w.values b mask
       → answer n m i b mask (input_in n w.values b) ≡ Err word → IsResult n m i s (Stopped b word)
+
+-- On these values it comes to the same as on those.
+pub record IsAlikeOn (n : Parts) (m : Memory) (i : Columns) (s : Source) (b : ℕ) (y z : Signals) : Type 0 where
+  pub active : Active n s y b → Active n s z b
+  pub masks : (mask : ℕ) → IsMaskOf n s y b mask → IsMaskOf n s z b mask
+  pub answers : (mask : ℕ) → answer n m i b mask (input_in n y b) ≡ answer n m i b mask (input_in n z b)
+  pub branches : branch_on (spec_of n b) (input_in n y b) ≡ branch_on (spec_of n b) (input_in n z b)
 
 -- ---- rounds
 

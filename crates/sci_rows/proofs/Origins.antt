@@ -12,7 +12,8 @@ use Rattle.sci_forms.specs.declared.ports.Port.{Port}
 use Rattle.sci_forms.specs.declared.spec.Spec.{Spec}
 use Rattle.sci_forms.specs.Ports.{port_at, no_port}
 use Rattle.sci_forms.specs.Names.{name_of, by_name}
-use Rattle.sci_forms.specs.Forms.{or_else, unless, first_not, given, all_to, within, between, counts_of, fed, has_delay, has_state, params_len_ok, param_ok, state_len_ok, state_ok, firing_ok}
+use Rattle.sci_forms.specs.Forms.{or_else, unless, first_not, given, all_to, within, between, counts_of, fed, params_len_ok, param_ok, state_len_ok, state_ok, firing_ok}
+use Rattle.sci_forms.specs.Form.{has_delay, has_state}
 use Rattle.sci_forms.specs.Typed.{feed_ok, counted, formed_of, known_of, known_in, known_out, is_known, types_broken_of, sizes_broken_of}
 use Rattle.sci_forms.proofs.TestLemmas.{both_true, all_to_at, nat_same}
 use Rattle.sci_check.specs.Check.{judged, broken, counts_broken, lengths_broken, forms_broken, types_broken, side_broken, integer_at, not_integer, active_broken, params_broken, state_broken, events_broken, values_broken, cols_ok, types_len_ok, firing_len_ok, feed_broken, bad_truth, date_ok, bad_value, declared_port, declared_ports, kept, spec_of}

@@ -7,7 +7,8 @@ use Rattle.sci_forms.specs.declared.spec.Spec.{Spec}
 use Rattle.sci_kinds.specs.Table.{Answer, Values, NoFit, NoQuotient, out}
 use Rattle.sci_net.specs.declared.Source.{Source}
 use Rattle.sci_net.specs.declared.Source.TheVariants.{Start}
-use Rattle.sci_net.specs.Parts.{Parts, spec_of, is_sensor}
+use Rattle.sci_net.specs.Parts.{Parts, spec_of}
+use Rattle.sci_forms.specs.Form.{is_sensor}
 use Rattle.sci_net.specs.Sources.{source_of}
 use Rattle.sci_reaction.specs.Memory.{Memory, Columns, next_value}
 use Rattle.sci_reaction.specs.Equations.{Signals, input_in, all_inputs, values_or_word, sensed, answer, Gives}

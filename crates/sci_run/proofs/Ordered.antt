@@ -6,7 +6,8 @@ use Rattle.sci_base.specs.Lists.{at}
 use Rattle.sci_base.specs.declared.observation.Obs.{Obs}
 use Rattle.sci_base.specs.declared.observation.EndWord.TheVariants.{Halt, Events, Empty, Until}
 use Rattle.sci_forms.specs.declared.spec.Spec.{Spec}
-use Rattle.sci_forms.specs.Forms.{has_delay, firing_ok}
+use Rattle.sci_forms.specs.Forms.{firing_ok}
+use Rattle.sci_forms.specs.Form.{has_delay}
 use Rattle.sci_forms.specs.Typed.{typed, formed_of, known_of, feed_ok}
 use Rattle.sci_forms.proofs.TestLemmas.{both_true, nat_same, int_le_told}
 use Rattle.sci_kinds.proofs.LawProofs.{delay_law}

@@ -9,7 +9,8 @@ use Rattle.sci_base.specs.declared.observation.StopWord.{StopWord}
 use Rattle.sci_kinds.specs.Table.{next}
 use Rattle.sci_loop.proofs.Depth.{one_depth}
 use Rattle.sci_net.specs.declared.Source.{Source}
-use Rattle.sci_net.specs.Parts.{Parts, IsBlock, numbered, spec_of, is_sensor}
+use Rattle.sci_net.specs.Parts.{Parts, IsBlock, numbered, spec_of}
+use Rattle.sci_forms.specs.Form.{is_sensor}
 use Rattle.sci_net.specs.Sources.{source_of}
 use Rattle.sci_reaction.specs.Depends.{Depends, Precedes}
 use Rattle.sci_reaction.specs.Memory.{Memory, Columns}

@@ -4,7 +4,7 @@ use Rattle.std.proofs.lemmas.Bool.{cases_eq, or_cases, eqb-true, eq-eqb}
 use Rattle.std.proofs.lemmas.Bool.Decides.{Decides-int_eq}
 use Rattle.std.specs.Ordering.{int_eq}
 use Rattle.std.specs.List.{list_any}
-use Rattle.sci_forms.specs.Forms.{is_sync}
+use Rattle.sci_forms.specs.Form.{is_sync}
 use Rattle.sci_net.specs.declared.Feed.{Feed}
 use Rattle.sci_net.specs.declared.Source.{Source}
 use Rattle.sci_net.specs.declared.Source.TheVariants.{Start, Port}

@@ -12,7 +12,8 @@ use Rattle.sci_kinds.specs.Table.{branch, delay, next as next_state}
 use Rattle.sci_net.specs.declared.Feed.{Feed}
 use Rattle.sci_net.specs.declared.Source.{Source}
 use Rattle.sci_net.specs.declared.Source.TheVariants.{Start, Port}
-use Rattle.sci_net.specs.Parts.{Parts, IsBlock, spec_of, wire_of, is_sensor}
+use Rattle.sci_net.specs.Parts.{Parts, IsBlock, spec_of, wire_of}
+use Rattle.sci_forms.specs.Form.{is_sensor}
 use Rattle.sci_net.specs.Net.{IsNet}
 use Rattle.sci_net.specs.Sources.{sources_of, source_of}
 use Rattle.sci_reaction.specs.Active.{Possible}
@@ -29,7 +30,8 @@ use Rattle.sci_reaction.proofs.Sources.{sources_are}
 use Rattle.sci_reaction.proofs.Spreading.{Spread-block}
 use Rattle.sci_reaction.proofs.Lists.{cons-Contains}
 use Rattle.sci_pending.specs.Pending.{Event, Pending, next, without}
-use Rattle.sci_run.specs.Activity.{Activity, halts, halts_from, is_halt}
+use Rattle.sci_run.specs.Activity.{Activity, halts, halts_from}
+use Rattle.sci_forms.specs.Form.{is_halt}
 use Rattle.sci_run.specs.Programs.{with_delay, with_delays, delay_of, next_pending}
 use Rattle.sci_run.specs.Observed.{header, outputs_seen, blocks_seen, stop_seen}
 use Rattle.sci_run.specs.Run.{State, first_state, taken, after_reaction, ReactionOutcome, Leads, StopsWith, IsOutcome, Reacts, Decision, Over, Fires, in_time, comes_next, Then, EndsOr, Observes, IsRunFrom, IsRest, IsRun, ReachableFrom, here, reacted, Reachable}

@@ -1,11 +1,10 @@
 -- Which blocks a reaction activates.
 use Rattle.std.specs.Prelude.{◌≡◌, ℕ, ◌+◌, ◌↔◌, Bool, true, false, ◌&&◌, ◌||◌, List, [], ◌∷◌}
-use Rattle.sci_forms.specs.declared.Kind.{Kind}
-use Rattle.sci_forms.specs.declared.Kind.TheVariants.{Halt}
 use Rattle.sci_forms.specs.declared.spec.Spec.{Spec}
 use Rattle.sci_net.specs.declared.Source.{Source}
 use Rattle.sci_net.specs.Parts.{Parts, IsBlock}
 use Rattle.sci_reaction.specs.Equations.{Signals, Active}
+use Rattle.sci_forms.specs.Form.{is_halt}
 
 -- of each block, whether it is active
 abbrev pub Activity : Type 0
@@ -14,10 +13,6 @@ Activity = ℕ → Bool
 -- the blocks of the net that the source activates on these values
 abbrev pub IsActivity : Parts → Source → Signals → Activity → Type 0
 IsActivity n s y active = (b : ℕ) → IsBlock n b → (active b ≡ true) ↔ Active n s y b
-
-abbrev pub is_halt : Kind → Bool
-is_halt Halt = true
-is_halt _ = false
 
 abbrev pub halts_from : ℕ → List Spec → Activity → Bool
 halts_from b [] active = false

@@ -20,7 +20,8 @@ use Rattle.sci_forms.specs.Forms.{all_to}
 use Rattle.sci_forms.proofs.TestLemmas.{both_true, nat_le_told, all_to_at}
 use Rattle.sci_kinds.specs.Asks.{Asks}
 use Rattle.sci_kinds.proofs.LawProofs.{asks}
-use Rattle.sci_net.specs.Parts.{numbered, is_sensor, column_of}
+use Rattle.sci_net.specs.Parts.{numbered, column_of}
+use Rattle.sci_forms.specs.Form.{is_sensor}
 use Rattle.sci_reaction.specs.Memory.{Columns}
 use Rattle.sci_trace.specs.Columns.{columns_view}
 use Rattle.sci_trace.specs.Lines.{numbers}
@@ -103,11 +104,6 @@ top_fits (negsuc n) h l = absurd (omega (arith, ints))
 state_bound_fine : (k : Kind) (s : Spec) → Asks k s → IsFine (state_bound_of k s)
 state_bound_fine ModuloCount s a = base_fine (param s 0) a.2 a.3
 state_bound_fine _ s a = type_fine (out_type s)
-
--- every other state has numbers of the type of the output
-pub no_counter : (k : Kind) (s : Spec) → (k ≡ ModuloCount → ⊥) → of_type (out_type s) ≡ state_bound_of k s
-no_counter ModuloCount s h = absurd (h refl)
-no_counter _ s h = refl
 
 ports_fine : (ps : List Port) → AreFine (port_bounds ps)
 ports_fine [] = tt

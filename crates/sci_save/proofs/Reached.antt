@@ -24,7 +24,8 @@ use Rattle.sci_kinds.proofs.Elements.{listed_at}
 use Rattle.sci_kinds.proofs.LawProofs.{asks}
 use Rattle.sci_net.specs.declared.Source.{Source}
 use Rattle.sci_net.specs.declared.Source.TheVariants.{Start}
-use Rattle.sci_net.specs.Parts.{Parts, IsBlock, IsSensor, no_spec, numbered, spec_of, is_sensor, column_of}
+use Rattle.sci_net.specs.Parts.{Parts, IsBlock, IsSensor, no_spec, numbered, spec_of, column_of}
+use Rattle.sci_forms.specs.Form.{is_sensor}
 use Rattle.sci_net.specs.Net.{IsNet}
 use Rattle.sci_net.specs.Sources.{source_of}
 use Rattle.sci_reaction.specs.Memory.{Memory, Columns, AreColumns, IsMemory, first_memory, next_value}

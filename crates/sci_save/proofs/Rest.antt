@@ -8,7 +8,8 @@ use Rattle.sci_forms.specs.declared.Kind.{Kind}
 use Rattle.sci_forms.specs.declared.Kind.TheVariants.{ModuloCount}
 use Rattle.sci_forms.specs.declared.spec.Spec.{Spec}
 use Rattle.sci_forms.specs.Words.{state_len_of}
-use Rattle.sci_net.specs.Parts.{Parts, IsBlock, no_spec, numbered, spec_of, is_sensor, column_of}
+use Rattle.sci_net.specs.Parts.{Parts, IsBlock, no_spec, numbered, spec_of, column_of}
+use Rattle.sci_forms.specs.Form.{is_sensor}
 use Rattle.sci_net.specs.Net.{IsNet}
 use Rattle.sci_reaction.specs.Memory.{Columns, AreColumns}
 use Rattle.sci_pending.specs.Pending.{Event, Pending, next, is_pending, programmed}

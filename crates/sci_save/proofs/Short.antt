@@ -17,7 +17,8 @@ use Rattle.sci_forms.specs.Words.{size, state_len_of}
 use Rattle.sci_forms.proofs.TestLemmas.{size_small}
 use Rattle.sci_kinds.proofs.TypedLemmas.{Tests, tests}
 use Rattle.sci_net.specs.declared.Source.{Source}
-use Rattle.sci_net.specs.Parts.{Parts, is_sensor, column_of, numbered}
+use Rattle.sci_net.specs.Parts.{Parts, column_of, numbered}
+use Rattle.sci_forms.specs.Form.{is_sensor}
 use Rattle.sci_net.specs.Net.{IsNet, all_elements}
 use Rattle.sci_net.specs.Sources.{sources_of, source_of}
 use Rattle.sci_net.proofs.TypedSpecs.{all_typed, sources_few}

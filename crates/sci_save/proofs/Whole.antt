@@ -5,7 +5,8 @@ use Rattle.std.proofs.lemmas.Int.{ints}
 use Rattle.sci_base.specs.Lists.{at}
 use Rattle.sci_forms.specs.declared.spec.Spec.{Spec}
 use Rattle.sci_forms.specs.Typed.{typed}
-use Rattle.sci_net.specs.Parts.{Parts, is_sensor, column_of, numbered}
+use Rattle.sci_net.specs.Parts.{Parts, column_of, numbered}
+use Rattle.sci_forms.specs.Form.{is_sensor}
 use Rattle.sci_net.specs.Net.{IsNet}
 use Rattle.sci_net.proofs.TypedSpecs.{all_typed}
 use Rattle.sci_reaction.specs.Memory.{Columns}

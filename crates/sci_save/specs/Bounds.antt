@@ -3,12 +3,16 @@ use Rattle.std.specs.Prelude.{ℕ, ℤ, pos, ◌-ℤ◌, ◌≤ℤ◌, ◌^◌, 
 use Rattle.sci_base.specs.declared.Ty.{Ty}
 use Rattle.sci_base.specs.Fit.{low, high}
 use Rattle.sci_forms.specs.declared.Kind.{Kind}
-use Rattle.sci_forms.specs.declared.Kind.TheVariants.{ModuloCount}
+use Rattle.sci_forms.specs.declared.form.Memory.TheVariants.{Elements, Moving, Counter}
+use Rattle.sci_forms.specs.declared.form.Role.{Role}
+use Rattle.sci_forms.specs.declared.form.Role.TheVariants.{Values, State, Delay, Branch, Sensor as Senses, Halt as Halts}
+use Rattle.sci_forms.specs.Form.{role_of}
 use Rattle.sci_forms.specs.declared.ports.Port.{Port}
 use Rattle.sci_forms.specs.declared.spec.Spec.{Spec}
 use Rattle.sci_forms.specs.Ports.{elements, type_of}
 use Rattle.sci_forms.specs.Words.{param, out_type, state_len_of}
-use Rattle.sci_net.specs.Parts.{numbered, is_sensor, column_of}
+use Rattle.sci_net.specs.Parts.{numbered, column_of}
+use Rattle.sci_forms.specs.Form.{is_sensor}
 use Rattle.sci_reaction.specs.Memory.{Columns}
 use Rattle.sci_save.specs.declared.bounds.Bounds.{Bounds}
 use Rattle.sci_save.specs.declared.bounds.Part.{Part}
@@ -43,9 +47,18 @@ AreByBlock bounds [] (vs ∷ rows) = ⊥
 AreByBlock bounds (s ∷ ss) [] = ⊥
 
 -- a counter counts from 0 to below its base
+abbrev pub state_bound_by : Role → Spec → Bounds
+state_bound_by (State Counter) s = from_to (pos 0) (param s 0 -ℤ pos 1)
+state_bound_by (State Elements) s = of_type (out_type s)
+state_bound_by (State Moving) s = of_type (out_type s)
+state_bound_by Values s = of_type (out_type s)
+state_bound_by Delay s = of_type (out_type s)
+state_bound_by Branch s = of_type (out_type s)
+state_bound_by Senses s = of_type (out_type s)
+state_bound_by Halts s = of_type (out_type s)
+
 abbrev pub state_bound_of : Kind → Spec → Bounds
-state_bound_of ModuloCount s = from_to (pos 0) (param s 0 -ℤ pos 1)
-state_bound_of _ s = of_type (out_type s)
+state_bound_of c s = state_bound_by (role_of c) s
 
 -- a state has numbers of the type of the block's output
 abbrev pub state_bounds : Spec → List Bounds

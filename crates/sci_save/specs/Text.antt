@@ -3,7 +3,8 @@ use Rattle.std.specs.Prelude.{ℕ, ℤ, pos, ◌+◌, ◌++◌, List, [], ◌∷
 use Rattle.sci_forms.specs.declared.spec.Spec.{Spec}
 use Rattle.sci_net.specs.declared.Source.{Source}
 use Rattle.sci_net.specs.declared.Source.TheVariants.{Start, Port}
-use Rattle.sci_net.specs.Parts.{Parts, is_sensor}
+use Rattle.sci_net.specs.Parts.{Parts}
+use Rattle.sci_forms.specs.Form.{is_sensor}
 use Rattle.sci_net.specs.Sources.{source_of}
 use Rattle.sci_trace.specs.Lines.{numbers}
 use Rattle.sci_save.specs.Saved.{Saved}

@@ -2,7 +2,8 @@
 use Rattle.std.specs.Prelude.{◌≡◌, ◌≢◌, ℕ, ◌+◌, ◌<◌, ◌≤◌, ◌^◌, false, List, [], ◌∷◌, length}
 use Rattle.std.specs.List.{AllByRecursion}
 use Rattle.sci_forms.specs.declared.spec.Spec.{Spec}
-use Rattle.sci_net.specs.Parts.{Parts, is_sensor}
+use Rattle.sci_net.specs.Parts.{Parts}
+use Rattle.sci_forms.specs.Form.{is_sensor}
 use Rattle.sci_net.specs.Sources.{sources_of}
 use Rattle.sci_reaction.specs.Memory.{Columns}
 use Rattle.sci_run.specs.Anew.{Rises}

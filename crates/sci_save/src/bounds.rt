@@ -1,12 +1,13 @@
 // Which numbers may be saved of a block.
 ghost use Rattle.std.specs.Prelude.{◌≡◌, ◌<◌, ◌^◌, ◌++◌, [], true, length, replicate, IfOk, OnOk};
 ghost use Rattle.sci_forms.specs.Typed.{typed};
-ghost use Rattle.sci_net.specs.Parts.{numbered, is_sensor};
+ghost use Rattle.sci_net.specs.Parts.{numbered};
+ghost use Rattle.sci_forms.specs.Form.{is_sensor};
 ghost use Rattle.sci_trace.specs.Columns.{columns_view};
 ghost use Rattle.sci_save.specs.Bounds.{of_type, is_within, state_bound_of, state_bounds, held_bounds, cursor_bounds, word_of, bounds_of};
 
 use sci_base::{NoMemory, Ty};
-use sci_forms::{Kind, Spec};
+use sci_forms::{Memory, Role, Spec};
 use std::alloc::Global;
 
 /// The numbers from `low` to `high`.
@@ -88,13 +89,18 @@ fn state_bound(spec: &Spec) -> Bounds
     requires { typed spec.now ≡ true }
     ensures { result ≡ state_bound_of spec.now.kind spec.now }
 {
-    if let Kind::ModuloCount = spec.kind {
-        return Bounds {
+    match spec.kind.role() {
+        Role::State(Memory::Counter) => Bounds {
             low: 0,
             high: spec.params.at(0) - 1,
-        };
+        },
+        Role::State(Memory::Elements) | Role::State(Memory::Moving) => {
+            Bounds::of_type(spec.outs.port(0).kind_of_type())
+        }
+        Role::Values | Role::Delay | Role::Branch | Role::Sensor | Role::Halt => {
+            Bounds::of_type(spec.outs.port(0).kind_of_type())
+        }
     }
-    Bounds::of_type(spec.outs.port(0).kind_of_type())
 }
 
 fn state_bounds(alloc: Global, spec: &Spec) -> Result<Vec<Bounds>, NoMemory>
@@ -122,13 +128,6 @@ fn held_bounds(alloc: Global, spec: &Spec) -> Result<Vec<Bounds>, NoMemory>
     Ok(bounds)
 }
 
-/// Whether blocks of a kind take values of the input file.
-pub fn is_sensor(kind: Kind) -> bool
-    ensures { result ≡ is_sensor kind }
-{
-    matches!(kind, Kind::Sensor)
-}
-
 /// How many values a column has, counted from 1; one that isn't there has none.
 fn column_len(columns: &[Vec<i64>], column: usize) -> usize
     ensures value { result ≡ length (numbered [] (columns_view columns.now) column) }
@@ -147,7 +146,7 @@ fn cursor_bounds(alloc: Global, spec: &Spec, columns: &[Vec<i64>]) -> Result<Vec
     ensures { IfOk result (λ v. v.items ≡ cursor_bounds (columns_view columns.now) spec.now) }
 {
     let mut bounds = Vec::new(alloc);
-    if is_sensor(spec.kind) {
+    if spec.kind.is_sensor() {
         let column = spec.params.at(0).unsigned_abs() as usize;
         bounds.push(Bounds {
             low: 0,

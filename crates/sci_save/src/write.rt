@@ -11,7 +11,6 @@ ghost use Rattle.sci_save.specs.Valid.{IsShaped};
 ghost use Rattle.sci_save.specs.Text.{row_text, rows_text, cursor_row, cursor_rows, port_numbers, event_text, events_text, blocks_text, lines_text, saved_text};
 
 use crate::Image;
-use crate::bounds::is_sensor;
 use itoa::Buffer;
 use sci_forms::Spec;
 use sci_io::{Failed, Sink, put_all};
@@ -91,7 +90,7 @@ fn put_taken<S: Sink>(block: u32, cursor: u64, out: &mut S) -> Result<(), Failed
 fn put_cursor<S: Sink>(spec: &Spec, block: u32, cursor: u64, out: &mut S) -> Result<(), Failed>
     ensures { Writes (S.state out.old) (S.state out.new) (row_text (codes "cursor") block (cursor_row spec.now cursor)) result }
 {
-    if is_sensor(spec.kind) {
+    if spec.kind.is_sensor() {
         return put_taken(block, cursor, out);
     }
     Ok(())

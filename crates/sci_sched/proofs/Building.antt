@@ -1,7 +1,7 @@
 -- Entries and rows, one after the other.
-use Rattle.std.proofs.Common.{◌≡◌, ℕ, ◌+◌, ◌<◌, ◌↔◌, ⊎_elim, List, [], ◌∷◌, ◌++◌, length, get_or, map, Contains, All, AllPairs, Vec, refl, sym, ap, ap₂, subst, ◌∙◌, arith, length-append}
+use Rattle.std.proofs.Common.{◌≡◌, ℕ, ◌+◌, ◌<◌, ◌↔◌, ⊎_elim, List, [], ◌∷◌, ◌++◌, length, get_or, map, Contains, All, AllPairs, Vec, refl, sym, ap, ap₂, subst, subst₂, ◌∙◌, arith, length-append}
 use Rattle.std.proofs.lemmas.Bool.{cases_lt}
-use Rattle.std.proofs.lemmas.List.{get_or_default, get_or_append_left, get_or_push, map-append}
+use Rattle.std.proofs.lemmas.List.{get_or_default, get_or_append_left, get_or_push, get_or-map, length-map, map-append}
 use Rattle.std.proofs.lemmas.List.Elements.{All-contains, All-push, Contains-get_or}
 use Rattle.std.specs.declared.alloc.Global.{Global}
 use Rattle.sci_loop.specs.Lists.{plain, list_at}
@@ -12,16 +12,18 @@ use Rattle.sci_net.specs.Parts.{Parts, numbered}
 use Rattle.sci_net.specs.Sources.{sources_of, source_of}
 use Rattle.sci_reaction.specs.Links.{SourceFeeds, IsSource}
 use Rattle.sci_reaction.specs.Active.{IsSync, Possible, Reaches}
-use Rattle.sci_reaction.specs.Depends.{Precedes}
+use Rattle.sci_reaction.specs.Depends.{HasDepth, Precedes}
 use Rattle.sci_reaction.specs.Equations.{HasBits}
 use Rattle.sci_reaction.specs.Schedule.{Entry as PlainEntry, blocks_of, IsEntry, IsRow, IsSchedule}
 use Rattle.sci_reaction.proofs.Lists.{Has}
 use Rattle.sci_reaction.proofs.Sources.{sources_are}
 use Rattle.sci_reaction.proofs.Rows.{Contains-has, has-Contains}
 use Rattle.sci_inherit.specs.Origins.{Origins, AreOrigins}
-use Rattle.sci_sched.specs.declared.schedule.Entry.{Entry}
+use Rattle.sci_reaction.specs.declared.entry.Entry.{Entry}
 use Rattle.sci_sched.specs.declared.marks.Marks.{Marks}
-use Rattle.sci_sched.specs.Plain.{entry_of, row_of, lists_of}
+use Rattle.sci_sched.specs.Plain.{row_of, lists_of}
+use Rattle.sci_reaction.specs.Kept.{entry_of}
+use Rattle.sci_sched.specs.Depths.{AreDepthsOf}
 use Rattle.sci_sched.specs.Marks.{MarkSource}
 use Rattle.sci_sched.specs.Outlines.{AreOrdered}
 use Rattle.sci_sched.specs.Rows.{IsMarkedEntry, AreEntries, AreRows}
@@ -34,8 +36,8 @@ is_source n k h = (sources_are n (source_of n k)).0 (Contains-get_or (sources_of
 
 -- ---- an entry
 
-pub entry_is : (n : Parts) (r : Origins) (s : Source) (m : Marks) (e : Entry) → AreOrigins n r → IsSource n s → MarkSource n s m → IsMarkedEntry n r m e → IsEntry n s (entry_of e)
-entry_is n r s m e origins source mark is =
+pub entry_is : (n : Parts) (r : Origins) (s : Source) (m : Marks) (e : Entry) → AreOrigins n r → IsSource n s → MarkSource n s m → IsMarkedEntry n r m e → HasDepth n s e.block e.depth → IsEntry n s (entry_of e)
+entry_is n r s m e origins source mark is deep =
     let b = e.block in
     let qs = numbered [] r.branches b in
     let conditions = list_at (plain m.conditions.items) b in
@@ -44,6 +46,7 @@ entry_is n r s m e origins source mark is =
       λ p. Contains-has conditions q.block ((mark.conditions b q.block).1 (p, record { sync = sync; branch = q.port; reaches = reaches })),
     ) in
     record {
+      depth_is = deep;
       always_is = (λ on. (mark.always b).0 (is.always.0 on), λ h. is.always.1 ((mark.always b).1 h));
       mask_is = subst (λ v. HasBits v (SourceFeeds n s b)) (sym is.mask) (mark.masks b);
       rising = guards_rise n s source b conditions qs (origins.branches_rise b) (origins.branches_are b) known e.guards.items is.guards;
@@ -59,6 +62,19 @@ entries_more n r m bs es b e are at ok =
       entries_are = All-push (IsMarkedEntry n r m) es e are.entries_are ok;
     }
 
+pub depths_more : (es : List Entry) (ds : List ℕ) (e : Entry) (d : ℕ) → map (λ (x : Entry). x.depth) es ≡ ds → e.depth ≡ d → map (λ (x : Entry). x.depth) (es ++ e ∷ []) ≡ ds ++ d ∷ []
+depths_more es ds e d are at = map-append (λ (x : Entry). x.depth) es (e ∷ []) ∙ ap₂ (λ xs y. xs ++ y ∷ []) are at
+
+-- each entry has the depth of its block
+deep_at : (has : ℕ → ℕ → Type 0) (bs ds : List ℕ) (es : List Entry) → AreDepthsOf has bs ds → map (λ (e : Entry). e.block) es ≡ bs → map (λ (e : Entry). e.depth) es ≡ ds →
+    (k : ℕ) (d : Entry) → k < length es → has (get_or es k d).block (get_or es k d).depth
+deep_at has bs ds es are blocks depths k d h =
+    let long : length es ≡ length bs = sym (length-map es (λ (e : Entry). e.block)) ∙ ap length blocks in
+    subst₂ has
+    (ap (λ ys. get_or ys k 0) (sym blocks) ∙ get_or-map (λ (e : Entry). e.block) es k d 0 h)
+    (ap (λ ys. get_or ys k 0) (sym depths) ∙ get_or-map (λ (e : Entry). e.depth) es k d 0 h)
+    (are.each k (omega (arith, long, h)))
+
 blocks_same : (es : List Entry) → blocks_of (row_of es) ≡ map (λ (e : Entry). e.block) es
 blocks_same [] = refl
 blocks_same (e ∷ es) = ap (λ bs. e.block ∷ bs) (blocks_same es)
@@ -69,13 +85,14 @@ all_map P f xs all k d h =
     let r = map_from f xs y (k, h, get_or_default (map f xs) k y d h) in
     subst P r.2 (All-contains (λ x. P (f x)) xs r.0 all r.1)
 
-pub row_is : (n : Parts) (r : Origins) (s : Source) (m : Marks) (bs : List ℕ) (es : List Entry) → AreOrigins n r → IsSource n s → MarkSource n s m → AreOrdered n s bs → AreEntries n r m bs es → IsRow n s (row_of es)
-row_is n r s m bs es origins source mark is are =
+pub row_is : (n : Parts) (r : Origins) (s : Source) (m : Marks) (bs ds : List ℕ) (es : List Entry) → AreOrigins n r → IsSource n s → MarkSource n s m → AreOrdered n s bs → AreDepthsOf (HasDepth n s) bs ds →
+    AreEntries n r m bs es → map (λ (e : Entry). e.depth) es ≡ ds → IsRow n s (row_of es)
+row_is n r s m bs ds es origins source mark is deep are depths =
     let blocks : blocks_of (row_of es) ≡ bs = blocks_same es ∙ are.blocks_are in
     record {
       exactly = λ b. (λ h. (is.exactly b).0 (subst (λ xs. Contains xs b) blocks h), λ h. subst (λ xs. Contains xs b) (sym blocks) ((is.exactly b).1 h));
       ordered = pairs_of_map (Precedes n s) (λ (e : PlainEntry). e.block) (row_of es) (subst (AllPairs (Precedes n s)) (sym blocks) is.ordered);
-      entries = all_map (IsEntry n s) entry_of es (λ k d h. entry_is n r s m (get_or es k d) origins source mark (are.entries_are k d h));
+      entries = all_map (IsEntry n s) entry_of es (λ k d h. entry_is n r s m (get_or es k d) origins source mark (are.entries_are k d h) (deep_at (HasDepth n s) bs ds es deep are.blocks_are depths k d h));
     }
 
 -- ---- the rows

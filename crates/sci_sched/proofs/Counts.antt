@@ -4,8 +4,9 @@ use Rattle.std.specs.List.{sum_by}
 use Rattle.std.proofs.lemmas.List.{length-map, take_all}
 use Rattle.std.proofs.lemmas.List.Sums.{sum_by-cons, sum_by_more, sum_by_more_le}
 use Rattle.std.specs.declared.alloc.Global.{Global}
-use Rattle.sci_sched.specs.declared.schedule.Entry.{Entry}
-use Rattle.sci_sched.specs.Plain.{guard_of, entry_of, row_of, lists_of}
+use Rattle.sci_reaction.specs.declared.entry.Entry.{Entry}
+use Rattle.sci_sched.specs.Plain.{row_of, lists_of}
+use Rattle.sci_reaction.specs.Kept.{guard_of, entry_of}
 use Rattle.sci_sched.specs.Size.{entry_count, guards_in, guard_count}
 
 -- a sum over other forms of the same things

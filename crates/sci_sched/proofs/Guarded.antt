@@ -19,8 +19,8 @@ use Rattle.sci_reaction.proofs.Exists.{same_mask}
 use Rattle.sci_reaction.proofs.OneRow.{same_lists}
 use Rattle.sci_reaction.proofs.Rows.{Contains-has, has-Contains, guard_mask, guard_mask-bits}
 use Rattle.sci_inherit.specs.Live.{IsLive}
-use Rattle.sci_sched.specs.declared.schedule.Guard.{Guard}
-use Rattle.sci_sched.specs.Plain.{guard_of, guards_of}
+use Rattle.sci_reaction.specs.declared.entry.Guard.{Guard}
+use Rattle.sci_reaction.specs.Kept.{guard_of, guards_of}
 use Rattle.sci_sched.specs.Guards.{is_possible, branch_in, AreGuards}
 use Rattle.sci_sched.proofs.Members.{map_from, map_to, filter_from, filter_to, pairs_map, pairs_of_map}
 

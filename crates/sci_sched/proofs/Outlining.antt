@@ -1,8 +1,9 @@
 -- What the table of a source tells of the source.
-use Rattle.std.proofs.Common.{◌≡◌, ℕ, zero, suc, ◌+◌, ◌<◌, ◌≤◌, inr, ◌↔◌, List, [], ◌∷◌, length, get_or, Contains, AllPairs, All, Vec, refl, subst, arith}
-use Rattle.std.specs.Prelude.{Result, Ok, Err, IfOk}
+use Rattle.std.proofs.Common.{◌≡◌, ℕ, zero, suc, ◌+◌, ◌<◌, ◌≤◌, inr, ◌↔◌, List, [], ◌∷◌, length, get_or, map, Contains, AllPairs, All, Vec, refl, sym, ap, subst, ◌∙◌, arith}
+use Rattle.std.specs.Prelude.{replicate}
 use Rattle.std.specs.declared.alloc.Global.{Global}
-use Rattle.std.proofs.lemmas.List.{get_or_default}
+use Rattle.std.proofs.lemmas.List.{get_or_default, get_or-map, length-map, get_or-replicate, length-replicate}
+use Rattle.std.proofs.lemmas.List.Elements.{All-contains, Contains-get_or}
 use Rattle.std.proofs.lemmas.List.Kept.{AllPairs-from_increasing}
 use Rattle.sci_loop.specs.Depth.{ChainTo, IsDepth}
 use Rattle.sci_loop.specs.Loops.{IsLoop, HasNoLoop, IsFromLeast}
@@ -15,14 +16,14 @@ use Rattle.sci_net.specs.declared.Source.{Source}
 use Rattle.sci_net.specs.Parts.{Parts, IsBlock, IsWired}
 use Rattle.sci_net.specs.Sources.{sources_of, source_of}
 use Rattle.sci_reaction.specs.Active.{Possible}
-use Rattle.sci_reaction.specs.Depends.{Depends, IsLoopFree, Precedes}
+use Rattle.sci_reaction.specs.Depends.{Depends, HasDepth, IsLoopFree, Precedes}
 use Rattle.sci_reaction.proofs.Alike.{loop_alike, no_loop_alike, depth_alike}
 use Rattle.sci_reaction.proofs.Spreading.{Spread-block}
 use Rattle.sci_dep.specs.Tables.{IsTableOf}
 use Rattle.sci_base.specs.Plain.{violation_of}
 use Rattle.sci_base.specs.declared.stop.Stop.{Stop}
 use Rattle.sci_base.specs.declared.stop.Stop.TheVariants.{Refused, Memory}
-use Rattle.sci_sched.specs.Depths.{HaveDepths, IsBefore, Outranks}
+use Rattle.sci_sched.specs.Depths.{HaveDepths, IsBefore, Outranks, AreDepthsOf}
 use Rattle.sci_sched.specs.Outlines.{AreOrdered}
 use Rattle.sci_sched.specs.Answer.{AreLoopFree, loop_violation, TellsLoop, IsLoopStop, IsFirstLoopStop}
 use Rattle.sci_base.specs.Stops.{IsViolation}
@@ -53,14 +54,17 @@ module _ (n : Parts) (s : Source) (t : DepTable) (needs : (c b : ℕ) → Needs 
   pub loop_source : (xs : List ℕ) → IsLoop (Needs t) xs → IsLoop (Depends n s) xs
   loop_source xs h = loop_alike (Needs t) (Depends n s) to xs h
 
+  pub depth_source : (c d : ℕ) → IsDepth (Needs t) c d → HasDepth n s c d
+  depth_source c d h = depth_alike (Needs t) (Depends n s) to from c d h
+
   pub ranked_precede : (vs : List ℕ) → AllPairs (Outranks (Needs t)) vs → AllPairs (Precedes n s) vs
   ranked_precede vs h i j d l w =
       let r = h i j d l w in
       record {
         depth = r.depth;
         later_depth = r.later_depth;
-        has = depth_alike (Needs t) (Depends n s) to from (get_or vs i d) r.depth r.has;
-        later_has = depth_alike (Needs t) (Depends n s) to from (get_or vs j d) r.later_depth r.later_has;
+        has = depth_source (get_or vs i d) r.depth r.has;
+        later_has = depth_source (get_or vs j d) r.later_depth r.later_has;
         less = r.less;
       }
 
@@ -91,16 +95,16 @@ below_size t n s size members wired is k d h =
     let inside = Spread-block n s _ ((members b).0 (k, h, get_or_default t.members.items k b d h)) in
     let most = inside.most in omega (arith, most, is)
 
-module _ {E : Type 0} (t : DepTable) (ms : List ℕ) (r : Result (Vec ℕ Global) E) (same : ms ≡ t.members.items) (exactly : IfOk r (λ v. (b : ℕ) → Contains v.items b ↔ Contains ms b)) where
-  pub members_kept : IfOk r (λ v. (b : ℕ) → Contains v.items b ↔ Contains t.members.items b)
-  members_kept = subst (λ xs. IfOk r (λ v. (b : ℕ) → Contains v.items b ↔ Contains xs b)) same exactly
+-- what holds of members holds of those that are among them
+pub members_below : (size : ℕ) (ms vs : List ℕ) → ((b : ℕ) → Contains vs b → Contains ms b) → All (λ b. b < size) ms → All (λ b. b < size) vs
+members_below size ms vs members below k d h = let b = get_or vs k d in All-contains (λ x. x < size) ms b below (members b (Contains-get_or vs k d h))
 
-  pub members_ranked : (depths ds : List ℕ) → HaveDepths t depths → ds ≡ depths → IfOk r (λ v. AllPairs (IsBefore ds) v.items) → IfOk r (λ v. AllPairs (Outranks (Needs t)) v.items)
-  members_ranked depths ds have is ordered = by r members_kept (subst (λ xs. IfOk r (λ v. AllPairs (IsBefore xs) v.items)) is ordered)
-    where
-      by : (q : Result (Vec ℕ Global) E) → IfOk q (λ v. (b : ℕ) → Contains v.items b ↔ Contains t.members.items b) → IfOk q (λ v. AllPairs (IsBefore depths) v.items) → IfOk q (λ v. AllPairs (Outranks (Needs t)) v.items)
-      by (Ok v) kept before = ranked_members t depths v.items have (λ b h. (kept b).0 h) before
-      by (Err e) kept before = tt
+-- the depths of some blocks, where each is known by number
+pub depths_are : (has : ℕ → ℕ → Type 0) (depths blocks ds : List ℕ) → ((b : ℕ) → Contains blocks b → has b (get_or depths b 0)) → ds ≡ map (λ b. get_or depths b 0) blocks → AreDepthsOf has blocks ds
+depths_are has depths blocks ds have is = record {
+  one_each = ap length is ∙ length-map blocks (λ b. get_or depths b 0);
+  each = λ k h. subst (has (get_or blocks k 0)) (sym (ap (λ xs. get_or xs k 0) is ∙ get_or-map (λ b. get_or depths b 0) blocks k 0 0 h)) (have (get_or blocks k 0) (Contains-get_or blocks k 0 h));
+}
 
 -- the blocks of a source
 pub ordered_are : (n : Parts) (s : Source) (t : DepTable) (vs : List ℕ) → IsTableOf n s t → HasNoLoop (Needs t) → ((b : ℕ) → Contains vs b ↔ Contains t.members.items b) →
@@ -111,6 +115,10 @@ ordered_are n s t vs is free kept ranked =
       exactly = λ b. (λ h. (is.members b).0 ((kept b).0 h), λ h. (kept b).1 ((is.members b).1 h));
       ordered = ranked_precede n s t is.needs vs ranked;
     }
+
+pub depths_source : (n : Parts) (s : Source) (t : DepTable) (vs ds : List ℕ) → IsTableOf n s t → AreDepthsOf (IsDepth (Needs t)) vs ds → AreDepthsOf (HasDepth n s) vs ds
+depths_source n s t vs ds is are =
+    record { one_each = are.one_each; each = λ k h. depth_source n s t is.needs (get_or vs k 0) (get_or ds k 0) (are.each k h) }
 
 -- where nothing is needed there is no loop
 no_loop : (needs : ℕ → ℕ → Type 0) → ((c b : ℕ) → needs c b → ⊥) → HasNoLoop needs
@@ -140,6 +148,18 @@ members_are n s t is off =
       later_has = one_deep (Needs t) none (get_or t.members.items j d);
       less = inr (refl, rise i j d l h);
     })
+
+-- and all have one depth
+pub all_one_deep : (n : Parts) (s : Source) (t : DepTable) (ds : List ℕ) → IsTableOf n s t → (HasNeeds t → ⊥) → ds ≡ replicate (length t.members.items) 1 → AreDepthsOf (HasDepth n s) t.members.items ds
+all_one_deep n s t ds is off ones =
+    let none : (c b : ℕ) → Needs t c b → ⊥ = λ c b h. off (record { member = c; need = b; needs = h }) in
+    let ms = t.members.items in
+    record {
+      one_each = ap length ones ∙ length-replicate (length ms) 1;
+      each = λ k h.
+          subst (HasDepth n s (get_or ms k 0)) (sym (ap (λ xs. get_or xs k 0) ones ∙ get_or-replicate (length ms) k 1 0 h))
+          (depth_source n s t is.needs (get_or ms k 0) 1 (one_deep (Needs t) none (get_or ms k 0)));
+    }
 
 pub sorted_loop : (t : DepTable) (o : Sorted) (v : Vec ℕ Global) → o ≡ Loop v → IsSorted t o → IsLoop (Needs t) v.items × IsFromLeast v.items
 sorted_loop t o v is h = subst (IsSorted t) is h

@@ -9,7 +9,7 @@ use Rattle.sci_net.specs.declared.Feed.{Feed}
 use Rattle.sci_net.specs.Parts.{Parts, feeds_of, AreRising}
 use Rattle.sci_reaction.specs.Equations.{HasBits}
 use Rattle.sci_reaction.proofs.Rows.{Contains-has, has-Contains}
-use Rattle.sci_sched.specs.declared.schedule.Guard.{Guard}
+use Rattle.sci_reaction.specs.declared.entry.Guard.{Guard}
 use Rattle.sci_sched.specs.Guards.{is_possible, branch_in, AreGuards, IsFirstFrom, EndsRun, GuardsTo}
 use Rattle.sci_sched.proofs.Guarded.{before_of, guards_with, guards_without}
 

@@ -15,7 +15,7 @@ use Rattle.sci_net.specs.Net.{IsNet}
 use Rattle.sci_net.specs.Sources.{sources_of, source_of}
 use Rattle.sci_reaction.specs.Links.{IsSource}
 use Rattle.sci_reaction.specs.Active.{Reaches, seeded, passed}
-use Rattle.sci_reaction.specs.Depends.{Precedes}
+use Rattle.sci_reaction.specs.Depends.{HasDepth, Precedes}
 use Rattle.sci_reaction.specs.Schedule.{Entry as PlainEntry, blocks_of, IsEntry, IsRow, IsSchedule}
 use Rattle.sci_reaction.proofs.Spreading.{Spread-block, from_guard}
 use Rattle.sci_reaction.proofs.OneResult.{precedes_trans, irreflexive}
@@ -23,6 +23,7 @@ use Rattle.sci_reaction.proofs.OneRow.{same_lists}
 use Rattle.sci_reaction.proofs.Rows.{block_in, has-Contains}
 use Rattle.sci_inherit.specs.Origins.{Origins, AreOrigins}
 use Rattle.sci_sched.specs.declared.outline.Outline.{Outline}
+use Rattle.sci_sched.specs.Depths.{AreDepthsOf}
 use Rattle.sci_sched.specs.Guards.{is_possible, is_of}
 use Rattle.sci_sched.specs.Size.{guards_in, size_of}
 use Rattle.sci_sched.specs.Outlines.{AreOrdered, IsOutline, AreOutlines, guards_at, guards_by, outline_size, AddsBranches, CountsTo, AreCounts}
@@ -230,11 +231,12 @@ module _ (n : Parts) (net : IsNet n) (s : Source) (bs : List ℕ) (is : AreOrder
         ∙ ap (λ xs. sum_by (guards_at r bs) xs) (row_blocks row ok)
 
     -- the outline of the source
-    pub outline_is : (counts : List ℕ) (o : Outline) → AreCounts r counts → o.blocks.items ≡ bs → o.guards ≡ sum_by (λ c. get_or counts c 0) bs → IsOutline n s o
-    outline_is counts o are same count =
+    pub outline_is : (counts : List ℕ) (o : Outline) → AreCounts r counts → o.blocks.items ≡ bs → AreDepthsOf (HasDepth n s) bs o.depths.items → o.guards ≡ sum_by (λ c. get_or counts c 0) bs → IsOutline n s o
+    outline_is counts o are same deep count =
         let sum = count ∙ given counts are in
         record {
           blocks = subst (AreOrdered n s) (sym same) is;
+          depths = subst (λ xs. AreDepthsOf (HasDepth n s) xs o.depths.items) (sym same) deep;
           guards = λ row ok. row_guards row ok ∙ sym sum;
           few = let small = guards_small in let long : length o.blocks.items ≡ length bs = ap length same in omega (arith, small, long, sum);
         }

@@ -3,9 +3,10 @@ use Rattle.std.proofs.Common.{◌≡◌, ◌<◌, ◌+◌, ℕ, List, ◌++◌, 
 use Rattle.std.proofs.Math.Seq.{drop-cons}
 use Rattle.std.specs.declared.alloc.Global.{Global}
 use Rattle.sci_net.specs.declared.Source.{Source}
-use Rattle.sci_sched.specs.declared.schedule.Guard.{Guard}
-use Rattle.sci_sched.specs.declared.schedule.Entry.{Entry}
-use Rattle.sci_sched.specs.Plain.{guard_of, guards_of, entry_of, row_of, lists_of}
+use Rattle.sci_reaction.specs.declared.entry.Guard.{Guard}
+use Rattle.sci_reaction.specs.declared.entry.Entry.{Entry}
+use Rattle.sci_sched.specs.Plain.{row_of, lists_of}
+use Rattle.sci_reaction.specs.Kept.{guard_of, guards_of, entry_of}
 use Rattle.sci_sched.specs.Text.{guard_text, guards_text, entry_text, entries_text, row_text, plan_text}
 
 pub guards-drop : (gs : List Guard) (i : ℕ) (d : Guard) → i < length gs → guards_text (guards_of (drop i gs)) ≡ guard_text (guard_of (get_or gs i d)) ++ guards_text (guards_of (drop (i + 1) gs))

@@ -1,5 +1,5 @@
 -- Depths by number, and the order that they give.
-use Rattle.std.specs.Prelude.{◌≡◌, ℕ, ◌<◌, ◌≤◌, ◌⊎◌, List, Contains, slice_index}
+use Rattle.std.specs.Prelude.{◌≡◌, ℕ, ◌<◌, ◌≤◌, ◌⊎◌, List, length, Contains, slice_index}
 use Rattle.sci_loop.specs.Depth.{IsDepth}
 use Rattle.sci_loop.specs.declared.table.DepTable.{DepTable}
 use Rattle.sci_loop.specs.Table.{Needs}
@@ -38,3 +38,8 @@ pub record Outranks (needs : ℕ → ℕ → Type 0) (a b : ℕ) : Type 0 where
   pub has : IsDepth needs a depth
   pub later_has : IsDepth needs b later_depth
   pub less : (depth < later_depth) ⊎ ((depth ≡ later_depth) × (a < b))
+
+-- one for each of these blocks: its depth
+pub record AreDepthsOf (has : ℕ → ℕ → Type 0) (blocks depths : List ℕ) : Type 0 where
+  pub one_each : length depths ≡ length blocks
+  pub each : (k : ℕ) → k < length blocks → has (slice_index blocks k) (slice_index depths k)

@@ -6,8 +6,8 @@ use Rattle.sci_net.specs.declared.Feed.{Feed}
 use Rattle.sci_net.specs.Parts.{Parts, feeds_of}
 use Rattle.sci_reaction.specs.Equations.{HasBits}
 use Rattle.sci_reaction.specs.Schedule.{branch_of}
-use Rattle.sci_sched.specs.declared.schedule.Guard.{Guard}
-use Rattle.sci_sched.specs.Plain.{guard_of}
+use Rattle.sci_reaction.specs.declared.entry.Guard.{Guard}
+use Rattle.sci_reaction.specs.Kept.{guard_of}
 
 -- the block of the branch is one of these
 abbrev pub is_possible : List ℕ → Feed → Bool

@@ -5,10 +5,11 @@ use Rattle.sci_net.specs.declared.Source.{Source}
 use Rattle.sci_net.specs.Parts.{Parts, numbered}
 use Rattle.sci_net.specs.Sources.{source_of}
 use Rattle.sci_reaction.specs.Active.{Possible}
-use Rattle.sci_reaction.specs.Depends.{IsLoopFree, Precedes}
+use Rattle.sci_reaction.specs.Depends.{HasDepth, IsLoopFree, Precedes}
 use Rattle.sci_reaction.specs.Schedule.{Entry, IsRow}
 use Rattle.sci_inherit.specs.Origins.{Origins}
 use Rattle.sci_sched.specs.declared.outline.Outline.{Outline}
+use Rattle.sci_sched.specs.Depths.{AreDepthsOf}
 use Rattle.sci_sched.specs.Guards.{is_possible, is_of}
 use Rattle.sci_sched.specs.Size.{guards_in}
 
@@ -22,9 +23,10 @@ pub record AreOrdered (n : Parts) (s : Source) (bs : List ℕ) : Type 0 where
 abbrev pub outline_size : Outline → ℕ
 outline_size o = length o.blocks.items + o.guards
 
--- a source without a loop: its blocks, and as many guards as its row has
+-- a source without a loop: its blocks with their depths, and as many guards as its row has
 pub record IsOutline (n : Parts) (s : Source) (o : Outline) : Type 0 where
   pub blocks : AreOrdered n s o.blocks.items
+  pub depths : AreDepthsOf (HasDepth n s) o.blocks.items o.depths.items
   pub guards : (row : List Entry) → IsRow n s row → guards_in row ≡ o.guards
   pub few : outline_size o ≤ 2 ^ 29
 

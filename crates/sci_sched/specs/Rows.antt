@@ -5,7 +5,7 @@ use Rattle.sci_net.specs.Parts.{Parts, numbered}
 use Rattle.sci_net.specs.Sources.{source_of}
 use Rattle.sci_reaction.specs.Schedule.{Entry as PlainEntry, IsRow}
 use Rattle.sci_inherit.specs.Origins.{Origins}
-use Rattle.sci_sched.specs.declared.schedule.Entry.{Entry}
+use Rattle.sci_reaction.specs.declared.entry.Entry.{Entry}
 use Rattle.sci_sched.specs.declared.marks.Marks.{Marks}
 use Rattle.sci_sched.specs.Guards.{AreGuards}
 

@@ -17,5 +17,6 @@ mod write;
 
 pub use measured::{Size, one_size};
 pub use planning::{measure, plan};
-pub use schedule::{Entry, Guard, Schedule};
+pub use schedule::Schedule;
+pub use sci_reaction::{Entry, Guard};
 pub use write::write_plan;

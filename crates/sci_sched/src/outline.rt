@@ -5,12 +5,14 @@ ghost use Rattle.sci_loop.specs.Sorted.{IsOrder};
 ghost use Rattle.sci_net.specs.Sources.{sources_of, source_of};
 ghost use Rattle.sci_inherit.specs.Origins.{AreOrigins};
 ghost use Rattle.sci_dep.specs.Tables.{AreWaits, IsTableOf};
-ghost use Rattle.sci_sched.specs.Depths.{Outranks};
+ghost use Rattle.sci_reaction.specs.Depends.{HasDepth};
+ghost use Rattle.sci_loop.specs.Depth.{IsDepth};
+ghost use Rattle.sci_sched.specs.Depths.{Outranks, AreDepthsOf};
 ghost use Rattle.sci_sched.specs.Answer.{IsLoopStop, IsFirstLoopStop};
 ghost use Rattle.sci_sched.specs.Outlines.{AreOrdered, IsOutline, AreCounts, AreOutlines};
 
 use crate::depth::set_depths;
-use crate::ranks::by_depth;
+use crate::ranks::{by_depth, depths_of};
 use crate::refusals::loop_stop;
 use crate::sizes::{guard_counts, guards_by};
 use sci_base::{NoMemory, Stop};
@@ -21,11 +23,20 @@ use sci_loop::{DepTable, Sorted, sort};
 use sci_net::{Net, Source};
 use std::alloc::Global;
 
+// Blocks by depth and number, and the depth of each.
+#[derive(Drop)]
+struct DepthOrder {
+    blocks: Vec<u32>,
+    depths: Vec<usize>,
+}
+
 /// What a source without a loop may activate.
 #[derive(Drop)]
 pub struct Outline {
     /// The possible blocks, by depth and number.
     pub blocks: Vec<u32>,
+    /// The depth of each.
+    pub depths: Vec<usize>,
     /// How many guards their entries have.
     pub guards: u64,
 }
@@ -36,15 +47,18 @@ fn in_order(
     table: &DepTable,
     order: &[u32],
     depths: &mut [usize],
-) -> Result<Vec<u32>, NoMemory>
+) -> Result<DepthOrder, NoMemory>
     requires table { IsTable table.now }
     requires order { IsOrder table.now order.now }
     requires below { All (λ b. b < length depths.old) table.now.members.items }
-    ensures exactly { IfOk result (λ v. (b : ℕ) → Contains v.items b ↔ Contains table.now.members.items b) }
-    ensures ordered { IfOk result (λ v. AllPairs (Outranks (Needs table.now)) v.items) }
+    ensures exactly { IfOk result (λ o. (b : ℕ) → Contains o.blocks.items b ↔ Contains table.now.members.items b) }
+    ensures ordered { IfOk result (λ o. AllPairs (Outranks (Needs table.now)) o.blocks.items) }
+    ensures depths { IfOk result (λ o. AreDepthsOf (IsDepth (Needs table.now)) o.blocks.items o.depths.items) }
 {
     set_depths(table, order, depths);
-    by_depth(alloc, depths, &table.members)
+    let blocks = by_depth(alloc, depths, &table.members)?;
+    let depths = depths_of(alloc, depths, &blocks)?;
+    Ok(DepthOrder { blocks, depths })
 }
 
 // The members of the table of a source, by depth and number; or the refusal of a loop.
@@ -54,18 +68,19 @@ fn ranked(
     source: Source,
     table: &DepTable,
     depths: &mut [usize],
-) -> Result<Vec<u32>, Stop>
+) -> Result<DepthOrder, Stop>
     requires table { IsTableOf net.now source table.now }
     requires depths { length depths.old ≡ length net.now.specs + 1 }
-    ensures ok { IfOk result (λ v. AreOrdered net.now source v.items) }
+    ensures ok { IfOk result (λ o. AreOrdered net.now source o.blocks.items) }
+    ensures depths { IfOk result (λ o. AreDepthsOf (HasDepth net.now source) o.blocks.items o.depths.items) }
     ensures stop { IfErr result (λ e. IsLoopStop net.now source e) }
 {
     net.well_formed();
     match sort(alloc, table)? {
         Sorted::Loop(found) => Err(loop_stop(alloc, net, source, &found)),
         Sorted::Order(order) => {
-            let blocks = in_order(alloc, table, &order, depths)?;
-            Ok(blocks)
+            let ordered = in_order(alloc, table, &order, depths)?;
+            Ok(ordered)
         }
     }
 }
@@ -77,17 +92,22 @@ fn ordered(
     source: Source,
     table: DepTable,
     depths: &mut [usize],
-) -> Result<Vec<u32>, Stop>
+) -> Result<DepthOrder, Stop>
     requires table { IsTableOf net.now source table }
     requires depths { length depths.old ≡ length net.now.specs + 1 }
-    ensures ok { IfOk result (λ v. AreOrdered net.now source v.items) }
+    ensures ok { IfOk result (λ o. AreOrdered net.now source o.blocks.items) }
+    ensures depths { IfOk result (λ o. AreDepthsOf (HasDepth net.now source) o.blocks.items o.depths.items) }
     ensures stop { IfErr result (λ e. IsLoopStop net.now source e) }
 {
     if table.has_needs() {
         ranked(alloc, net, source, &table, depths)
     } else {
         let DepTable { members, needs: _ } = table;
-        Ok(members)
+        let depths = vec![in alloc; 1; members.len()]?;
+        Ok(DepthOrder {
+            blocks: members,
+            depths,
+        })
     }
 }
 
@@ -115,9 +135,13 @@ fn outline_of(
     net.well_formed();
     possible(net, reach, at, walk)?;
     let table = depends(alloc, net, waits, at, walk)?;
-    let blocks = ordered(alloc, net, net.source(at), table, depths)?;
+    let DepthOrder { blocks, depths } = ordered(alloc, net, net.source(at), table, depths)?;
     let guards = guards_by(counts, &blocks);
-    Ok(Outline { blocks, guards })
+    Ok(Outline {
+        blocks,
+        depths,
+        guards,
+    })
 }
 
 fn keep(outlines: &mut Vec<Outline>, outline: Outline) -> Result<(), NoMemory>

@@ -10,7 +10,7 @@ use crate::refusals::length_stop;
 use crate::rows::rows;
 use crate::sizes::total;
 use crate::{Schedule, Size};
-use sci_base::Stop;
+use sci_base::{Stop, limits};
 use sci_dep::waits;
 use sci_inherit::{Reach, origins};
 use sci_net::Net;
@@ -35,7 +35,7 @@ fn outline_all(alloc: Global, net: &Net) -> Result<Outlined, Stop>
     let waits = waits(alloc, net, &reach)?;
     let outlines = outlines(alloc, net, &reach, &waits)?;
     let size = total(&outlines);
-    if size > 262144 {
+    if size > limits::ENTRIES {
         return Err(length_stop(alloc, size));
     }
     Ok(Outlined { reach, outlines })

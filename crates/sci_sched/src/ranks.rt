@@ -44,3 +44,16 @@ pub fn by_depth(alloc: Global, depths: &[usize], blocks: &[u32]) -> Result<Vec<u
     ranks.sort_unstable();
     ranked(alloc, &ranks)
 }
+
+/// The depths of these blocks.
+pub fn depths_of(alloc: Global, depths: &[usize], blocks: &[u32]) -> Result<Vec<usize>, NoMemory>
+    requires { All (λ b. b < length depths.now) blocks.now }
+    ensures { IfOk result (λ v. v.items ≡ map (slice_index depths.now) blocks.now) }
+{
+    Ok(
+        blocks
+            .iter()
+            .map(|block| depths[*block as usize])
+            .collect(alloc)?,
+    )
+}

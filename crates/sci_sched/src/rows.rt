@@ -1,5 +1,5 @@
 // The rows of a schedule.
-ghost use Rattle.std.specs.Prelude.{◌≡◌, ◌≤◌, ◌<◌, ◌+◌, ◌↔◌, ℕ, All, AllPairs, Contains, length, IfOk};
+ghost use Rattle.std.specs.Prelude.{◌≡◌, ◌≤◌, ◌<◌, ◌+◌, ◌↔◌, ℕ, All, AllPairs, Contains, length, map, IfOk};
 ghost use Rattle.sci_net.specs.Parts.{IsBlock};
 ghost use Rattle.sci_net.specs.Sources.{sources_of, source_of};
 ghost use Rattle.sci_reaction.specs.Schedule.{IsRow, IsSchedule};
@@ -35,12 +35,14 @@ fn entry_for(
     reach: &Reach,
     marks: &Marks,
     block: u32,
+    depth: usize,
 ) -> Result<Entry, NoMemory>
     requires reach { AreOrigins net.now reach.now }
     requires marks { AreSized (length net.now.specs + 1) marks.now }
     requires least { 1 ≤ block }
     requires most { block ≤ length net.now.specs }
     ensures block { IfOk result (λ e. e.block ≡ block) }
+    ensures depth { IfOk result (λ e. e.depth ≡ depth) }
     ensures entry { IfOk result (λ e. IsMarkedEntry net.now reach.now marks.now e) }
 {
     net.well_formed();
@@ -48,6 +50,7 @@ fn entry_for(
     let guards = guards(alloc, net, &conditions, reach.branches(block), block)?;
     Ok(Entry {
         block,
+        depth,
         always: marks.always.has(block),
         mask: marks.masks[block as usize],
         guards,
@@ -61,15 +64,18 @@ fn entries(
     reach: &Reach,
     marks: &Marks,
     blocks: &[u32],
+    depths: &[usize],
 ) -> Result<Vec<Entry>, NoMemory>
     requires reach { AreOrigins net.now reach.now }
     requires marks { AreSized (length net.now.specs + 1) marks.now }
     requires blocks { All (IsBlock net.now) blocks.now }
-    ensures { IfOk result (λ v. AreEntries net.now reach.now marks.now blocks.now v.items) }
+    requires depths { length depths.now ≡ length blocks.now }
+    ensures entries { IfOk result (λ v. AreEntries net.now reach.now marks.now blocks.now v.items) }
+    ensures depths { IfOk result (λ v. map (λ e. e.depth) v.items ≡ depths.now) }
 {
     let mut entries = Vec::with_capacity(alloc, blocks.len())?;
-    for block in blocks {
-        entries.push(entry_for(alloc, net, reach, marks, *block)?)?;
+    for at in 0..blocks.len() {
+        entries.push(entry_for(alloc, net, reach, marks, blocks[at], depths[at])?)?;
     }
     Ok(entries)
 }
@@ -94,7 +100,7 @@ fn row(
 {
     net.well_formed();
     marks.mark(net, reach, at, &outline.blocks)?;
-    let row = entries(alloc, net, reach, marks, &outline.blocks)?;
+    let row = entries(alloc, net, reach, marks, &outline.blocks, &outline.depths)?;
     marks.clear(net, reach, at, &outline.blocks);
     Ok(row)
 }

@@ -3,30 +3,7 @@ ghost use Rattle.std.specs.Prelude.{◌≡◌, ◌<◌, ◌^◌, ◌+◌, ℕ};
 ghost use Rattle.sci_sched.specs.Plain.{row_of, lists_of, rows_of};
 ghost use Rattle.sci_sched.specs.Size.{entry_count, guard_count, guards_in};
 
-/// A branch of a synchronous block, which may activate the block of an entry.
-#[derive(Clone, Copy, Debug, Drop, PartialEq, Eq)]
-pub struct Guard {
-    /// The synchronous block.
-    pub block: u32,
-    /// The activation output of this branch.
-    pub port: u32,
-    /// The activation inputs that the branch feeds: bit `p - 1` for input `p`. None where it comes by inheritance.
-    pub mask: u64,
-}
-
-/// A block that the source may activate. It is active where the entry is `always`, or where the block of a guard is active and takes
-/// the guard's port.
-#[derive(Debug, Drop)]
-pub struct Entry {
-    /// The block, by number from 1.
-    pub block: u32,
-    /// Whether the source activates the block whatever the values are.
-    pub always: bool,
-    /// The activation inputs that the source itself feeds: bit `p - 1` for input `p`.
-    pub mask: u64,
-    /// By block and port.
-    pub guards: Vec<Guard>,
-}
+use sci_reaction::Entry;
 
 /// The static schedule of each source: the blocks that it may activate, each after those that it depends on.
 #[derive(Debug, Drop)]

@@ -2,7 +2,8 @@
 ghost use Rattle.std.specs.Prelude.{◌≡◌, ◌++◌, codes, decimal, length};
 ghost use Rattle.sci_io.specs.Taken.{Writes};
 ghost use Rattle.sci_net.specs.Sources.{sources_of};
-ghost use Rattle.sci_sched.specs.Plain.{guard_of, guards_of, entry_of, row_of, rows_of};
+ghost use Rattle.sci_sched.specs.Plain.{row_of, rows_of};
+ghost use Rattle.sci_reaction.specs.Kept.{guard_of, guards_of, entry_of};
 ghost use Rattle.sci_sched.specs.Text.{port_text, block_text, guard_text, guards_text, entry_text, entries_text, source_text, row_text, plan_text};
 
 use crate::{Entry, Guard, Schedule};

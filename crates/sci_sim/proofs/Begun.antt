@@ -12,7 +12,8 @@ use Rattle.sci_forms.specs.declared.ports.Port.{Port}
 use Rattle.sci_forms.specs.declared.spec.Spec.{Spec}
 use Rattle.sci_forms.specs.Ports.{port_at, elements}
 use Rattle.sci_forms.specs.Words.{param, out_type, size, state_len_of}
-use Rattle.sci_forms.specs.Forms.{counts_of, has_state, has_delay, any_in, any_out, params_len_ok, param_ok, state_len_ok, state_ok, firing_ok, type_wanted, in_type_ok, out_type_ok, in_size_ok, out_size_ok, params_spread, state_spread, is_spread, index_ok, all_to, or_else, unless, first_not, given}
+use Rattle.sci_forms.specs.Forms.{counts_of, any_in, any_out, params_len_ok, param_ok, state_len_ok, state_ok, firing_ok, type_wanted, in_type_ok, out_type_ok, in_size_ok, out_size_ok, params_spread, state_spread, is_spread, index_ok, all_to, or_else, unless, first_not, given}
+use Rattle.sci_forms.specs.Form.{has_state, has_delay}
 use Rattle.sci_forms.specs.Typed.{is_known, feed_ok, counted, formed_of, known_of, types_broken_of, sizes_broken_of, type_not_here, value_not_here, wrong_size, wrong_shape, param_fits_at, state_fits_at, typed}
 use Rattle.sci_forms.proofs.TestLemmas.{both_true, none_parts, int_le_told}
 use Rattle.sci_kinds.specs.Asks.{IsState}

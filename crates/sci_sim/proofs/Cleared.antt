@@ -11,19 +11,22 @@ use Rattle.sci_reaction.proofs.Rows.{Contains-has, has-Contains}
 use Rattle.sci_agenda.specs.Wheel.{Wheel}
 use Rattle.sci_agenda.specs.Firing.{Meaning as Waiting}
 use Rattle.sci_bank.specs.Bank.{Meaning}
-use Rattle.sci_run.specs.Activity.{Activity, is_halt, halts}
+use Rattle.sci_run.specs.Activity.{Activity, halts}
+use Rattle.sci_forms.specs.Form.{is_halt}
 use Rattle.sci_run.specs.Run.{State, ReactionOutcome, IsOutcome}
 use Rattle.sci_store.specs.Marks.{mark_at, idle}
 use Rattle.sci_store.specs.Tally.{lines_after}
-use Rattle.sci_store.specs.Frame.{Fixed}
+use Rattle.sci_store.specs.Frame.{Fixed, IsFrame}
+use Rattle.sci_store.specs.Rows.{Row, IsRowOf, IsReadyRow, HasBegun, KeepsBegun}
 use Rattle.sci_store.specs.Store.{Standing, IsStore, AreIdle, ShowsValues}
 use Rattle.sci_store.specs.declared.marks.Mark.{Mark}
-use Rattle.sci_sim.specs.Rows.{Row, row_in}
+use Rattle.sci_sim.specs.Rows.{row_in}
 use Rattle.sci_sim.specs.At.{IsAt, IsReady, Running}
 use Rattle.sci_sim.specs.Reacting.{ShowsFiring, IsReacted, AreMarksOf, seen_in}
 use Rattle.sci_store.specs.Written.{AreAmong, sum_of}
-use Rattle.sci_store.specs.Chosen.{active_of_kinds, of_kinds}
-use Rattle.sci_sim.proofs.Choosing.{chosen_among}
+use Rattle.sci_store.specs.Chosen.{active_of_kinds}
+use Rattle.sci_store.proofs.InPass.{whole_in_row}
+use Rattle.sci_sim.proofs.Reacting.{halts_among}
 
 -- no block is marked: those of the last row are cleared, and no other was
 pub all_idle : (f : Fixed) (blocks : List ℕ) (s t : Standing) → ((b : ℕ) → Contains blocks b → mark_at t.marks b ≡ idle) → ((b : ℕ) → (Contains blocks b → ⊥) → mark_at t.marks b ≡ mark_at s.marks b)
@@ -58,33 +61,34 @@ module _ (r v : Running) (t : Standing) (is : v ≡ r) (cleared : t ≡ record v
       }))
 
 -- whether a HALT_f was active, as the view tells it
-pub halted_in : (r v : Running) → v ≡ r → (source : ℕ) (halting : List ℕ) → halting ≡ of_kinds r.fixed.net is_halt (row_in r.rows source).blocks
-    → (new : Standing) (after : State) (result : Bool)
+pub halted_in : (r v : Running) → v ≡ r → (source : ℕ) (row : Row) → row ≡ row_in v.rows source → IsReadyRow v.fixed row → (new : Standing) (after : State) (result : Bool)
     → AreMarksOf r.fixed source (row_in r.rows source) new after
-    → ((s : Source) (y : Signals) (active : Activity) → ShowsValues v.fixed s new y active → AreAmong v.fixed.net (active_of_kinds v.fixed.net is_halt active) halting
+    → ((s : Source) (y : Signals) (active : Activity) → ShowsValues v.fixed s new y active → AreAmong v.fixed.net (active_of_kinds v.fixed.net is_halt active) row.halts
     → result ≡ halts v.fixed.net active)
     → result ≡ halts r.fixed.net after.active
-halted_in r v is source halting same new after result marks h =
-    let f : Fixed = v.fixed in
-    let e : f ≡ r.fixed = ap (λ (x : Running). x.fixed) is in
-    let shown = subst (λ (x : Fixed). ShowsValues x (source_of x.net source) new marks.y after.active) (sym e) marks.shown in
-    let chosen = chosen_among r.fixed.net is_halt (row_in r.rows source).blocks after.active marks.among in
-    let among = subst (λ (x : Fixed). AreAmong x.net (active_of_kinds x.net is_halt after.active) halting) (sym e)
-    (subst (AreAmong r.fixed.net (active_of_kinds r.fixed.net is_halt after.active)) (sym same) chosen) in
-    subst (λ (x : Fixed). result ≡ halts x.net after.active) e (h (source_of f.net source) marks.y after.active shown among)
+halted_in r v is source row kept ready new after result marks h =
+    let there = subst (λ (x : Running). AreMarksOf x.fixed source (row_in x.rows source) new after) (sym is) marks in
+    let here = subst (λ (w : Row). AreMarksOf v.fixed source w new after) (sym kept) there in
+    subst (λ (x : Running). result ≡ halts x.fixed.net after.active) is
+    (h (source_of v.fixed.net source) here.y after.active here.shown (halts_among v.fixed row ready after.active here.among))
 
--- behind a reaction what is kept holds again: only blocks of its source's row are marked
-pub ready_behind : (v : Running) (source : ℕ) (row : Row) (t : Standing) (w : Wheel) (halted : Bool) → IsReady v → source < length v.rows → row ≡ row_in v.rows source
-    → IsStore v.fixed t → ((b : ℕ) → IsBlock v.fixed.net b → (Contains row.blocks b → ⊥) → mark_at t.marks b ≡ idle)
-    → IsReady (record v { store = t; wheel = w; row = source; halted = halted })
-ready_behind v source row t w halted h within kept store marked = record {
-  frame = h.frame;
-  rows = h.rows;
-  roles = h.roles;
-  store = store;
-  row = within;
-  marked = subst (λ (x : Row). (b : ℕ) → IsBlock v.fixed.net b → (Contains x.blocks b → ⊥) → mark_at t.marks b ≡ idle) kept marked;
-}
+-- the row that was begun keeps what a reaction needs
+pub begun_keeps : (f : Fixed) → IsFrame f → (source : Source) (row : Row) (s : Standing) → IsRowOf f source row → HasBegun f row s → KeepsBegun f row s
+begun_keeps f frame source row s is h = record { whole = h.whole; others = λ b block out. h.others b block (λ whole. out (whole_in_row f frame source row is b whole)) }
+
+-- where a row was begun, or a reaction over it was, what is kept holds again
+pub ready_behind : (v : Running) (source : ℕ) (row : Row) (t : Standing) (w : Wheel) (halted : Bool) → IsReady v → v.row ≡ source → source < length v.rows → row ≡ row_in v.rows source
+    → IsStore v.fixed t → KeepsBegun v.fixed row t → IsReady (record v { store = t; wheel = w; halted = halted })
+ready_behind v source row t w halted h at within kept store begun =
+    let here : KeepsBegun v.fixed (row_in v.rows v.row) t = subst (λ (k : ℕ). KeepsBegun v.fixed (row_in v.rows k) t) (sym at) (subst (λ (x : Row). KeepsBegun v.fixed x t) kept begun) in
+    record { frame = h.frame; rows = h.rows; store = store; row = h.row; begun = λ has. here; marked = here.others }
+
+-- the row of a source, where its blocks are marked
+pub ready_entered : (v : Running) (source : ℕ) (row : Row) (t : Standing) → IsReady v → source < length v.rows → row ≡ row_in v.rows source → IsStore v.fixed t → KeepsBegun v.fixed row t
+    → IsReady (record v { store = t; row = source; has_row = true })
+ready_entered v source row t h within kept store begun =
+    let here : KeepsBegun v.fixed (row_in v.rows source) t = subst (λ (x : Row). KeepsBegun v.fixed x t) kept begun in
+    record { frame = h.frame; rows = h.rows; store = store; row = within; begun = λ has. here; marked = here.others }
 
 -- the blocks that the last reaction activated are in its source's row
 pub active_in_row : (r : Running) (banks : List Meaning) (st : State) → IsReady r → IsAt r banks st → (b : ℕ) → IsBlock r.fixed.net b → st.active b ≡ true → Contains (row_in r.rows r.row).blocks b

@@ -4,12 +4,11 @@ pub mod Delays
 pub mod Choosing
 pub mod RowDelays
 pub mod Reacting
-pub mod Ordered
-pub mod Marked
+pub mod Planning
 pub mod Starting
-pub mod Passing
 pub mod Fired
 pub mod Cleared
+pub mod Entered
 pub mod Runs
 pub mod Again
 pub mod Resting

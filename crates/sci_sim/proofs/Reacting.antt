@@ -1,77 +1,72 @@
 -- The reaction of a source, by its row.
-use Rattle.std.proofs.Common.{◌≡◌, ℕ, zero, suc, ◌<◌, ◌+◌, List, [], ◌∷◌, length, map, get_or, refl, sym, ap, subst, ◌∙◌, arith, Contains}
-use Rattle.std.specs.Prelude.{if◌then◌else◌}
-use Rattle.std.proofs.lemmas.List.{length-map}
+use Rattle.std.proofs.Common.{◌≡◌, ℕ, ◌<◌, ◌+◌, List, length, get_or, sym, subst, ◌∙◌, arith}
+use Rattle.std.specs.Prelude.{All, true, if◌then◌else◌}
+use Rattle.std.proofs.lemmas.List.{get_or_default}
+use Rattle.sci_forms.specs.Form.{has_delay, is_halt}
 use Rattle.sci_net.specs.declared.Source.{Source}
 use Rattle.sci_net.specs.declared.Source.TheVariants.{Start, Port}
-use Rattle.sci_net.specs.Parts.{Parts}
+use Rattle.sci_net.specs.Parts.{spec_of}
 use Rattle.sci_net.specs.Sources.{sources_of, source_of}
 use Rattle.sci_reaction.specs.Memory.{Columns}
-use Rattle.sci_reaction.specs.Schedule.{IsRow, blocks_of}
-use Rattle.sci_reaction.proofs.Spreading.{Spread-block, possible}
+use Rattle.sci_reaction.proofs.Spreading.{possible}
+use Rattle.sci_run.specs.Activity.{Activity}
 use Rattle.sci_run.specs.Counts.{activations_from}
 use Rattle.sci_run.specs.Observed.{header}
 use Rattle.sci_run.specs.Programs.{next_pending}
 use Rattle.sci_run.specs.Run.{State, after_reaction}
 use Rattle.sci_bank.specs.Bank.{Meaning}
 use Rattle.sci_bank.specs.Library.{bank_of}
-use Rattle.sci_bank.proofs.LibraryLemmas.{view_of}
 use Rattle.sci_agenda.specs.Firing.{Meaning as Waiting}
 use Rattle.sci_store.specs.Blocks.{AreBlocksByNumber}
 use Rattle.sci_store.specs.Frame.{Fixed, AreSeated}
 use Rattle.sci_store.specs.Store.{Standing, is_kind, active_of}
 use Rattle.sci_store.specs.Passed.{IsValued, IsStepped, AreAlikeCounts}
 use Rattle.sci_store.specs.Written.{AreAmong, IsHeader}
+use Rattle.sci_store.specs.Chosen.{active_of_kinds}
+use Rattle.sci_store.specs.Rows.{Row, no_row, IsRowOf, IsReadyRow}
 use Rattle.sci_store.proofs.Reacting.{counts_more, activations_more}
-use Rattle.sci_sim.specs.declared.rows.Row.{Row as Kept}
-use Rattle.sci_sim.specs.Rows.{Row, row_of, no_row, row_in, IsRowOf, AreRowsOf}
+use Rattle.sci_store.proofs.Covering.{row_blocks}
+use Rattle.sci_sim.specs.Rows.{row_in, AreRowsOf}
 use Rattle.sci_sim.specs.Programming.{Keeps}
 use Rattle.sci_sim.specs.At.{Shows}
+use Rattle.sci_sim.proofs.Choosing.{chosen_by_number, chosen_among, chosen_kinds}
 
 -- ---- rows
 
-pub entries_at : (rows : List Row) (k : ℕ) → k < length rows → get_or (map (λ (r : Row). r.entries) rows) k [] ≡ (get_or rows k no_row).entries
-entries_at [] k l = absurd (omega (arith, l))
-entries_at (r ∷ rows) zero l = refl
-entries_at (r ∷ rows) (suc k) l = entries_at rows k (omega arith)
+pub source_within : (f : Fixed) (rows : List Row) (k : ℕ) → AreRowsOf f rows → k < length rows → k < length (sources_of f.net)
+source_within f rows k h l = omega (arith, h.enough, l)
 
 -- each row is that of its source
-pub row_here : (n : Parts) (rows : List Row) (k : ℕ) → AreRowsOf n rows → k < length rows → IsRowOf n (source_of n k) (row_in rows k)
-row_here n rows k h l = record {
-  entries = subst (IsRow n (source_of n k)) (entries_at rows k l) (h.schedule.each k (omega (arith, length-map rows (λ (r : Row). r.entries), l)));
-  by_number = h.by_number k l;
-}
+pub row_ready : (f : Fixed) (rows : List Row) (k : ℕ) → AreRowsOf f rows → k < length rows → IsReadyRow f (row_in rows k)
+row_ready f rows k h l = (source_of f.net k, h.each k l)
 
-pub source_within : (n : Parts) (rows : List Row) (k : ℕ) → AreRowsOf n rows → k < length rows → k < length (sources_of n)
-source_within n rows k h l = omega (arith, length-map rows (λ (r : Row). r.entries), h.schedule.enough, l)
+-- the row that was read of a source
+pub row_read : (rows : List Row) (k : ℕ) (r : Row) → k < length rows → r ≡ get_or rows k r → r ≡ row_in rows k
+row_read rows k r l read = read ∙ get_or_default rows k r no_row l
 
-module _ (n : Parts) (source : Source) (row : Row) (is : IsRowOf n source row) where
-  -- its blocks are blocks of the net
-  pub row_blocks : AreBlocksByNumber n row.blocks
-  row_blocks = record {
-    rising = is.by_number.rising;
-    blocks = λ b c. Spread-block n source _ ((is.entries.exactly b).0 ((is.by_number.same b).0 c));
-  }
+module _ (f : Fixed) (r : Row) (ready : IsReadyRow f r) where
+  -- its blocks with delays
+  pub delays_by_number : AreBlocksByNumber f.net r.delays
+  delays_by_number = subst (AreBlocksByNumber f.net) (sym ready.1.row.delays_are) (chosen_by_number f.net has_delay r.blocks (row_blocks f r ready))
 
-  -- outside them nothing is marked
-  pub outside_row : (b : ℕ) → (Contains row.blocks b → ⊥) → Contains (blocks_of row.entries) b → ⊥
-  outside_row b out h = out ((is.by_number.same b).1 h)
+  pub delays_delay : All (λ b. has_delay (spec_of f.net b).kind ≡ true) r.delays
+  delays_delay = subst (All (λ b. has_delay (spec_of f.net b).kind ≡ true)) (sym ready.1.row.delays_are) (chosen_kinds f.net has_delay r.blocks)
 
--- the row that is kept of a source
-pub row_kept : (rows : List Kept) (k : ℕ) (r : Kept) → k < length (map row_of rows) → r ≡ get_or rows k r → row_of r ≡ row_in (map row_of rows) k
-row_kept rows k r l read = view_of row_of rows k k r no_row refl l read
+  pub delays_among : (active : Activity) → AreAmong f.net active r.blocks → AreAmong f.net (active_of_kinds f.net has_delay active) r.delays
+  delays_among active among = subst (AreAmong f.net (active_of_kinds f.net has_delay active)) (sym ready.1.row.delays_are) (chosen_among f.net has_delay r.blocks active among)
 
-pub blocks_kept : (n : Parts) (rows : List Kept) (k : ℕ) (r : Kept) (bs : List ℕ) → AreRowsOf n (map row_of rows) → k < length (map row_of rows) → r ≡ get_or rows k r
-    → bs ≡ r.blocks.items → AreBlocksByNumber n bs
-blocks_kept n rows k r bs are l read same =
-    subst (AreBlocksByNumber n) (sym (same ∙ ap (λ (x : Row). x.blocks) (row_kept rows k r l read)))
-    (row_blocks n (source_of n k) (row_in (map row_of rows) k) (row_here n (map row_of rows) k are l))
+  -- its blocks that end the run
+  pub halts_by_number : AreBlocksByNumber f.net r.halts
+  halts_by_number = subst (AreBlocksByNumber f.net) (sym ready.1.row.halts_are) (chosen_by_number f.net is_halt r.blocks (row_blocks f r ready))
+
+  pub halts_among : (active : Activity) → AreAmong f.net active r.blocks → AreAmong f.net (active_of_kinds f.net is_halt active) r.halts
+  halts_among active among = subst (AreAmong f.net (active_of_kinds f.net is_halt active)) (sym ready.1.row.halts_are) (chosen_among f.net is_halt r.blocks active among)
 
 -- a block that is active is one of them
-pub among_row : (f : Fixed) (source : Source) (row : Row) → IsRowOf f.net source row → (i : Columns) (st : State) (s t : Standing) (banks mid : List Meaning)
+pub among_row : (f : Fixed) (source : Source) (row : Row) → IsRowOf f source row → (i : Columns) (st : State) (s t : Standing) (banks mid : List Meaning)
     (v : IsValued f i source st.memory s t banks mid) → AreAmong f.net v.active row.blocks
 among_row f source row is i st s t banks mid v b block on =
-    (is.by_number.same b).1 ((is.entries.exactly b).1 (possible f.net source _ ((v.active_are b block).0 on)))
+    (is.row.blocks_are.same b).1 ((is.entries.exactly b).1 (possible f.net source _ ((v.active_are b block).0 on)))
 
 -- ---- what a reaction comes to
 

@@ -297,4 +297,11 @@ module _ (i : Columns) (until limit : ℕ) (first : State) (r : Running) (word :
 pub ready_tallied : (v : Running) (t : Standing) (os : List Obs) → t ≡ tallied v.store os → IsReady v → IsReady (record v { store = t })
 ready_tallied v t os e h =
     subst (λ (x : Standing). IsReady (record v { store = x })) (sym e)
-    (record { frame = h.frame; rows = h.rows; roles = h.roles; store = record { values = h.store.values; cursors = h.store.cursors; marks = h.store.marks; room = h.store.room }; row = h.row; marked = h.marked })
+    (record {
+      frame = h.frame;
+      rows = h.rows;
+      store = record { values = h.store.values; cursors = h.store.cursors; marks = h.store.marks; room = h.store.room; chosen = h.store.chosen };
+      row = h.row;
+      begun = λ has. let b = h.begun has in record { whole = b.whole; others = b.others };
+      marked = h.marked;
+    })

@@ -1,6 +1,6 @@
 -- What is saved of a net, and a net that stands where a run was saved.
 use Rattle.std.specs.declared.alloc.Global.{Global}
-use Rattle.std.proofs.Common.{Vec, ◌≡◌, ℕ, zero, suc, ◌+◌, ◌<◌, ◌≤◌, ℤ, pos, ◌-ℤ◌, ◌≤ℤ◌, ◌<ℤ◌, true, false, List, [], ◌∷◌, All, length, get_or, map, replicate, refl, ap, sym, ◌∙◌, subst, arith}
+use Rattle.std.proofs.Common.{Vec, ◌≡◌, ℕ, zero, suc, ◌+◌, ◌<◌, ◌≤◌, ℤ, pos, ◌-ℤ◌, ◌≤ℤ◌, ◌<ℤ◌, true, false, List, [], ◌∷◌, All, length, get_or, map, replicate, refl, ap, sym, ◌∙◌, subst, arith, true≢false}
 use Rattle.std.specs.Prelude.{◌==◌}
 use Rattle.std.specs.List.{AllByRecursion}
 use Rattle.std.proofs.lemmas.Int.{ints}
@@ -19,7 +19,7 @@ use Rattle.sci_net.specs.Net.{IsNet}
 use Rattle.sci_pass.specs.State.{IsSameButState}
 use Rattle.sci_pass.proofs.Meanings.{same_but_state}
 use Rattle.sci_agenda.specs.Wheel.{Wheel}
-use Rattle.sci_bank.specs.declared.rows.Row.{Row as Instance}
+use Rattle.sci_bank.specs.declared.instance.Instance.{Instance}
 use Rattle.sci_bank.specs.Bank.{Meaning}
 use Rattle.sci_bank.specs.Library.{AreInOrder, IsFull}
 use Rattle.sci_places.specs.Flat.{values_at}
@@ -37,8 +37,8 @@ use Rattle.sci_store.specs.declared.marks.Mark.{Mark}
 use Rattle.sci_store.specs.Frame.{Fixed, IsFrame}
 use Rattle.sci_store.specs.Seating.{IsSeatingBy, begun}
 use Rattle.sci_store.specs.Store.{Standing, IsStore, AreIdle, cursor_at, state_of}
-use Rattle.sci_sim.specs.Rows.{Row, AreRowsOf}
-use Rattle.sci_sim.specs.Roles.{Roles, AreRolesOf}
+use Rattle.sci_store.specs.Rows.{Row}
+use Rattle.sci_sim.specs.Rows.{AreRowsOf}
 use Rattle.sci_sim.specs.Programming.{Keeps}
 use Rattle.sci_sim.specs.Saving.{IsByBlock, more}
 use Rattle.sci_sim.specs.At.{Running, IsReady, IsAt}
@@ -143,22 +143,29 @@ one_state_each n rows states w e = ap length e ∙ (sym (length-map states (λ (
 
 -- ---- the net there
 
-abbrev pub restored_at : Fixed → List Row → List Roles → Standing → Wheel → (now fired : ℕ) → Running
-restored_at f rows roles s w now fired = record { fixed = f; rows = rows; roles = roles; store = s; wheel = w; offset = now; now = now; fired = fired; row = 0; started = true; halted = false }
+abbrev pub restored_at : Fixed → List Row → Standing → Wheel → (now fired : ℕ) → Running
+restored_at f rows s w now fired = record { fixed = f; rows = rows; store = s; wheel = w; offset = now; now = now; fired = fired; row = 0; has_row = false; started = true; halted = false }
 
-module _ (f : Fixed) (rows : List Row) (roles : List Roles) (s : Standing) (w : Wheel) (m : Saved) (frame : IsFrame f) (store : IsStore f s) (idle : AreIdle f s) where
-  pub restored_ready : AreRowsOf f.net rows → AreRolesOf f.net rows roles → IsReady (restored_at f rows roles s w m.now m.fired)
-  restored_ready are same = record { frame = frame; rows = are; roles = same; store = store; row = first_row_within f.net rows are; marked = λ b block out. idle b block }
+module _ (f : Fixed) (rows : List Row) (s : Standing) (w : Wheel) (m : Saved) (frame : IsFrame f) (store : IsStore f s) (idle : AreIdle f s) where
+  pub restored_ready : AreRowsOf f rows → IsReady (restored_at f rows s w m.now m.fired)
+  restored_ready are = record {
+    frame = frame;
+    rows = are;
+    store = store;
+    row = first_row_within f rows are;
+    begun = λ has. absurd (true≢false (sym has));
+    marked = λ b block out. idle b block;
+  }
 
   pub restored_is : (n : Parts) → f.net ≡ n → (banks : List Meaning) → IsFull banks → AreInOrder banks → (states : List (List ℤ)) → states ≡ m.states
       → IsSeatingBy f.net (begun f.net states) f.seats banks → IsShaped n m
       → ((b : ℕ) → IsBlock f.net b → values_at f.net s.values b ≡ numbered [] m.held b) → s.cursors ≡ m.cursors → s.lines ≡ 0 → s.sum ≡ 0
-      → (pending : List (ℕ × ℕ)) → pending ≡ m.pending → Keeps n m.now m.now w.meaning w.puts (numbered_anew pending) → IsRestored n (restored_at f rows roles s w m.now m.fired) banks m
+      → (pending : List (ℕ × ℕ)) → pending ≡ m.pending → Keeps n m.now m.now w.meaning w.puts (numbered_anew pending) → IsRestored n (restored_at f rows s w m.now m.fired) banks m
   restored_is n same banks full order states states_are seats shape held cursors lines sum events events_are kept =
       let keeps = subst (λ (ds : List (ℕ × ℕ)). Keeps n m.now m.now w.meaning w.puts (numbered_anew ds)) events_are kept in
       let seated = subst (λ (rows : List (List ℤ)). IsSeatingBy f.net (begun f.net rows) f.seats banks) states_are seats in
       let shaped : IsShaped f.net m = subst (λ (k : Parts). IsShaped k m) (sym same) shape in
-      subst (λ (k : Parts). IsRestored k (restored_at f rows roles s w m.now m.fired) banks m) same (record {
+      subst (λ (k : Parts). IsRestored k (restored_at f rows s w m.now m.fired) banks m) same (record {
         net = refl;
         started = refl;
         at = record {

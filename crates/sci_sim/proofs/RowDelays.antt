@@ -5,7 +5,7 @@ use Rattle.sci_forms.specs.declared.Kind.{Kind}
 use Rattle.sci_forms.specs.declared.Kind.TheVariants.{EvtDly, EvtVarDly}
 use Rattle.sci_forms.specs.declared.ports.Port.{Port as Signal}
 use Rattle.sci_forms.specs.declared.spec.Spec.{Spec}
-use Rattle.sci_forms.specs.Forms.{is_sync, has_delay}
+use Rattle.sci_forms.specs.Form.{is_sync, has_delay}
 use Rattle.sci_forms.specs.Ports.{elements}
 use Rattle.sci_kinds.specs.Asks.{laid}
 use Rattle.sci_kinds.specs.Table.{delay}

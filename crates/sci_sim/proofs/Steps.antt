@@ -104,7 +104,7 @@ module _ (until : ℕ) (r a : Running) (banks : List Meaning) (date source : ℕ
       (subst (λ (x : Fixed). IsOutcome x.net i a.now (source_of x.net fires) from o) a_fixed h))
 
   -- behind the reaction
-  module _ (i : Columns) (b : Running) (later : List Meaning) (b_is : b ≡ record a { store = b.store; wheel = b.wheel; row = fires; halted = b.halted })
+  module _ (i : Columns) (b : Running) (later : List Meaning) (b_is : b ≡ record a { store = b.store; wheel = b.wheel; row = fires; has_row = true; halted = b.halted })
       (o : ReactionOutcome) (outcome : IsOutcome r.fixed.net i date (source_of r.fixed.net source) from o) (stop : Option StopWord)
       (reacted : IsReacted a.fixed fires (row_in a.rows fires) a.store b.store banks later b.wheel.meaning b.wheel.puts a.offset o stop) where
     b_fixed : b.fixed ≡ a.fixed

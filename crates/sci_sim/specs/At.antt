@@ -1,5 +1,5 @@
 -- What a net that is ready to run keeps, and the state of the run that it stands for.
-use Rattle.std.specs.Prelude.{◌≡◌, ℕ, ◌<◌, Bool, false, min, List, length, Contains}
+use Rattle.std.specs.Prelude.{◌≡◌, ℕ, ◌<◌, Bool, true, false, min, List, length, Contains}
 use Rattle.sci_base.specs.declared.observation.Obs.{Obs}
 use Rattle.sci_forms.specs.declared.Kind.{Kind}
 use Rattle.sci_net.specs.Parts.{Parts, IsBlock}
@@ -14,35 +14,35 @@ use Rattle.sci_bank.specs.Library.{bank_of}
 use Rattle.sci_store.specs.Marks.{mark_at, idle}
 use Rattle.sci_store.specs.Frame.{Fixed, IsFrame, AreSeated}
 use Rattle.sci_store.specs.Store.{Standing, IsStore, AreIdle, ShowsMemory}
-use Rattle.sci_sim.specs.Rows.{Row, AreRowsOf, row_in}
-use Rattle.sci_sim.specs.Roles.{Roles, AreRolesOf}
+use Rattle.sci_store.specs.Rows.{Row, KeepsBegun}
+use Rattle.sci_sim.specs.Rows.{AreRowsOf, row_in}
 use Rattle.sci_sim.specs.Programming.{Keeps}
 use Rattle.sci_store.specs.Written.{sum_of}
 use Rattle.sci_store.specs.Tally.{lines_after}
 
--- a net that is ready to run, or whose run is under way: what stays, the rows of its schedule and which of their blocks do something behind the pass, what
--- changes, the wheel and how much less its dates are, the date of the last reaction, how many events have fired, the source of the last reaction, whether the run has begun, and whether a HALT_f was
--- active in the last reaction
+-- a net that is ready to run, or whose run is under way: what stays, the rows of its sources, what changes, the wheel and how much less its dates are, the
+-- date of the last reaction, how many events have fired, the source of the last reaction and whether its blocks are marked, whether the run has begun, and
+-- whether a HALT_f was active in the last reaction
 pub record Running : Type 0 where
   pub fixed : Fixed
   pub rows : List Row
-  pub roles : List Roles
   pub store : Standing
   pub wheel : Wheel
   pub offset : ℕ
   pub now : ℕ
   pub fired : ℕ
   pub row : ℕ
+  pub has_row : Bool
   pub started : Bool
   pub halted : Bool
 
 pub record IsReady (r : Running) : Type 0 where
   pub frame : IsFrame r.fixed
-  pub rows : AreRowsOf r.fixed.net r.rows
-  pub roles : AreRolesOf r.fixed.net r.rows r.roles
+  pub rows : AreRowsOf r.fixed r.rows
   pub store : IsStore r.fixed r.store
   pub row : r.row < length r.rows
-  -- only blocks of the last source's row are marked
+  -- where blocks are marked, they are those of the last source's row, among them all that are active whatever the values are
+  pub begun : r.has_row ≡ true → KeepsBegun r.fixed (row_in r.rows r.row) r.store
   pub marked : (b : ℕ) → IsBlock r.fixed.net b → (Contains (row_in r.rows r.row).blocks b → ⊥) → mark_at r.store.marks b ≡ idle
 
 -- ---- the state of the run

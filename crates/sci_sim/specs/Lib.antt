@@ -1,7 +1,4 @@
-pub mod Entries
 pub mod Rows
-pub mod Roles
-pub mod Passed
 pub mod Programming
 pub mod At
 pub mod Reacting

@@ -13,7 +13,7 @@ use Rattle.sci_bank.specs.Bank.{Meaning}
 use Rattle.sci_store.specs.Frame.{Fixed}
 use Rattle.sci_store.specs.Store.{Standing, ShowsValues, AreCountedWithin}
 use Rattle.sci_store.specs.Written.{AreAmong}
-use Rattle.sci_sim.specs.Rows.{Row}
+use Rattle.sci_store.specs.Rows.{Row}
 use Rattle.sci_sim.specs.At.{Running, Shows, IsAt, AreTallied}
 
 -- ---- the source that fires

@@ -13,18 +13,24 @@ ghost use Rattle.sci_sim.specs.Saving.{IsByBlock, more};
 
 use crate::ready::Ready;
 use sci_agenda::agenda::Agenda;
-use sci_bank::library::{Banks, Library};
+use sci_bank::Bank;
+use sci_bank::library::Library;
 use sci_base::NoMemory;
 use sci_save::Image;
 use sci_store::{Frame, Store};
 use std::alloc::Global;
 
 /// The state of a block.
-fn state(alloc: Global, frame: &Frame, lib: &Library, block: u32) -> Result<Vec<i64>, NoMemory>
-    requires seated { AreSeated frame.now (⟦<Library as Banks>⟧.banks lib.now) }
+fn state<B: Bank>(
+    alloc: Global,
+    frame: &Frame,
+    lib: &Library<B>,
+    block: u32,
+) -> Result<Vec<i64>, NoMemory>
+    requires seated { AreSeated frame.now lib.now }
     requires block { IsBlock frame.now.net block }
-    requires state { IsState (spec_of frame.now.net block) (state_of frame.now (⟦<Library as Banks>⟧.banks lib.now) block) }
-    ensures { IfOk result (λ v. v.items ≡ state_of frame.now (⟦<Library as Banks>⟧.banks lib.now) block) }
+    requires state { IsState (spec_of frame.now.net block) (state_of frame.now lib.now block) }
+    ensures { IfOk result (λ v. v.items ≡ state_of frame.now lib.now block) }
 {
     frame.well_formed();
     let seat = frame.seat(block);
@@ -37,10 +43,14 @@ fn state(alloc: Global, frame: &Frame, lib: &Library, block: u32) -> Result<Vec<
 }
 
 /// The states of all blocks.
-fn states(alloc: Global, frame: &Frame, lib: &Library) -> Result<Vec<Vec<i64>>, NoMemory>
-    requires seated { AreSeated frame.now (⟦<Library as Banks>⟧.banks lib.now) }
-    requires states { (b : ℕ) → IsBlock frame.now.net b → IsState (spec_of frame.now.net b) (state_of frame.now (⟦<Library as Banks>⟧.banks lib.now) b) }
-    ensures { IfOk result (λ v. IsByBlock frame.now.net [] (state_of frame.now (⟦<Library as Banks>⟧.banks lib.now)) (rows_of v.items)) }
+fn states<B: Bank>(
+    alloc: Global,
+    frame: &Frame,
+    lib: &Library<B>,
+) -> Result<Vec<Vec<i64>>, NoMemory>
+    requires seated { AreSeated frame.now lib.now }
+    requires states { (b : ℕ) → IsBlock frame.now.net b → IsState (spec_of frame.now.net b) (state_of frame.now lib.now b) }
+    ensures { IfOk result (λ v. IsByBlock frame.now.net [] (state_of frame.now lib.now) (rows_of v.items)) }
 {
     let mut states = Vec::with_capacity(alloc, frame.net.len() as usize)?;
     for block in 0..frame.net.len() {
@@ -95,9 +105,9 @@ impl Ready {
     /// What is saved of the state behind the last reaction, at which the net stands with its library. The state is one of which something is saved,
     /// as each is that a run reaches. It takes the pending events out, so the net goes on no more; all else that it shows stays, also where memory is
     /// wanting, so it is of use for the calls that read it, those of pending events apart.
-    pub fn image(&mut self, alloc: Global, lib: &Library) -> Result<Image, NoMemory>
-        requires { (st : State) × (m : Saved) × IsAt self.old (⟦<Library as Banks>⟧.banks lib.now) st × IsSavedOf self.old.fixed.net st m }
-        ensures image { (st : State) (m : Saved) → IsAt self.old (⟦<Library as Banks>⟧.banks lib.now) st → IsSavedOf self.old.fixed.net st m → IfOk result (λ image. saved_of image ≡ m) }
+    pub fn image<B: Bank>(&mut self, alloc: Global, lib: &Library<B>) -> Result<Image, NoMemory>
+        requires { (st : State) × (m : Saved) × IsAt self.old lib.now st × IsSavedOf self.old.fixed.net st m }
+        ensures image { (st : State) (m : Saved) → IsAt self.old lib.now st → IsSavedOf self.old.fixed.net st m → IfOk result (λ image. saved_of image ≡ m) }
         ensures rest { self.new ≡ record self.old { wheel = self.new.wheel } }
     {
         let states = states(alloc, &self.frame, lib)?;

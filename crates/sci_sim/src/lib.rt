@@ -3,18 +3,14 @@
 #![tactic(auto)]
 
 mod end;
-mod entries;
 mod image;
 mod laws;
-mod pass;
 mod programming;
 mod reaction;
 mod ready;
 mod rest;
 mod restore;
-mod roles;
 mod rows;
-mod sorted;
 
 pub use end::{RunEnd, Step};
 pub use laws::{a_step_may_be_done, what_is_restored_is_saved};

@@ -1,6 +1,6 @@
 // Programming events.
-ghost use Rattle.std.specs.Prelude.{◌≡◌, ℕ, ◌+◌, ◌-◌, ◌<◌, ◌^◌, ◌<ℤ◌, ℤ, pos, [], length, true};
-ghost use Rattle.sci_forms.specs.Forms.{has_delay};
+ghost use Rattle.std.specs.Prelude.{◌≡◌, ℕ, ◌+◌, ◌-◌, ◌<◌, ◌^◌, ◌<ℤ◌, ℤ, pos, [], length, true, All};
+ghost use Rattle.sci_forms.specs.Form.{has_delay};
 ghost use Rattle.sci_net.specs.declared.Source.{Source};
 ghost use Rattle.sci_net.specs.Sources.{sources_of, source_of, block_sources};
 ghost use Rattle.sci_net.specs.Parts.{Parts, IsBlock, spec_of};
@@ -20,7 +20,8 @@ ghost use Rattle.sci_store.specs.Delays.{delays_in};
 ghost use Rattle.sci_sim.specs.Programming.{firing_at, Keeps};
 
 use sci_agenda::agenda::Agenda;
-use sci_bank::library::{Banks, Library};
+use sci_bank::Bank;
+use sci_bank::library::Library;
 use sci_net::{Net, Source};
 use sci_store::{Frame, Store};
 
@@ -71,16 +72,16 @@ pub fn program_first<A: Agenda>(net: &Net, agenda: &mut A)
 }
 
 /// The activation outputs of a block program their next events.
-fn program_block<A: Agenda>(
+fn program_block<A: Agenda, B: Bank>(
     store: &mut Store,
     frame: &Frame,
-    lib: &Library,
+    lib: &Library<B>,
     block: u32,
     date: u64,
     agenda: &mut A,
 )
     requires store { IsStore frame.now store.old }
-    requires seated { AreSeated frame.now (⟦<Library as Banks>⟧.banks lib.now) }
+    requires seated { AreSeated frame.now lib.now }
     requires block { IsBlock frame.now.net block }
     requires delayed { has_delay (spec_of frame.now.net block).kind ≡ true }
     requires active { (mark_at store.old.marks block).active ≡ true }
@@ -98,18 +99,19 @@ fn program_block<A: Agenda>(
     }
 }
 
-/// The active ones of these blocks program their activation outputs, by block and port. Blocks without delays may be left out.
-pub fn program_all<A: Agenda>(
+/// The active ones of these blocks, which have delays, program their activation outputs, by block and port.
+pub fn program_all<A: Agenda, B: Bank>(
     store: &mut Store,
     frame: &Frame,
     blocks: &[u32],
-    lib: &Library,
+    lib: &Library<B>,
     date: u64,
     agenda: &mut A,
 )
     requires store { IsStore frame.now store.old }
-    requires seated { AreSeated frame.now (⟦<Library as Banks>⟧.banks lib.now) }
+    requires seated { AreSeated frame.now lib.now }
     requires blocks { AreBlocksByNumber frame.now.net blocks.now }
+    requires delays { All (λ b. has_delay (spec_of frame.now.net b).kind ≡ true) blocks.now }
     requires values { AreInRange frame.now.net (values_at frame.now.net store.old.values) }
     requires date { date < 2 ^ 63 }
     requires keeps { (offset : ℕ) × (p : Pending) × Keeps frame.now.net offset (date + offset) (A.meaning agenda.old) (A.puts agenda.old) p }
@@ -119,7 +121,7 @@ pub fn program_all<A: Agenda>(
 {
     frame.well_formed();
     for block in blocks {
-        if frame.seat(*block).kind.has_delay() && store.is_active(*block) {
+        if store.is_active(*block) {
             program_block(store, frame, lib, *block, date, agenda);
         }
     }

@@ -1,5 +1,5 @@
 // A net that is ready to run, and its run.
-ghost use Rattle.std.specs.Prelude.{◌≡◌, ℕ, ◌+◌, ◌-◌, ◌<◌, ◌≤◌, ◌^◌, ◌↔◌, List, length, true, Some, None, IfOk, if◌then◌else◌, AllPairs, Contains};
+ghost use Rattle.std.specs.Prelude.{◌≡◌, ℕ, ◌+◌, ◌-◌, ◌<◌, ◌≤◌, ◌^◌, ◌↔◌, List, length, true, None, IfOk, if◌then◌else◌, AllPairs, Contains};
 ghost use Rattle.sci_base.specs.Lists.{at};
 ghost use Rattle.sci_base.specs.declared.observation.Obs.{Obs};
 ghost use Rattle.sci_io.specs.Taken.{Writes};
@@ -7,28 +7,28 @@ ghost use Rattle.sci_trace.specs.Lines.{text};
 ghost use Rattle.sci_forms.specs.Ports.{total};
 ghost use Rattle.sci_net.specs.Parts.{IsBlock, spec_of};
 ghost use Rattle.sci_reaction.specs.Active.{Possible};
-ghost use Rattle.sci_reaction.specs.Memory.{Columns, AreColumns};
+ghost use Rattle.sci_reaction.specs.Memory.{AreColumns};
 ghost use Rattle.sci_sched.specs.Plain.{rows_of};
 ghost use Rattle.sci_sched.specs.Answer.{IsPlan};
 ghost use Rattle.sci_run.specs.Run.{State, ReactionOutcome, IsOutcome, IsRun, comes_next};
 ghost use Rattle.sci_run.specs.Activity.{halts};
 ghost use Rattle.sci_net.specs.Sources.{source_of};
-ghost use Rattle.sci_bank.specs.Library.{AreInOrder, IsFull};
+ghost use Rattle.sci_bank.specs.Library.{IsFull};
 ghost use Rattle.sci_bank.specs.Bank.{Meaning};
 
 use crate::end::{RunEnd, Step};
 use crate::programming::program_first;
-use crate::reaction::{Firing, react};
-use crate::roles::{Roles, all_roles};
-use crate::rows::{Row, rows};
+use crate::reaction::finish;
+use crate::rows::rows;
 use sci_agenda::agenda::Agenda;
 use sci_agenda::wheel::WheelAgenda;
-use sci_bank::library::{Banks, Library};
+use sci_bank::Bank;
+use sci_bank::library::Library;
 use sci_base::{EndWord, NoMemory, Obs, StopWord};
 use sci_io::{Failed, Sink};
 use sci_net::Net;
 use sci_sched::Schedule;
-use sci_store::{Frame, Lines, Store};
+use sci_store::{Frame, Lines, Row, Store};
 use sci_trace::inputs::Inputs;
 use std::alloc::Global;
 use std::marker::Model;
@@ -39,8 +39,6 @@ pub struct Ready {
     pub(crate) frame: Frame,
     // one for each source of the net, in order
     pub(crate) rows: Vec<Row>,
-    // the same
-    pub(crate) roles: Vec<Roles>,
     pub(crate) store: Store,
     // its dates are less by `offset`
     pub(crate) wheel: WheelAgenda,
@@ -49,6 +47,8 @@ pub struct Ready {
     pub(crate) fired: u64,
     // the source of the last reaction, or 0 before the first
     pub(crate) row: u32,
+    // whether its blocks are marked
+    pub(crate) has_row: bool,
     pub(crate) started: bool,
     pub(crate) halted: bool,
     // what waits there is forgotten by the next reaction
@@ -56,22 +56,20 @@ pub struct Ready {
 }
 
 impl Model for Ready {
-    ghost use Rattle.std.specs.Prelude.{map};
-    ghost use Rattle.sci_sim.specs.Rows.{row_of};
-    ghost use Rattle.sci_sim.specs.Roles.{roles_of};
     ghost use Rattle.sci_sim.specs.At.{Running, IsReady};
 
     ghost Value = { Running };
 
-    ghost view = { λ r. record { fixed = r.frame; rows = map row_of r.rows.items; roles = map roles_of r.roles.items; store = r.store; wheel = r.wheel; offset = r.offset; now = r.now; fired = r.fired; row = r.row; started = r.started; halted = r.halted } };
+    ghost view = { λ r. record { fixed = r.frame; rows = r.rows.items; store = r.store; wheel = r.wheel; offset = r.offset; now = r.now; fired = r.fired; row = r.row; has_row = r.has_row; started = r.started; halted = r.halted } };
 
-    ghost invariant = { λ r. IsReady (record { fixed = r.frame; rows = map row_of r.rows.items; roles = map roles_of r.roles.items; store = r.store; wheel = r.wheel; offset = r.offset; now = r.now; fired = r.fired; row = r.row; started = r.started; halted = r.halted }) };
+    ghost invariant = { λ r. IsReady (record { fixed = r.frame; rows = r.rows.items; store = r.store; wheel = r.wheel; offset = r.offset; now = r.now; fired = r.fired; row = r.row; has_row = r.has_row; started = r.started; halted = r.halted }) };
 }
 
 impl Ready {
     ghost use Rattle.sci_places.specs.Flat.{values_at};
     ghost use Rattle.sci_store.specs.Marks.{mark_at};
     ghost use Rattle.sci_store.specs.Frame.{AreSeated};
+    ghost use Rattle.sci_store.specs.Rows.{HasBegun};
     ghost use Rattle.sci_sim.specs.Rows.{row_in};
     ghost use Rattle.sci_sim.specs.Programming.{Keeps};
     ghost use Rattle.sci_sim.specs.At.{Running, IsAt, IsAtStart, AreTallied};
@@ -80,42 +78,64 @@ impl Ready {
 
     /// The net before its run, over the schedule of the net and a full library. It resets all banks and adds an instance for each block; it takes
     /// all memory of the run. Where memory is wanting, the banks may hold any instances.
-    pub fn new(alloc: Global, n: Net, p: Schedule, lib: &mut Library) -> Result<Ready, NoMemory>
-        requires full { IsFull (⟦<Library as Banks>⟧.banks lib.old) }
-        requires in_order { AreInOrder (⟦<Library as Banks>⟧.banks lib.old) }
+    pub fn new<B: Bank>(
+        alloc: Global,
+        n: Net,
+        p: Schedule,
+        lib: &mut Library<B>,
+    ) -> Result<Ready, NoMemory>
+        requires full { IsFull lib.old }
         requires plan { IsPlan n (rows_of p) }
-        ensures start { IfOk result (λ r. IsAtStart n r (⟦<Library as Banks>⟧.banks lib.new)) }
-        ensures full { IsFull (⟦<Library as Banks>⟧.banks lib.new) }
-        ensures in_order { AreInOrder (⟦<Library as Banks>⟧.banks lib.new) }
+        ensures start { IfOk result (λ r. IsAtStart n r lib.new) }
+        ensures full { IsFull lib.new }
     {
-        let rows = rows(alloc, p)?;
-        let roles = all_roles(alloc, &n, &rows)?;
         let mut wheel = WheelAgenda::new(alloc, n.source_count() - 1)?;
         program_first(&n, &mut wheel);
         let frame = Frame::new(alloc, n, lib)?;
         frame.well_formed();
+        lib.well_formed();
+        let rows = rows(alloc, &frame, p)?;
         let store = Store::new(alloc, &frame)?;
         let lines = Lines::new(alloc)?;
         Ok(Ready {
             frame,
             rows,
-            roles,
             store,
             wheel,
             offset: 0,
             now: 0,
             fired: 0,
             row: 0,
+            has_row: false,
             started: false,
             halted: false,
             lines,
         })
     }
 
+    // The row of a source is passed next: only its blocks that are active whatever the values are are marked.
+    fn enter_row(&mut self, source: u32)
+        requires { source < length self.old.rows }
+        ensures begun { HasBegun self.old.fixed (row_in self.old.rows source) self.new.store }
+        ensures rest { self.new ≡ record self.old { store = self.new.store; row = source; has_row = true } }
+        ensures marks { self.new.store ≡ record self.old.store { marks = self.new.store.marks } }
+    {
+        let row = &self.rows[source as usize];
+        if self.has_row && self.row == source {
+            self.store.begin_again(&self.frame, row);
+            return;
+        }
+        let last = &self.rows[self.row as usize];
+        self.store.clear(&self.frame, &last.blocks);
+        self.store.begin_row(&self.frame, row);
+        self.row = source;
+        self.has_row = true;
+    }
+
     // The source reacts at the date `now`: what is observed is written. The word of a stop, if there was one.
-    fn react<S: Sink>(
+    fn react<S: Sink, B: Bank>(
         &mut self,
-        lib: &mut Library,
+        lib: &mut Library<B>,
         ins: &Inputs,
         source: u32,
         out: &mut S,
@@ -123,38 +143,34 @@ impl Ready {
         requires source { source < length self.old.rows }
         requires date { self.old.now ≤ 2 ^ 62 }
         requires columns { AreColumns self.old.fixed.net ins.now }
-        requires shown { (st : State) × ShowsFiring self.old.fixed self.old.store (⟦<Library as Banks>⟧.banks lib.old) self.old.wheel.meaning self.old.wheel.puts self.old.offset self.old.now st }
-        ensures reacted { (st : State) → ShowsFiring self.old.fixed self.old.store (⟦<Library as Banks>⟧.banks lib.old) self.old.wheel.meaning self.old.wheel.puts self.old.offset self.old.now st → (o : ReactionOutcome) × IsOutcome self.old.fixed.net ins.now self.old.now (source_of self.old.fixed.net source) st o × Writes (S.state out.old) (S.state out.new) (text (seen_in o)) result × IfOk result (λ stop. IsReacted self.old.fixed source (row_in self.old.rows source) self.old.store self.new.store (⟦<Library as Banks>⟧.banks lib.old) (⟦<Library as Banks>⟧.banks lib.new) self.new.wheel.meaning self.new.wheel.puts self.old.offset o stop) }
+        requires shown { (st : State) × ShowsFiring self.old.fixed self.old.store lib.old self.old.wheel.meaning self.old.wheel.puts self.old.offset self.old.now st }
+        ensures reacted { (st : State) → ShowsFiring self.old.fixed self.old.store lib.old self.old.wheel.meaning self.old.wheel.puts self.old.offset self.old.now st → (o : ReactionOutcome) × IsOutcome self.old.fixed.net ins.now self.old.now (source_of self.old.fixed.net source) st o × Writes (S.state out.old) (S.state out.new) (text (seen_in o)) result × IfOk result (λ stop. IsReacted self.old.fixed source (row_in self.old.rows source) self.old.store self.new.store lib.old lib.new self.new.wheel.meaning self.new.wheel.puts self.old.offset o stop) }
         ensures halted { IfOk result (λ stop. stop ≡ None → (after : State) → AreMarksOf self.old.fixed source (row_in self.old.rows source) self.new.store after → self.new.halted ≡ halts self.old.fixed.net after.active) }
-        ensures rest { self.new ≡ record self.old { store = self.new.store; wheel = self.new.wheel; row = source; halted = self.new.halted } }
-        ensures seated { AreSeated self.old.fixed (⟦<Library as Banks>⟧.banks lib.new) }
+        ensures rest { self.new ≡ record self.old { store = self.new.store; wheel = self.new.wheel; row = source; has_row = true; halted = self.new.halted } }
+        ensures seated { AreSeated self.old.fixed lib.new }
     {
-        let last = &self.rows[self.row as usize];
-        self.store.clear(&self.frame, &last.blocks);
-        self.row = source;
+        self.enter_row(source);
         let row = &self.rows[source as usize];
-        let roles = &self.roles[source as usize];
-        let firing = Firing {
-            source,
-            date: self.now,
-            offset: self.offset,
-        };
-        let stop = react(
+        let header = self.frame.header(source, self.now);
+        if let Some((block, word)) = self.store.pass(&self.frame, lib, ins, row) {
+            self.store.observe(&header, out)?;
+            self.store
+                .observe(&Obs::Stop(word, i64::from(block), 0), out)?;
+            return Ok(Some(word));
+        }
+        self.store
+            .write_reaction(&self.frame, row, &header, &mut self.lines, out)?;
+        finish(
             &self.frame,
             &mut self.store,
             &mut self.wheel,
             lib,
             ins,
             row,
-            roles,
-            firing,
-            &mut self.lines,
-            out,
-        )?;
-        if stop.is_none() {
-            self.halted = self.store.halts(&self.frame, &roles.halts);
-        }
-        Ok(stop)
+            self.now - self.offset,
+        );
+        self.halted = self.store.halts(&self.frame, &row.halts);
+        Ok(None)
     }
 
     // The source that reacts next: start, and then those of the events, which are taken from the wheel.
@@ -206,9 +222,9 @@ impl Ready {
     /// `limit` events have fired, at most 1,000,000. Each sensor's column is in range. It takes no memory. It fails only where the sink does, which
     /// then took a front of these lines; a net whose step failed or whose run is over is of no more use but for the calls that read it. Where
     /// the run stops they tell the date, the source and the events that have fired of the reaction that stopped.
-    pub fn step<S: Sink>(
+    pub fn step<S: Sink, B: Bank>(
         &mut self,
-        lib: &mut Library,
+        lib: &mut Library<B>,
         ins: &Inputs,
         until: u64,
         limit: u64,
@@ -217,14 +233,13 @@ impl Ready {
         requires until { until ≤ 2 ^ 62 }
         requires limit { limit ≤ 1000000 }
         requires columns { AreColumns self.old.fixed.net ins.now }
-        requires before { MayStep until limit self.old (⟦<Library as Banks>⟧.banks lib.old) }
-        ensures reacted { (st from : State) (date source : ℕ) → IsAt self.old (⟦<Library as Banks>⟧.banks lib.old) st → FiresNext self.old.fixed.net until limit self.old.started st date source from → (o : ReactionOutcome) × IsOutcome self.old.fixed.net ins.now date (source_of self.old.fixed.net source) from o × Writes (S.state out.old) (S.state out.new) (text (step_seen self.old.fixed.net until limit o)) result × IfOk result (λ step. IsStep ins.now until limit date source from self.new (⟦<Library as Banks>⟧.banks lib.new) o step × AreTallied self.old.store self.new.store (step_seen self.old.fixed.net until limit o)) }
+        requires before { MayStep until limit self.old lib.old }
+        ensures reacted { (st from : State) (date source : ℕ) → IsAt self.old lib.old st → FiresNext self.old.fixed.net until limit self.old.started st date source from → (o : ReactionOutcome) × IsOutcome self.old.fixed.net ins.now date (source_of self.old.fixed.net source) from o × Writes (S.state out.old) (S.state out.new) (text (step_seen self.old.fixed.net until limit o)) result × IfOk result (λ step. IsStep ins.now until limit date source from self.new lib.new o step × AreTallied self.old.store self.new.store (step_seen self.old.fixed.net until limit o)) }
         ensures started { self.new.started ≡ true }
         ensures fired { self.new.fired ≡ (if self.old.started then self.old.fired + 1 else self.old.fired) }
         ensures offset { self.new.offset ≡ self.old.offset }
         ensures net { self.new.fixed ≡ self.old.fixed }
-        ensures full { IsFull (⟦<Library as Banks>⟧.banks lib.new) }
-        ensures in_order { AreInOrder (⟦<Library as Banks>⟧.banks lib.new) }
+        ensures full { IsFull lib.new }
     {
         let source = self.next_source();
         if let Some(word) = self.react(lib, ins, source, out)? {
@@ -242,9 +257,9 @@ impl Ready {
     /// Runs the net from before start until the end of its run, past no date over `until` and for at most `limit` events, and writes
     /// the trace. The bounds, inputs and failures are those of `step`. A block without a value is the one cause of a stop; a conflict never comes.
     /// It takes no memory.
-    pub fn run<S: Sink>(
+    pub fn run<S: Sink, B: Bank>(
         &mut self,
-        lib: &mut Library,
+        lib: &mut Library<B>,
         ins: &Inputs,
         until: u64,
         limit: u64,
@@ -253,13 +268,12 @@ impl Ready {
         requires until { until ≤ 2 ^ 62 }
         requires limit { limit ≤ 1000000 }
         requires columns { AreColumns self.old.fixed.net ins.now }
-        requires start { IsAtStart self.old.fixed.net self.old (⟦<Library as Banks>⟧.banks lib.old) }
+        requires start { IsAtStart self.old.fixed.net self.old lib.old }
         ensures written { (os : List Obs) → IsRun self.old.fixed.net ins.now until limit os → Writes (S.state out.old) (S.state out.new) (text os) result }
-        ensures finished { IfOk result (λ e. (os : List Obs) × IsRun self.old.fixed.net ins.now until limit os × IsFinished ins.now until limit self.new (⟦<Library as Banks>⟧.banks lib.new) os e) }
+        ensures finished { IfOk result (λ e. (os : List Obs) × IsRun self.old.fixed.net ins.now until limit os × IsFinished ins.now until limit self.new lib.new os e) }
         ensures offset { self.new.offset ≡ self.old.offset }
         ensures net { self.new.fixed ≡ self.old.fixed }
-        ensures full { IsFull (⟦<Library as Banks>⟧.banks lib.new) }
-        ensures in_order { AreInOrder (⟦<Library as Banks>⟧.banks lib.new) }
+        ensures full { IsFull lib.new }
     {
         self.frame.well_formed();
         for _reaction in 0..limit + 1 {
@@ -333,7 +347,8 @@ impl Ready {
         ensures possible { (b : ℕ) → Contains result.now b ↔ Possible self.entry.now.fixed.net (source_of self.entry.now.fixed.net self.entry.now.row) b }
         ensures active { (banks : List Meaning) (st : State) → IsAt self.entry.now banks st → (b : ℕ) → IsBlock self.entry.now.fixed.net b → st.active b ≡ true → Contains result.now b }
     {
-        self.rows[self.row as usize].blocks.as_slice()
+        let row = &self.rows[self.row as usize];
+        row.blocks.as_slice()
     }
 
     /// Whether the last reaction activated the block. The run hasn't stopped.

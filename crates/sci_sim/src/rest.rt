@@ -5,11 +5,12 @@ ghost use Rattle.sci_io.specs.Taken.{Writes};
 ghost use Rattle.sci_trace.specs.Lines.{text};
 ghost use Rattle.sci_reaction.specs.Memory.{AreColumns};
 ghost use Rattle.sci_run.specs.Run.{State, IsRest};
-ghost use Rattle.sci_bank.specs.Library.{AreInOrder, IsFull};
+ghost use Rattle.sci_bank.specs.Library.{IsFull};
 
 use crate::end::{RunEnd, Step};
 use crate::ready::Ready;
-use sci_bank::library::{Banks, Library};
+use sci_bank::Bank;
+use sci_bank::library::Library;
 use sci_base::Obs;
 use sci_io::{Failed, Sink};
 use sci_trace::inputs::Inputs;
@@ -21,9 +22,9 @@ impl Ready {
     /// Runs the net on from the state behind a reaction, at which it stands, until the end of its run, past no date over `until` and until `limit` events
     /// have fired, those before this state included; and writes what is observed from there on. Where an end is due at once, this is its line alone. The
     /// bounds, inputs and failures are those of `step`. It takes no memory.
-    pub fn run_on<S: Sink>(
+    pub fn run_on<S: Sink, B: Bank>(
         &mut self,
-        lib: &mut Library,
+        lib: &mut Library<B>,
         ins: &Inputs,
         until: u64,
         limit: u64,
@@ -33,13 +34,12 @@ impl Ready {
         requires limit { limit ≤ 1000000 }
         requires columns { AreColumns self.old.fixed.net ins.now }
         requires started { self.old.started ≡ true }
-        requires at { (st : State) × IsAt self.old (⟦<Library as Banks>⟧.banks lib.old) st }
-        ensures written { (st : State) (os : List Obs) → IsAt self.old (⟦<Library as Banks>⟧.banks lib.old) st → IsRest self.old.fixed.net ins.now until limit st os → Writes (S.state out.old) (S.state out.new) (text os) result }
-        ensures finished { (st : State) → IsAt self.old (⟦<Library as Banks>⟧.banks lib.old) st → IfOk result (λ e. (os : List Obs) × IsRest self.old.fixed.net ins.now until limit st os × IsRestFinished ins.now until limit st self.new (⟦<Library as Banks>⟧.banks lib.new) os e × AreTallied self.old.store self.new.store os) }
+        requires at { (st : State) × IsAt self.old lib.old st }
+        ensures written { (st : State) (os : List Obs) → IsAt self.old lib.old st → IsRest self.old.fixed.net ins.now until limit st os → Writes (S.state out.old) (S.state out.new) (text os) result }
+        ensures finished { (st : State) → IsAt self.old lib.old st → IfOk result (λ e. (os : List Obs) × IsRest self.old.fixed.net ins.now until limit st os × IsRestFinished ins.now until limit st self.new lib.new os e × AreTallied self.old.store self.new.store os) }
         ensures offset { self.new.offset ≡ self.old.offset }
         ensures net { self.new.fixed ≡ self.old.fixed }
-        ensures full { IsFull (⟦<Library as Banks>⟧.banks lib.new) }
-        ensures in_order { AreInOrder (⟦<Library as Banks>⟧.banks lib.new) }
+        ensures full { IsFull lib.new }
     {
         self.frame.well_formed();
         if let Some(word) = self.due_end(until, limit) {

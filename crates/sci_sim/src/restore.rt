@@ -4,7 +4,7 @@ ghost use Rattle.sci_net.specs.Parts.{IsBlock, numbered, rows_of};
 ghost use Rattle.sci_places.specs.Flat.{values_at};
 ghost use Rattle.sci_sched.specs.Plain.{rows_of as plan_of};
 ghost use Rattle.sci_sched.specs.Answer.{IsPlan};
-ghost use Rattle.sci_bank.specs.Library.{AreInOrder, IsFull};
+ghost use Rattle.sci_bank.specs.Library.{IsFull};
 ghost use Rattle.sci_run.specs.Anew.{numbered_anew};
 ghost use Rattle.sci_save.specs.Saved.{saved_of};
 ghost use Rattle.sci_save.specs.Valid.{ArePending, IsShaped};
@@ -13,10 +13,10 @@ ghost use Rattle.sci_sim.specs.Programming.{Keeps};
 
 use crate::programming::program;
 use crate::ready::Ready;
-use crate::roles::all_roles;
 use crate::rows::rows;
 use sci_agenda::wheel::WheelAgenda;
-use sci_bank::library::{Banks, Library};
+use sci_bank::Bank;
+use sci_bank::library::Library;
 use sci_base::NoMemory;
 use sci_net::Net;
 use sci_save::Image;
@@ -84,38 +84,36 @@ impl Ready {
     /// The net at the state that was saved, over the schedule of the net and a full library. It resets all banks, adds an instance for each block in its
     /// saved state, and programs the pending events; it takes all memory of the run. The banks, the observations and the dates of `wheel` are counted
     /// from there on. Where memory is wanting, the banks may hold any instances.
-    pub fn restore(
+    pub fn restore<B: Bank>(
         alloc: Global,
         n: Net,
         p: Schedule,
-        lib: &mut Library,
+        lib: &mut Library<B>,
         image: &Image,
     ) -> Result<Ready, NoMemory>
-        requires full { IsFull (⟦<Library as Banks>⟧.banks lib.old) }
-        requires in_order { AreInOrder (⟦<Library as Banks>⟧.banks lib.old) }
+        requires full { IsFull lib.old }
         requires plan { IsPlan n (plan_of p) }
         requires shaped { IsShaped n (saved_of image.now) }
-        ensures restored { IfOk result (λ r. IsRestored n r (⟦<Library as Banks>⟧.banks lib.new) (saved_of image.entry.now)) }
-        ensures full { IsFull (⟦<Library as Banks>⟧.banks lib.new) }
-        ensures in_order { AreInOrder (⟦<Library as Banks>⟧.banks lib.new) }
+        ensures restored { IfOk result (λ r. IsRestored n r lib.new (saved_of image.entry.now)) }
+        ensures full { IsFull lib.new }
     {
         n.well_formed();
-        let rows = rows(alloc, p)?;
-        let roles = all_roles(alloc, &n, &rows)?;
         let wheel = saved_wheel(alloc, &n, &image.pending, image.now)?;
         let frame = Frame::in_states(alloc, n, &image.states, lib)?;
+        lib.well_formed();
+        let rows = rows(alloc, &frame, p)?;
         let store = saved_store(alloc, &frame, image)?;
         let lines = Lines::new(alloc)?;
         Ok(Ready {
             frame,
             rows,
-            roles,
             store,
             wheel,
             offset: image.now,
             now: image.now,
             fired: image.fired,
             row: 0,
+            has_row: false,
             started: true,
             halted: false,
             lines,

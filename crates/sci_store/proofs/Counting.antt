@@ -49,7 +49,7 @@ given_same f i m banks s w b mask net block same state cursor =
 
 -- ---- counts
 
-activations_same : (counts : Spec → Bool) (b : ℕ) (ss : List Spec) (p q : ℕ → ℕ) → ((c : ℕ) → b ≤ c → p c ≡ q c)
+pub activations_same : (counts : Spec → Bool) (b : ℕ) (ss : List Spec) (p q : ℕ → ℕ) → ((c : ℕ) → b ≤ c → p c ≡ q c)
     → activations_from counts b ss p ≡ activations_from counts b ss q
 activations_same counts b [] p q h = refl
 activations_same counts b (s ∷ ss) p q h =
@@ -63,7 +63,7 @@ none_active counts b (s ∷ ss) = let rest = none_active counts (b + 1) ss in by
     by_test true e = omega (arith, e)
     by_test false e = omega (arith, e)
 
-abbrev one_if : Activity → ℕ → ℕ
+abbrev pub one_if : Activity → ℕ → ℕ
 one_if active c = cond (active c) 1 0
 
 -- no more blocks are active than may be
@@ -84,7 +84,7 @@ few_active counts b (s ∷ ss) active possible h =
     by_test false u v i x y h = omega (arith, h)
 
 -- one more active block
-one_more : (counts : Spec → Bool) (b : ℕ) (ss : List Spec) (active : Activity) (c j : ℕ) → active c ≡ false → c ≡ b + j → j < length ss
+pub one_more : (counts : Spec → Bool) (b : ℕ) (ss : List Spec) (active : Activity) (c j : ℕ) → active c ≡ false → c ≡ b + j → j < length ss
     → activations_from counts b ss (one_if (put active c true)) ≡ activations_from counts b ss (one_if active) + cond (counts (get_or ss j no_spec)) 1 0
 one_more counts b [] active c j off at l = absurd (omega (arith, l))
 one_more counts b (s ∷ ss) active c zero off at l =
@@ -104,12 +104,12 @@ one_more counts b (s ∷ ss) active c (suc j) off at l =
     let rest = one_more counts (b + 1) ss active c j off (omega (arith, at)) (omega (arith, l)) in
     ap₂ (λ x y. cond (counts s) x 0 + y) here rest ∙ omega arith
 
-number_positive : (k : Kind) → 1 ≤ number_of k
+pub number_positive : (k : Kind) → 1 ≤ number_of k
 number_positive Const = omega arith
 number_positive _ = omega arith
 
 -- what a call leaves of the counts
-call_counts : (banks : List Meaning) (k l : Kind) → Holds banks k
+pub call_counts : (banks : List Meaning) (k l : Kind) → Holds banks k
     → (bank_of (with_bank banks k (after_out (bank_of banks k))) l).outs
     ≡ cond (eqb (number_of k) (number_of l)) (counted (bank_of banks l).outs) (bank_of banks l).outs
 call_counts banks k l there = ⊎_elim

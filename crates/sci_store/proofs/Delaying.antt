@@ -6,7 +6,7 @@ use Rattle.sci_forms.specs.declared.Kind.{Kind}
 use Rattle.sci_forms.specs.declared.Kind.TheVariants.{EvtDly, EvtVarDly}
 use Rattle.sci_forms.specs.declared.ports.Port.{Port as Signal}
 use Rattle.sci_forms.specs.declared.spec.Spec.{Spec}
-use Rattle.sci_forms.specs.Forms.{has_delay}
+use Rattle.sci_forms.specs.Form.{has_delay}
 use Rattle.sci_forms.specs.Ports.{Fills}
 use Rattle.sci_kinds.specs.Asks.{entering_of, entering}
 use Rattle.sci_kinds.specs.Table.{delay}

@@ -11,14 +11,15 @@ use Rattle.sci_base.specs.declared.observation.StopWord.TheVariants.{Overflow as
 use Rattle.sci_forms.specs.declared.Kind.{Kind}
 use Rattle.sci_forms.specs.declared.Kind.TheVariants.{Sensor, IfThEl, ESelect}
 use Rattle.sci_forms.specs.declared.spec.Spec.{Spec}
-use Rattle.sci_forms.specs.Forms.{is_sync}
+use Rattle.sci_forms.specs.Form.{is_sync}
 use Rattle.sci_forms.specs.Ports.{total, Fills}
 use Rattle.sci_forms.specs.Words.{out_type}
 use Rattle.sci_kinds.specs.Asks.{Asks, IsMask, entering, entering_of}
 use Rattle.sci_kinds.specs.Table.{Answer, Values, NoFit, NoQuotient, out, branch, state_len}
 use Rattle.sci_kinds.proofs.LawProofs.{asks}
 use Rattle.sci_kinds.proofs.Elements.{total_one, type_at_alike}
-use Rattle.sci_net.specs.Parts.{Parts, IsBlock, spec_of, numbered, is_sensor, column_of}
+use Rattle.sci_net.specs.Parts.{Parts, IsBlock, spec_of, numbered, column_of}
+use Rattle.sci_forms.specs.Form.{is_sensor}
 use Rattle.sci_net.specs.Net.{IsNet}
 use Rattle.sci_net.proofs.Numbered.{numbered_map}
 use Rattle.sci_reaction.specs.Memory.{Columns, AreColumns, next_value}
@@ -26,15 +27,19 @@ use Rattle.sci_reaction.specs.Equations.{AreInRange, input_in, all_inputs, value
 use Rattle.sci_reaction.proofs.Fills.{entering_ins, inputs_in_range}
 use Rattle.sci_pass.specs.State.{AreAlike, IsSameButState}
 use Rattle.sci_pass.proofs.Meanings.{same_but_state}
-use Rattle.sci_places.specs.Flat.{start_of, values_at, IsWhole, overwritten}
-use Rattle.sci_places.specs.Layout.{Layout, BlockPlace, place_at, block_span, input_spans, spans_length}
-use Rattle.sci_places.specs.declared.span.Span.{Span}
+use Rattle.sci_places.specs.Flat.{start_of, values_at, IsWhole}
+use Rattle.sci_span.specs.Values.{overwritten}
+use Rattle.sci_places.specs.Layout.{Layout, place_at, block_span, input_spans}
+use Rattle.sci_span.specs.declared.place.Place.{Place}
+use Rattle.sci_span.specs.Values.{spans_length}
+use Rattle.sci_span.specs.declared.span.Span.{Span}
 use Rattle.sci_places.proofs.Outputs.{outputs_law}
 use Rattle.sci_places.proofs.Inputs.{inputs_law}
-use Rattle.sci_bank.specs.declared.rows.Row.{Row as Instance}
+use Rattle.sci_bank.specs.declared.instance.Instance.{Instance}
 use Rattle.sci_bank.specs.declared.Fate.{Fate}
 use Rattle.sci_bank.specs.declared.Fate.TheVariants.{Done, Overflow, Zero}
 use Rattle.sci_bank.specs.Bank.{Meaning, no_bank, row_in, row_at, spec_at, IsCall, Tells, after_out}
+use Rattle.sci_bank.specs.declared.runs.Call.{Call}
 use Rattle.sci_bank.specs.Library.{place_of, bank_of, with_bank, Holds, AreInOrder}
 use Rattle.sci_bank.proofs.LibraryLemmas.{Holds-full, kind_of-bank}
 use Rattle.sci_store.specs.declared.seats.Seat.{Seat}
@@ -183,7 +188,7 @@ in_range_behind n values vs b whole block all fills c inside = elim (cases_eq c 
 
 pub place_here : (f : Fixed) (b : ℕ) (l : Layout) (s : Span) → IsFrame f → IsBlock f.net b → l ≡ f.layout → s ≡ (place_at l b).outs → s ≡ block_span f.net b
 place_here f b l s frame block e h =
-    h ∙ (ap (λ (k : Layout). (place_at k b).outs) e ∙ ap (λ (p : BlockPlace). p.outs) (frame.layout.places b block))
+    h ∙ (ap (λ (k : Layout). (place_at k b).outs) e ∙ ap (λ (p : Place). p.outs) (frame.layout.places b block))
 
 -- ---- what goes in
 
@@ -245,7 +250,7 @@ written_back xs new len e h = take_at new (drop (length new) xs) len (h ∙ sym 
 
 -- the inputs of a block
 pub ins_here : (f : Fixed) (b : ℕ) (l : Layout) → IsFrame f → IsBlock f.net b → l ≡ f.layout → (place_at l b).ins ≡ input_spans f.net b
-ins_here f b l frame block e = ap (λ (k : Layout). (place_at k b).ins) e ∙ ap (λ (p : BlockPlace). p.ins) (frame.layout.places b block)
+ins_here f b l frame block e = ap (λ (k : Layout). (place_at k b).ins) e ∙ ap (λ (p : Place). p.ins) (frame.layout.places b block)
 
 pub ins_room : (f : Fixed) (s : Standing) (b : ℕ) → IsFrame f → IsStore f s → IsBlock f.net b → spans_length (input_spans f.net b) ≤ length s.room
 ins_room f s b frame store block =
@@ -306,15 +311,16 @@ sense_is i columns column at k cursor v r same least is within read cursor_is re
     sym reads ∙ (ap (slice_get v.items) cursor_is ∙ ap (λ vs. slice_get vs cursor) (sym list ∙ ap (λ cs. numbered [] cs column) same))
 
 -- what stands in the store, part by part
-pub same_standing : (a b : Standing) → a.values ≡ b.values → a.cursors ≡ b.cursors → a.marks ≡ b.marks → a.room ≡ b.room → a.lines ≡ b.lines → a.sum ≡ b.sum
-    → a ≡ b
-same_standing a b values cursors marks room lines sum =
+pub same_standing : (a b : Standing) → a.values ≡ b.values → a.cursors ≡ b.cursors → a.marks ≡ b.marks → a.room ≡ b.room → a.chosen ≡ b.chosen → a.lines ≡ b.lines
+    → a.sum ≡ b.sum → a ≡ b
+same_standing a b values cursors marks room chosen lines sum =
     ap (λ (v : List ℤ). record a { values = v }) values
     ∙ (ap (λ (v : List ℕ). record a { values = b.values; cursors = v }) cursors
     ∙ (ap (λ (v : List Mark). record a { values = b.values; cursors = b.cursors; marks = v }) marks
-    ∙ (ap (λ (v : List ℤ). record b { room = v; lines = a.lines; sum = a.sum }) room
+    ∙ (ap (λ (v : List ℤ). record b { room = v; chosen = a.chosen; lines = a.lines; sum = a.sum }) room
+    ∙ (ap (λ (v : List Call). record b { chosen = v; lines = a.lines; sum = a.sum }) chosen
     ∙ (ap (λ (v : ℕ). record b { lines = v; sum = a.sum }) lines
-    ∙ ap (λ (v : ℕ). record b { sum = v }) sum))))
+    ∙ ap (λ (v : ℕ). record b { sum = v }) sum)))))
 
 -- ---- marks
 

@@ -1,20 +1,14 @@
 -- What is read of a frame.
-use Rattle.std.proofs.Common.{◌≡◌, ℕ, ◌-◌, ◌≤◌, false, length, get_or, refl, ap, ◌∙◌, arith}
-use Rattle.sci_forms.specs.declared.Kind.{Kind}
-use Rattle.sci_forms.specs.declared.Kind.TheVariants.{Halt}
+use Rattle.std.proofs.Common.{◌≡◌, ℕ, ◌-◌, ◌≤◌, length, get_or, ap, ◌∙◌, arith}
 use Rattle.sci_net.specs.Parts.{IsBlock, spec_of}
 use Rattle.sci_net.proofs.Numbered.{numbered_read}
-use Rattle.sci_run.specs.Activity.{is_halt}
 use Rattle.sci_forms.specs.Ports.{total}
-use Rattle.sci_places.specs.declared.span.Span.{Span}
+use Rattle.sci_span.specs.declared.span.Span.{Span}
 use Rattle.sci_places.specs.Flat.{start_of}
-use Rattle.sci_places.specs.Layout.{BlockPlace, place_at}
+use Rattle.sci_places.specs.Layout.{place_at}
+use Rattle.sci_span.specs.declared.place.Place.{Place}
 use Rattle.sci_store.specs.declared.seats.Seat.{Seat}
 use Rattle.sci_store.specs.Frame.{Fixed, IsFrame, no_seat}
-
-pub not_halt : (k : Kind) → (k ≡ Halt → ⊥) → false ≡ is_halt k
-not_halt Halt h = absurd (h refl)
-not_halt _ h = refl
 
 -- the kind at a block's seat is the block's
 pub kind_read : (f : Fixed) (b : ℕ) (s : Seat) → IsFrame f → 1 ≤ b → b ≤ length f.net.specs → s ≡ get_or f.seats (b - 1) s → s.kind ≡ (spec_of f.net b).kind
@@ -24,7 +18,7 @@ kind_read f b s h least most e =
 
 -- where a block's values lie
 pub start_read : (f : Fixed) (b : ℕ) (s : Span) → IsFrame f → IsBlock f.net b → s ≡ (place_at f.layout b).outs → s.start ≡ start_of f.net b
-start_read f b s h block e = ap (λ (t : Span). t.start) e ∙ ap (λ (p : BlockPlace). p.outs.start) (h.layout.places b block)
+start_read f b s h block e = ap (λ (t : Span). t.start) e ∙ ap (λ (p : Place). p.outs.start) (h.layout.places b block)
 
 pub len_read : (f : Fixed) (b : ℕ) (s : Span) → IsFrame f → IsBlock f.net b → s ≡ (place_at f.layout b).outs → s.len ≡ total (spec_of f.net b).outs
-len_read f b s h block e = ap (λ (t : Span). t.len) e ∙ ap (λ (p : BlockPlace). p.outs.len) (h.layout.places b block)
+len_read f b s h block e = ap (λ (t : Span). t.len) e ∙ ap (λ (p : Place). p.outs.len) (h.layout.places b block)

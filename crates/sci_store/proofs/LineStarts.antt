@@ -18,7 +18,7 @@ use Rattle.sci_net.specs.Parts.{Parts, IsBlock, spec_of, no_spec}
 use Rattle.sci_net.specs.Net.{all_elements}
 use Rattle.sci_run.specs.Observed.{elements_seen, outputs_seen}
 use Rattle.sci_places.specs.Flat.{start_in, start_of, values_at, IsWhole}
-use Rattle.sci_places.proofs.Lists.{read_length}
+use Rattle.sci_span.proofs.Runs.{read_length}
 use Rattle.sci_places.proofs.Outputs.{block_within}
 use Rattle.sci_store.specs.Heads.{Named, start_text, named_elements, named_outputs, named_blocks, heads_of, value_of}
 use Rattle.sci_store.specs.Frame.{Fixed, IsFrame}
@@ -84,18 +84,18 @@ blocks_next k ss h =
 
 -- ---- how many there are
 
-named_length : (b p e count : ℕ) → length (named_elements b p e count) ≡ count
+pub named_length : (b p e count : ℕ) → length (named_elements b p e count) ≡ count
 named_length b p e zero = refl
 named_length b p e (suc count) = ap suc (named_length b p (e + 1) count)
 
-outputs_length : (b p : ℕ) (os : List Port) → length (named_outputs b p os) ≡ total os
+pub outputs_length : (b p : ℕ) (os : List Port) → length (named_outputs b p os) ≡ total os
 outputs_length b p [] = refl
 outputs_length b p (o ∷ os) =
     let here = named_length b p 1 (elements o) in
     let rest = outputs_length b (p + 1) os in
     length-append (named_elements b p 1 (elements o)) (named_outputs b (p + 1) os) ∙ omega (arith, here, rest)
 
-blocks_length : (b : ℕ) (ss : List Spec) → length (named_blocks b ss) ≡ all_elements ss
+pub blocks_length : (b : ℕ) (ss : List Spec) → length (named_blocks b ss) ≡ all_elements ss
 blocks_length b [] = refl
 blocks_length b (s ∷ ss) =
     let here = outputs_length b 1 s.outs in

@@ -1,14 +1,14 @@
 -- Lines that wait before a sink, and the pieces of a line.
-use Rattle.std.proofs.Common.{◌≡◌, ℕ, ◌+◌, ◌≤◌, Bool, false, ◌||◌, ℤ, List, [], ◌∷◌, ◌++◌, take, drop, length, refl, sym, ap, subst, ◌∙◌, append_assoc, arith, Ok, Err, codes}
+use Rattle.std.proofs.Common.{◌≡◌, ℕ, ◌+◌, ◌<◌, ◌≤◌, pos, get_or, ap₂, Bool, false, ◌||◌, ℤ, List, [], ◌∷◌, ◌++◌, take, drop, length, refl, sym, ap, subst, ◌∙◌, append_assoc, arith, Ok, Err, codes}
 use Rattle.std.specs.Prelude.{Result, OnOk, OnErr}
 use Rattle.std.specs.Fmt.{decimal, signed_decimal}
-use Rattle.std.proofs.lemmas.List.{append-nil, take-append-drop, take-append-le, length-take-le}
+use Rattle.std.proofs.lemmas.List.{append-nil, take-append-drop, take-append-le, length-take-le, drop_more}
 use Rattle.std.proofs.Math.Seq.{take-append_seam, take-append-add}
 use Rattle.sci_base.specs.declared.observation.Obs.TheVariants.{Event}
 use Rattle.sci_io.specs.Taken.{SinkState, is_some_text, Writes, UnderWay}
 use Rattle.sci_io.proofs.Advance.{begins, next_front, cut_off, finished, stays, due_is, front_is, or-nil, begun-append}
 use Rattle.sci_trace.specs.Lines.{line}
-use Rattle.sci_store.specs.Heads.{Named, start_text, value_of}
+use Rattle.sci_store.specs.Heads.{Named, start_text, value_of, value_lines}
 use Rattle.sci_store.specs.Paged.{paged}
 
 -- ---- the line of a value
@@ -154,3 +154,9 @@ none_left_behind {old = old} t bytes text r none h = subst (λ (u : SinkState). 
 
 pub from_none : {T E : Type 0} (s t : SinkState) (text : List ℕ) (r : Result T E) → Writes (paged s []) t text r → Writes s t text r
 from_none s t text r h = subst (λ (u : SinkState). Writes u t text r) (none_waits s) h
+
+-- the next line of values
+pub lines_next : (hs : List (List ℕ)) (vs : List ℤ) (k : ℕ) (h : List ℕ) → k < length hs → k < length vs → h ≡ get_or hs k h
+    → value_lines (drop k hs) (drop k vs) ≡ (h ++ (signed_decimal (get_or vs k (pos 0)) ++ codes "\n")) ++ value_lines (drop (k + 1) hs) (drop (k + 1) vs)
+lines_next hs vs k h l m is =
+    ap₂ value_lines (drop_more hs k h l ∙ ap (λ (x : List ℕ). x ∷ drop (k + 1) hs) (sym is)) (drop_more vs k (pos 0) m)

@@ -7,7 +7,8 @@ use Rattle.sci_forms.specs.declared.spec.Spec.{Spec}
 use Rattle.sci_net.specs.declared.Source.{Source}
 use Rattle.sci_forms.specs.Ports.{Fills}
 use Rattle.sci_kinds.specs.Asks.{IsMask, IsState}
-use Rattle.sci_net.specs.Parts.{Parts, IsBlock, spec_of, no_spec, numbered, is_sensor}
+use Rattle.sci_net.specs.Parts.{Parts, IsBlock, spec_of, no_spec, numbered}
+use Rattle.sci_forms.specs.Form.{is_sensor}
 use Rattle.sci_reaction.specs.Memory.{Memory, IsMemory, Columns, next_value}
 use Rattle.sci_reaction.specs.Next.{IsNextMemory}
 use Rattle.sci_reaction.proofs.Masks.{mask_in_range}
@@ -15,7 +16,8 @@ use Rattle.sci_reaction.specs.Equations.{Signals, AreInRange, IsMaskOf, Meets, A
 use Rattle.sci_reaction.specs.Result.{Whole, IsResult}
 use Rattle.sci_kinds.specs.Table.{out}
 use Rattle.sci_reaction.proofs.Lists.{and_true, and_both, or_left, or_right}
-use Rattle.sci_run.specs.Activity.{Activity, is_halt, halts, halts_from}
+use Rattle.sci_run.specs.Activity.{Activity, halts, halts_from}
+use Rattle.sci_forms.specs.Form.{is_halt}
 use Rattle.sci_run.specs.Counts.{activations_from}
 use Rattle.sci_run.specs.Observed.{values_seen}
 use Rattle.sci_run.specs.Run.{State, Reacts, after_reaction}
@@ -115,6 +117,7 @@ pub record AreKept (s t : Standing) : Type 0 where
   pub cursors : t.cursors ≡ s.cursors
   pub marks : t.marks ≡ s.marks
   pub room : length t.room ≡ length s.room
+  pub chosen : length t.chosen ≡ length s.chosen
 
 pub kept_counts : (s t : Standing) → t ≡ record s { lines = t.lines; sum = t.sum } → AreKept s t
 kept_counts s t e = record {
@@ -122,6 +125,7 @@ kept_counts s t e = record {
   cursors = ap (λ (v : Standing). v.cursors) e;
   marks = ap (λ (v : Standing). v.marks) e;
   room = ap (λ (v : Standing). length v.room) e;
+  chosen = ap (λ (v : Standing). length v.chosen) e;
 }
 
 pub kept_room : (s t : Standing) → t ≡ record s { room = t.room } → length t.room ≡ length s.room → AreKept s t
@@ -130,6 +134,7 @@ kept_room s t e long = record {
   cursors = ap (λ (v : Standing). v.cursors) e;
   marks = ap (λ (v : Standing). v.marks) e;
   room = long;
+  chosen = ap (λ (v : Standing). length v.chosen) e;
 }
 
 pub kept_then : (s t u : Standing) → AreKept s t → AreKept t u → AreKept s u
@@ -138,6 +143,7 @@ kept_then s t u a b = record {
   cursors = b.cursors ∙ a.cursors;
   marks = b.marks ∙ a.marks;
   room = b.room ∙ a.room;
+  chosen = b.chosen ∙ a.chosen;
 }
 
 module _ (f : Fixed) (s t : Standing) (kept : AreKept s t) where
@@ -147,6 +153,7 @@ module _ (f : Fixed) (s t : Standing) (kept : AreKept s t) where
     cursors = ap (λ (cs : List ℕ). length cs) kept.cursors ∙ h.cursors;
     marks = ap (λ (ms : List Mark). length ms) kept.marks ∙ h.marks;
     room = subst (λ (n : ℕ). f.layout.longest ≤ n) (sym kept.room) h.room;
+    chosen = kept.chosen ∙ h.chosen;
   }
 
   pub range_alike : AreInRange f.net (values_at f.net s.values) → AreInRange f.net (values_at f.net t.values)

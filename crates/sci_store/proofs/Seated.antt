@@ -6,7 +6,7 @@ use Rattle.std.proofs.lemmas.List.{get_or_append_left, get_or_push, get_or-set_o
 use Rattle.std.proofs.lemmas.Grind.{get_or-set_at}
 use Rattle.sci_forms.specs.declared.Kind.{Kind}
 use Rattle.sci_forms.specs.declared.spec.Spec.{Spec}
-use Rattle.sci_forms.specs.Forms.{is_sync}
+use Rattle.sci_forms.specs.Form.{is_sync}
 use Rattle.sci_forms.specs.Names.{kind_at}
 use Rattle.sci_net.specs.declared.Source.{Source}
 use Rattle.sci_net.specs.declared.Source.TheVariants.{Start, Port}
@@ -15,7 +15,7 @@ use Rattle.sci_net.specs.Net.{IsNet}
 use Rattle.sci_net.specs.Sources.{ports_to, block_sources, sources_from, source_of}
 use Rattle.sci_net.proofs.Numbered.{numbered_next, numbered_map}
 use Rattle.sci_net.proofs.TypedSpecs.{all_typed, sources_few}
-use Rattle.sci_bank.specs.declared.rows.Row.{Row}
+use Rattle.sci_bank.specs.declared.instance.Instance.{Instance}
 use Rattle.sci_bank.specs.Bank.{Meaning, no_bank, row_at, first_row, no_row, after_reset, after_add}
 use Rattle.sci_bank.specs.Library.{place_of, bank_of, with_bank, AreInOrder, IsFull}
 use Rattle.sci_bank.proofs.LibraryLemmas.{kind_of-bank, Holds-full}
@@ -297,7 +297,7 @@ added banks new kind s f w = record {
   ];
 }
   where
-    old : List Row
+    old : List Instance
     old = (bank_of banks kind).rows
 
     same_bank : (q : Kind) → place_of q ≡ place_of kind → bank_of banks q ≡ bank_of banks kind

@@ -6,7 +6,7 @@ use Rattle.sci_net.specs.Net.{IsNet}
 use Rattle.sci_pass.specs.State.{IsSameButState}
 use Rattle.sci_run.specs.Laws.{AreLoopFree}
 use Rattle.sci_places.specs.Layout.{Layout, IsLayout}
-use Rattle.sci_bank.specs.declared.rows.Row.{Row as Instance}
+use Rattle.sci_bank.specs.declared.instance.Instance.{Instance}
 use Rattle.sci_bank.specs.Bank.{Meaning}
 use Rattle.sci_bank.specs.Library.{AreInOrder, IsFull}
 use Rattle.sci_store.specs.declared.seats.Seat.{Seat}

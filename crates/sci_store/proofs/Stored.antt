@@ -6,7 +6,8 @@ use Rattle.std.proofs.lemmas.List.{drop_at, take_all, take-append-le, drop-appen
 use Rattle.sci_base.specs.Lists.{at, listed}
 use Rattle.sci_forms.specs.declared.spec.Spec.{Spec}
 use Rattle.sci_forms.specs.Ports.{total}
-use Rattle.sci_kinds.specs.Table.{held_of, first_held}
+use Rattle.sci_kinds.specs.Table.{first_held}
+use Rattle.sci_forms.specs.Words.{held_of}
 use Rattle.sci_kinds.proofs.Elements.{listed_at}
 use Rattle.sci_net.specs.Parts.{Parts, IsBlock, numbered, spec_of}
 use Rattle.sci_net.specs.Net.{all_elements}

@@ -6,7 +6,7 @@ use Rattle.std.proofs.lemmas.Bool.{cases_Bool, cases_eq, eqb-true}
 use Rattle.std.proofs.lemmas.List.{length-set, get_or-set_same, get_or-set_other, length-take-le, get_or-take, get_or_default}
 use Rattle.sci_forms.specs.declared.Kind.{Kind}
 use Rattle.sci_forms.specs.declared.Kind.TheVariants.{Sensor}
-use Rattle.sci_forms.specs.Forms.{has_state}
+use Rattle.sci_forms.specs.Form.{has_state}
 use Rattle.sci_forms.specs.declared.spec.Spec.{Spec}
 use Rattle.sci_forms.specs.declared.ports.Port.{Port}
 use Rattle.sci_forms.specs.Ports.{elements, Fills}
@@ -14,7 +14,8 @@ use Rattle.sci_base.specs.Lists.{at, listed}
 use Rattle.sci_kinds.specs.Table.{next, state_len}
 use Rattle.sci_kinds.specs.Asks.{laid, IsState, entering_of, entering}
 use Rattle.sci_net.specs.declared.Source.{Source}
-use Rattle.sci_net.specs.Parts.{Parts, IsBlock, numbered, spec_of, wire_of, is_sensor}
+use Rattle.sci_net.specs.Parts.{Parts, IsBlock, numbered, spec_of, wire_of}
+use Rattle.sci_forms.specs.Form.{is_sensor}
 use Rattle.sci_net.specs.Net.{IsNet}
 use Rattle.sci_reaction.specs.Memory.{Memory, IsMemory}
 use Rattle.sci_reaction.specs.Equations.{Signals, AreInRange, input_in, all_inputs, output_among}
@@ -24,7 +25,7 @@ use Rattle.sci_reaction.proofs.Fills.{inputs_in_range}
 use Rattle.sci_run.specs.Activity.{Activity, IsActivity}
 use Rattle.sci_places.specs.Flat.{values_at}
 use Rattle.sci_bank.specs.Bank.{Meaning, row_at, row_after_update, after_update, no_row, no_bank}
-use Rattle.sci_bank.specs.declared.rows.Row.{Row}
+use Rattle.sci_bank.specs.declared.instance.Instance.{Instance}
 use Rattle.sci_bank.specs.Library.{place_of, bank_of, with_bank, Holds, AreInOrder, IsFull}
 use Rattle.sci_bank.proofs.LibraryLemmas.{Holds-full, kind_of-bank}
 use Rattle.sci_pass.specs.State.{IsSameButState}
@@ -35,7 +36,10 @@ use Rattle.sci_store.specs.Frame.{Fixed, IsFrame, seat_of, instance_of, AreSeate
 use Rattle.sci_store.specs.Store.{Standing, IsStore, cursor_at, state_of, ShowsValues}
 use Rattle.sci_store.specs.Passed.{IsStateStepped, IsBlockStepped, IsStepped, ShowsBefore, AreAlikeCounts, KeepsValues}
 use Rattle.sci_store.specs.Written.{AreAmong}
-use Rattle.sci_store.specs.Chosen.{active_of_kinds, remembers}
+use Rattle.sci_store.specs.Runs.{is_stepped, next_state, next_cursor, AreStepped}
+use Rattle.sci_bank.specs.declared.runs.Call.{Call}
+use Rattle.sci_store.specs.Chosen.{active_of_kinds}
+use Rattle.sci_forms.specs.Form.{remembers}
 use Rattle.sci_reaction.proofs.Lists.{Has, Has-push, and_true}
 use Rattle.sci_reaction.proofs.Rows.{Contains-has, has-Contains}
 use Rattle.sci_store.proofs.Writing.{seen_if, seen_unless}
@@ -58,18 +62,18 @@ same_inputs n y z b net block same =
 
 -- ---- a change of one bank
 
-other_bank : (banks : List Meaning) (k j : Kind) (m : Meaning) → place_of j ≢ place_of k → bank_of (with_bank banks k m) j ≡ bank_of banks j
+pub other_bank : (banks : List Meaning) (k j : Kind) (m : Meaning) → place_of j ≢ place_of k → bank_of (with_bank banks k m) j ≡ bank_of banks j
 other_bank banks k j m ne = get_or-set_other banks (place_of k) (place_of j) m no_bank ne
 
-this_bank : (banks : List Meaning) (k j : Kind) (m : Meaning) → Holds banks k → place_of j ≡ place_of k → bank_of (with_bank banks k m) j ≡ m
+pub this_bank : (banks : List Meaning) (k j : Kind) (m : Meaning) → Holds banks k → place_of j ≡ place_of k → bank_of (with_bank banks k m) j ≡ m
 this_bank banks k j m h e = ap (λ (i : ℕ). get_or (set banks (place_of k) m) i no_bank) e ∙ get_or-set_same banks (place_of k) m no_bank h
 
-same_kind : (banks : List Meaning) (k j : Kind) → AreInOrder banks → IsFull banks → place_of j ≡ place_of k → j ≡ k
+pub same_kind : (banks : List Meaning) (k j : Kind) → AreInOrder banks → IsFull banks → place_of j ≡ place_of k → j ≡ k
 same_kind banks k j order full e =
     sym (kind_of-bank banks j order (Holds-full banks j full)) ∙ (ap (λ (i : ℕ). (get_or banks i no_bank).kind) e ∙ kind_of-bank banks k order (Holds-full banks k full))
 
 -- what is read of a bank stays where the changed one has it from before
-same_of_bank : {A : Type 0} (read : Meaning → A) (banks : List Meaning) (k j : Kind) (m : Meaning) → IsFull banks → read m ≡ read (bank_of banks k)
+pub same_of_bank : {A : Type 0} (read : Meaning → A) (banks : List Meaning) (k j : Kind) (m : Meaning) → IsFull banks → read m ≡ read (bank_of banks k)
     → read (bank_of (with_bank banks k m) j) ≡ read (bank_of banks j)
 same_of_bank read banks k j m full same = ⊎_elim
     (λ e. ap read (this_bank banks k j m (Holds-full banks k full) e) ∙ (same ∙ ap (λ (i : ℕ). read (get_or banks i no_bank)) (sym e)))
@@ -118,8 +122,8 @@ module _ (f : Fixed) (banks : List Meaning) (seated : AreSeated f banks) (b : �
   spec_after : (c : ℕ) → IsBlock f.net c → (instance_of f after c).spec ≡ (instance_of f banks c).spec
   spec_after c other = ⊎_elim
       (λ same. ap (λ (x : ℕ). (instance_of f after x).spec) (sym same)
-      ∙ (ap (λ (r : Row). r.spec) here_after ∙ ap (λ (x : ℕ). (instance_of f banks x).spec) same))
-      (λ ne. ap (λ (r : Row). r.spec) (other_after c other ne)) (cases_eq b c)
+      ∙ (ap (λ (r : Instance). r.spec) here_after ∙ ap (λ (x : ℕ). (instance_of f banks x).spec) same))
+      (λ ne. ap (λ (r : Instance). r.spec) (other_after c other ne)) (cases_eq b c)
 
   pub seated_after : IsFull after → AreInOrder after → AreSeated f after
   seated_after full order = record {
@@ -133,11 +137,11 @@ module _ (f : Fixed) (banks : List Meaning) (seated : AreSeated f banks) (b : �
 
   state_after : state_of f after b ≡ next (spec_of f.net b) (state_of f banks b) mask ins
   state_after =
-      ap (λ (r : Row). r.state) here_after
+      ap (λ (r : Instance). r.state) here_after
       ∙ sym ((same_but_state (spec_of f.net b) (instance_of f banks b).spec (seated.specs b block)).next (seated.lengths b block) (state_of f banks b) mask ins)
 
   other_state : (c : ℕ) → IsBlock f.net c → b ≢ c → state_of f after c ≡ state_of f banks c
-  other_state c other ne = ap (λ (r : Row). r.state) (other_after c other ne)
+  other_state c other ne = ap (λ (r : Instance). r.state) (other_after c other ne)
 
 -- a block with a state is stepped
 pub stepped_with_state : (f : Fixed) (s t : Standing) (banks new : List Meaning) (b : ℕ) (seat : Seat) (mask : ℕ) (ins : List ℤ) → AreSeated f banks
@@ -201,6 +205,11 @@ pub not_sensor : (k : Kind) → (k ≡ Sensor → ⊥) → is_sensor k ≡ false
 not_sensor Sensor h = absurd (h refl)
 not_sensor _ h = refl
 
+-- a sensor has no state
+pub sensor_stateless : (k : Kind) → is_sensor k ≡ true → has_state k ≡ false
+sensor_stateless Sensor h = refl
+sensor_stateless _ h = absurd (true≢false (sym h))
+
 -- a kind with a state is no sensor
 plain_inputs : (k : Kind) (s : Spec) → has_state k ≡ true → entering_of k s ≡ s.ins
 plain_inputs Sensor s h = absurd (true≢false (sym h))
@@ -215,27 +224,7 @@ state_inputs f s b ins frame block has range same =
 
 -- ---- the blocks of a row are stepped
 
--- the block is active, and among those that are done
-abbrev pub is_stepped : List ℕ → Standing → ℕ → Bool
-is_stepped done s b = (mark_at s.marks b).active && list_any (eqb b) done
-
-abbrev pub next_state : Fixed → Standing → List Meaning → ℕ → List ℤ
-next_state f s banks b = next (spec_of f.net b) (state_of f banks b) (mark_at s.marks b).mask (all_inputs (spec_of f.net b) (input_in f.net (values_at f.net s.values) b))
-
-abbrev pub next_cursor : Fixed → Standing → ℕ → ℕ
-next_cursor f s b = if is_sensor (spec_of f.net b).kind then cursor_at s b + 1 else cursor_at s b
-
--- the active ones of these blocks have their next state and cursor, the others are as before
-pub record AreStepped (f : Fixed) (done : List ℕ) (s t : Standing) (banks after : List Meaning) : Type 0 where
-  pub states : (b : ℕ) → IsBlock f.net b → state_of f after b ≡ (if is_stepped done s b then next_state f s banks b else state_of f banks b)
-  pub cursors : (b : ℕ) → IsBlock f.net b → cursor_at t b ≡ (if is_stepped done s b then next_cursor f s b else cursor_at s b)
-  pub same : t ≡ record s { cursors = t.cursors; room = t.room }
-  pub long : length t.cursors ≡ length s.cursors
-  pub room : length t.room ≡ length s.room
-  pub seated : AreSeated f after
-  pub counts : AreAlikeCounts banks after
-
-and_nothing : (a : Bool) → (a && false) ≡ false
+pub and_nothing : (a : Bool) → (a && false) ≡ false
 and_nothing true = refl
 and_nothing false = refl
 
@@ -246,6 +235,7 @@ stepped_begin f s banks seated = record {
   same = refl;
   long = refl;
   room = refl;
+  chosen = refl;
   seated = seated;
   counts = λ k. refl;
 }
@@ -328,9 +318,11 @@ module _ (f : Fixed) (done : List ℕ) (s t u : Standing) (banks mid after : Lis
           states = states_next;
           cursors = cursors_next;
           same = step.cursor ∙ (ap (λ (v : Standing). record v { cursors = moved; room = u.room }) before.same
-              ∙ ap (λ (cs : List ℕ). record s { cursors = cs; room = u.room }) (sym stepped_cursors));
+              ∙ (ap (λ (cs : List ℕ). record s { cursors = cs; room = u.room; chosen = t.chosen }) (sym stepped_cursors)
+              ∙ ap (λ (cs : List Call). record s { cursors = u.cursors; room = u.room; chosen = cs }) (sym (ap (λ (v : Standing). v.chosen) step.cursor))));
           long = ap length stepped_cursors ∙ (cursor_length (is_sensor (spec_of f.net x).kind) t.cursors (x - 1) (cursor_at t x + 1) ∙ before.long);
           room = step.room ∙ before.room;
+          chosen = ap (λ (v : Standing). length v.chosen) step.cursor ∙ before.chosen;
           seated = step.seated;
           counts = λ k. step.counts k ∙ before.counts k;
         }
@@ -351,6 +343,7 @@ stepped_idle f done s t banks _ x before off = record {
   same = before.same;
   long = before.long;
   room = before.room;
+  chosen = before.chosen;
   seated = before.seated;
   counts = before.counts;
 }
@@ -440,16 +433,13 @@ module _ (f : Fixed) (source : Source) (m : Memory) (y : Signals) (active : Acti
 -- ---- in the loop over a row
 
 -- the next block isn't among those before it
-pub fresh_at : (xs : List ℕ) (k : ℕ) → AllPairs (λ b c. b < c) xs → k < length xs → Has (take k xs) (get_or xs k 0) → ⊥
+pub fresh_at : (xs : List ℕ) (k : ℕ) → AllPairs (λ b c. b ≢ c) xs → k < length xs → Has (take k xs) (get_or xs k 0) → ⊥
 fresh_at xs k pairs l h =
     let v = get_or xs k 0 in
-    let c = has-Contains (take k xs) v h in
+    let c = has-Contains (take k xs) (get_or xs k 0) h in
     let long = length-take-le k xs (omega (arith, l)) in
     let before : c.0 < k = omega (arith, c.1, long) in
-    let less : get_or xs c.0 v < get_or xs k v = pairs c.0 k v before l in
-    let one : get_or xs c.0 v ≡ v = sym (get_or-take k xs c.0 v before) ∙ c.2 in
-    let two : get_or xs k v ≡ v = get_or_default xs k v 0 l in
-    absurd (omega (arith, less, one, two))
+    pairs c.0 k 0 before l (get_or_default xs c.0 0 (get_or xs k 0) (omega (arith, before, l)) ∙ (sym (get_or-take k xs c.0 (get_or xs k 0) before) ∙ c.2))
 
 module _ (f : Fixed) (done : List ℕ) (s t : Standing) (banks mid : List Meaning) (before : AreStepped f done s t banks mid) where
   pub store_kept : IsStore f s → IsStore f t
@@ -458,6 +448,7 @@ module _ (f : Fixed) (done : List ℕ) (s t : Standing) (banks mid : List Meanin
     cursors = before.long ∙ h.cursors;
     marks = ap (λ (v : Standing). length v.marks) before.same ∙ h.marks;
     room = subst (λ (n : ℕ). f.layout.longest ≤ n) (sym before.room) h.room;
+    chosen = before.chosen ∙ h.chosen;
   }
 
   pub values_kept : KeepsValues s t

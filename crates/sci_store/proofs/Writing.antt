@@ -1,5 +1,5 @@
 -- What is observed of the values of some blocks, written one after the other.
-use Rattle.std.proofs.Common.{◌≡◌, ℕ, zero, suc, ◌+◌, ◌<◌, ◌≤◌, Bool, true, false, ⊎_elim, ℤ, pos, List, [], ◌∷◌, ◌++◌, length, get_or, take, drop, refl, sym, ap, subst, ◌∙◌, append_assoc, arith, Contains, Ok, Err, true≢false}
+use Rattle.std.proofs.Common.{◌≡◌, ℕ, zero, suc, ◌+◌, ◌<◌, ◌≤◌, Bool, true, false, ⊎_elim, ℤ, pos, List, [], ◌∷◌, ◌++◌, length, get_or, take, drop, refl, sym, ap, subst, ◌∙◌, append_assoc, arith, Contains, Ok, Err}
 use Rattle.std.specs.Prelude.{Result, flat_map, AllPairs, min, if◌then◌else◌}
 use Rattle.std.proofs.lemmas.Bool.{cases_Bool, cases_lt}
 use Rattle.std.proofs.lemmas.List.{drop_more, length-append, get_or-take, get_or-drop, get_or_default}
@@ -22,6 +22,7 @@ use Rattle.sci_store.specs.Blocks.{AreBlocksByNumber}
 use Rattle.sci_store.specs.Frame.{Fixed}
 use Rattle.sci_store.specs.Store.{Standing, ShowsValues}
 use Rattle.sci_store.specs.Written.{AreAmong, sum_of, tallied}
+pub use Rattle.sci_store.proofs.Choices.{seen_if, seen_unless}
 
 -- ---- a list of observations behind another
 
@@ -152,14 +153,6 @@ specs_from_first n j l = let e : 1 + j ≡ suc j = omega arith in ap (spec_of n)
 -- what one block gives
 abbrev pub block_seen : Signals → Activity → ℕ → Spec → List Obs
 block_seen y active b s = if active b then outputs_seen b 1 s.outs (y b) else []
-
-pub seen_if : {A : Type 0} (t : Bool) (x y : A) → t ≡ true → (if t then x else y) ≡ x
-seen_if true x y h = refl
-seen_if false x y h = absurd (true≢false (sym h))
-
-pub seen_unless : {A : Type 0} (t : Bool) (x y : A) → t ≡ false → (if t then x else y) ≡ y
-seen_unless true x y h = absurd (true≢false h)
-seen_unless false x y h = refl
 
 module _ (y : Signals) (active : Activity) (spec : ℕ → Spec) where
   abbrev blocks_of_row : List ℕ → List Obs

@@ -1,9 +1,8 @@
 -- Blocks of some kinds.
-use Rattle.std.specs.Prelude.{ℕ, Bool, ◌&&◌, ◌||◌, List}
+use Rattle.std.specs.Prelude.{ℕ, Bool, ◌&&◌, List}
 use Rattle.std.specs.List.{filter}
 use Rattle.sci_forms.specs.declared.Kind.{Kind}
-use Rattle.sci_forms.specs.Forms.{has_state}
-use Rattle.sci_net.specs.Parts.{Parts, spec_of, is_sensor}
+use Rattle.sci_net.specs.Parts.{Parts, spec_of}
 use Rattle.sci_run.specs.Activity.{Activity}
 
 -- the active blocks of these kinds
@@ -13,7 +12,3 @@ active_of_kinds n is active b = active b && is (spec_of n b).kind
 -- the blocks of these kinds, among some
 abbrev pub of_kinds : Parts → (Kind → Bool) → List ℕ → List ℕ
 of_kinds n is blocks = filter (λ b. is (spec_of n b).kind) blocks
-
--- a block of the kind remembers more than its outputs: a state, or how far it has read its column
-abbrev pub remembers : Kind → Bool
-remembers k = is_sensor k || has_state k

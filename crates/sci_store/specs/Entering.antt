@@ -1,6 +1,7 @@
 -- What goes into an active block.
 use Rattle.std.specs.Prelude.{◌≡◌, ℕ, ℤ, ◌≤◌, List, [], ◌∷◌, take, length, Option, Some, None, if◌then◌else◌}
-use Rattle.sci_net.specs.Parts.{spec_of, is_sensor}
+use Rattle.sci_net.specs.Parts.{spec_of}
+use Rattle.sci_forms.specs.Form.{is_sensor}
 use Rattle.sci_reaction.specs.Memory.{Columns, next_value}
 use Rattle.sci_reaction.specs.Equations.{input_in, all_inputs}
 use Rattle.sci_places.specs.Flat.{values_at}

@@ -1,7 +1,7 @@
 -- What stays as it is through a run: the net, where its values lie, how their lines start, and where its blocks are kept.
 use Rattle.std.specs.Prelude.{◌≡◌, ℕ, ◌+◌, ◌-◌, ◌<◌, ◌≤◌, false, List, length}
 use Rattle.sci_forms.specs.declared.Kind.TheVariants.{Const}
-use Rattle.sci_forms.specs.Forms.{is_sync}
+use Rattle.sci_forms.specs.Form.{is_sync}
 use Rattle.sci_net.specs.declared.Source.TheVariants.{Port}
 use Rattle.sci_net.specs.Parts.{Parts, IsBlock, IsActivationOutput, numbered, spec_of}
 use Rattle.sci_net.specs.Net.{IsNet}
@@ -10,7 +10,7 @@ use Rattle.sci_kinds.specs.Table.{state_len}
 use Rattle.sci_pass.specs.State.{IsSameButState}
 use Rattle.sci_run.specs.Laws.{AreLoopFree}
 use Rattle.sci_places.specs.Layout.{Layout, IsLayout}
-use Rattle.sci_bank.specs.declared.rows.Row.{Row as Instance}
+use Rattle.sci_bank.specs.declared.instance.Instance.{Instance}
 use Rattle.sci_bank.specs.Bank.{Meaning, row_at}
 use Rattle.sci_bank.specs.Library.{bank_of, AreInOrder, IsFull}
 use Rattle.sci_store.specs.declared.seats.Seat.{Seat}

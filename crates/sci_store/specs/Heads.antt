@@ -1,6 +1,6 @@
 -- The starts of the lines of a net's values, by block, port and element, each counted from 1.
 use Rattle.std.specs.Prelude.{ℕ, zero, suc, ◌+◌, ℤ, pos, List, [], ◌∷◌, ◌++◌, map, codes}
-use Rattle.std.specs.Fmt.{decimal}
+use Rattle.std.specs.Fmt.{decimal, signed_decimal}
 use Rattle.sci_base.specs.declared.observation.Obs.{Obs}
 use Rattle.sci_base.specs.declared.observation.Obs.TheVariants.{Val}
 use Rattle.sci_forms.specs.declared.ports.Port.{Port}
@@ -40,3 +40,9 @@ heads_of n = map start_text (named_blocks 1 n.specs)
 -- what is observed of a value
 abbrev pub value_of : Named → ℤ → Obs
 value_of n v = Val (pos n.block) (pos n.port) (pos n.element) v
+
+-- the lines of values behind their starts
+abbrev pub value_lines : List (List ℕ) → List ℤ → List ℕ
+value_lines [] vs = []
+value_lines (h ∷ hs) [] = []
+value_lines (h ∷ hs) (v ∷ vs) = (h ++ (signed_decimal v ++ codes "\n")) ++ value_lines hs vs

@@ -1,4 +1,5 @@
 pub mod Marks
+pub mod Entries
 pub mod Tally
 pub mod Blocks
 pub mod Heads
@@ -10,5 +11,8 @@ pub mod Entering
 pub mod Passed
 pub mod Written
 pub mod Chosen
+pub mod Rows
+pub mod Ranks
+pub mod Runs
 pub mod Delays
 pub mod Paged

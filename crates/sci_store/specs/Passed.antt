@@ -1,15 +1,17 @@
 -- What the values of a reaction come to, block by block, and what a reaction leaves in the memory.
 use Rattle.std.specs.Prelude.{◌≡◌, ◌≢◌, ◌⊎◌, ℕ, ◌+◌, ◌-◌, ℤ, true, false, if◌then◌else◌, List, slice_set, length, Option, Some, None, Result, Ok, Err}
 use Rattle.sci_base.specs.declared.observation.StopWord.{StopWord}
-use Rattle.sci_forms.specs.Forms.{is_sync}
+use Rattle.sci_forms.specs.Form.{is_sync}
 use Rattle.sci_net.specs.declared.Source.{Source}
-use Rattle.sci_net.specs.Parts.{IsBlock, spec_of, is_sensor}
+use Rattle.sci_net.specs.Parts.{IsBlock, spec_of}
+use Rattle.sci_forms.specs.Form.{is_sensor}
 use Rattle.sci_reaction.specs.Memory.{Memory, Columns, IsMemory, next_value}
 use Rattle.sci_reaction.specs.Equations.{Signals, AreInRange, input_in, all_inputs, branch_on, answer_of}
 use Rattle.sci_reaction.specs.Result.{Whole, Stopped, IsResult}
 use Rattle.sci_reaction.specs.Next.{IsNextMemory}
 use Rattle.sci_run.specs.Activity.{Activity, IsActivity}
-use Rattle.sci_places.specs.Flat.{start_of, values_at, overwritten}
+use Rattle.sci_places.specs.Flat.{start_of, values_at}
+use Rattle.sci_span.specs.Values.{overwritten}
 use Rattle.sci_bank.specs.declared.Fate.{Fate}
 use Rattle.sci_bank.specs.declared.Fate.TheVariants.{Done, Overflow, Zero}
 use Rattle.sci_bank.specs.Bank.{Meaning, after_out}
@@ -48,9 +50,12 @@ IsComputed (Values vs) start old new fate = (fate ≡ Done) × (new ≡ overwrit
 IsComputed NoFit start old new fate = fate ≡ Overflow
 IsComputed NoQuotient start old new fate = fate ≡ Zero
 
--- where the block has no values: its bank has counted at most this call, and nothing is marked or observed
+-- where the block has no values: its bank has counted at most this call, the other blocks keep theirs, and nothing is taken from a column, marked or
+-- observed
 pub record IsStopped (f : Fixed) (banks after : List Meaning) (s t : Standing) (b : ℕ) : Type 0 where
   pub calls : (after ≡ banks) ⊎ (after ≡ called f banks b)
+  pub others : (c : ℕ) → IsBlock f.net c → c ≢ b → values_at f.net t.values c ≡ values_at f.net s.values c
+  pub cursors : t.cursors ≡ s.cursors
   pub marks : t.marks ≡ s.marks
   pub lines : t.lines ≡ s.lines
   pub sum : t.sum ≡ s.sum

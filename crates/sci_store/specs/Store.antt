@@ -12,19 +12,21 @@ use Rattle.sci_reaction.specs.Pass.{Progress}
 use Rattle.sci_run.specs.Activity.{Activity}
 use Rattle.sci_run.specs.Counts.{activations_from}
 use Rattle.sci_places.specs.Flat.{values_at, IsWhole}
+use Rattle.sci_bank.specs.declared.runs.Call.{Call}
 use Rattle.sci_bank.specs.Bank.{Meaning}
 use Rattle.sci_bank.specs.Library.{bank_of}
 use Rattle.sci_store.specs.declared.marks.Mark.{Mark}
 use Rattle.sci_store.specs.Marks.{mark_at, idle}
 use Rattle.sci_store.specs.Frame.{Fixed, instance_of}
 
--- the values of all outputs, the cursors of the sensors, the marks of the last reaction, room for what goes into a block, and what
--- was counted
+-- the values of all outputs, the cursors of the sensors, the marks of the last reaction, room for what goes into a block and for the calls of
+-- a run, and what was counted
 pub record Standing : Type 0 where
   pub values : List ℤ
   pub cursors : List ℕ
   pub marks : List Mark
   pub room : List ℤ
+  pub chosen : List Call
   pub lines : ℕ
   pub sum : ℕ
 
@@ -37,6 +39,7 @@ pub record IsStore (f : Fixed) (s : Standing) : Type 0 where
   pub cursors : length s.cursors ≡ length f.net.specs
   pub marks : length s.marks ≡ length f.net.specs
   pub room : f.layout.longest ≤ length s.room
+  pub chosen : length s.chosen ≡ length f.net.specs
 
 -- ---- between two reactions
 

@@ -1,10 +1,10 @@
 -- What is written of a reaction's values.
-use Rattle.std.specs.Prelude.{◌≡◌, ℕ, true, List, [], ◌∷◌, length, Contains}
+use Rattle.std.specs.Prelude.{◌≡◌, ℕ, ℤ, true, List, [], ◌∷◌, length, Contains}
 use Rattle.sci_base.specs.declared.observation.Obs.{Obs}
 use Rattle.sci_base.specs.declared.observation.Obs.TheVariants.{Start, Event, Val, End, Stop}
 use Rattle.sci_run.specs.Activity.{Activity}
 use Rattle.sci_net.specs.Parts.{Parts, IsBlock}
-use Rattle.sci_store.specs.Tally.{lines_after, sum_after}
+use Rattle.sci_store.specs.Tally.{lines_after, sum_after, sum_with}
 use Rattle.sci_store.specs.Store.{Standing}
 
 -- all blocks that are active stand in the row
@@ -39,3 +39,7 @@ IsHeader (Stop w b p) = ⊥
 -- these were observed
 abbrev pub tallied : Standing → List Obs → Standing
 tallied s os = record s { lines = lines_after s.lines (length os); sum = sum_of s.sum os }
+
+-- these values were observed
+abbrev pub tallied_values : Standing → List ℤ → Standing
+tallied_values s vs = record s { lines = lines_after s.lines (length vs); sum = sum_with s.sum vs }

@@ -1,7 +1,7 @@
 // What one block gives, by its instance in the banks.
-ghost use Rattle.std.specs.Prelude.{◌≡◌, ◌+◌, ◌≤◌, if◌then◌else◌};
+ghost use Rattle.std.specs.Prelude.{◌≡◌, ◌≢◌, ℕ, ◌+◌, ◌≤◌, if◌then◌else◌};
 ghost use Rattle.sci_forms.specs.Ports.{Fills};
-ghost use Rattle.sci_forms.specs.Forms.{is_sync};
+ghost use Rattle.sci_forms.specs.Form.{is_sync};
 ghost use Rattle.sci_kinds.specs.Asks.{IsMask, entering};
 ghost use Rattle.sci_kinds.specs.Table.{out, branch};
 ghost use Rattle.sci_net.specs.Parts.{IsBlock, spec_of};
@@ -14,8 +14,8 @@ ghost use Rattle.sci_store.specs.Store.{state_of};
 ghost use Rattle.sci_store.specs.Passed.{called, IsComputed};
 
 use crate::frame::Frame;
-use sci_bank::Fate;
-use sci_bank::library::{Banks, Library};
+use sci_bank::library::Library;
+use sci_bank::{Bank, Fate};
 use sci_places::Span;
 
 /// Where the values of a block lie among those of all.
@@ -32,25 +32,26 @@ pub fn place(frame: &Frame, block: u32) -> Span
 
 /// Computes the values of a block on what goes into it, and writes them at the block's place among those of all.
 #[inline(always)]
-pub fn compute(
+pub fn compute<B: Bank>(
     frame: &Frame,
-    lib: &mut Library,
+    lib: &mut Library<B>,
     block: u32,
     mask: u64,
     ins: &[i64],
     values: &mut [i64],
 ) -> Fate
-    requires seated { AreSeated frame.now (⟦<Library as Banks>⟧.banks lib.old) }
+    requires seated { AreSeated frame.now lib.old }
     requires block { IsBlock frame.now.net block }
     requires mask { IsMask (spec_of frame.now.net block) mask }
     requires filled { Fills (entering (spec_of frame.now.net block)) ins.now }
     requires whole { IsWhole frame.now.net values.old }
     requires values { AreInRange frame.now.net (values_at frame.now.net values.old) }
-    ensures computed { let before = ⟦<Library as Banks>⟧.banks lib.old in IsComputed (out (spec_of frame.now.net block) (state_of frame.now before block) mask ins.now) (start_of frame.now.net block) values.old values.new result }
-    ensures called { ⟦<Library as Banks>⟧.banks lib.new ≡ called frame.now (⟦<Library as Banks>⟧.banks lib.old) block }
+    ensures computed { let before = lib.old in IsComputed (out (spec_of frame.now.net block) (state_of frame.now before block) mask ins.now) (start_of frame.now.net block) values.old values.new result }
+    ensures called { lib.new ≡ called frame.now lib.old block }
+    ensures others { (c : ℕ) → IsBlock frame.now.net c → c ≢ block → values_at frame.now.net values.new c ≡ values_at frame.now.net values.old c }
     ensures whole { IsWhole frame.now.net values.new }
     ensures values { AreInRange frame.now.net (values_at frame.now.net values.new) }
-    ensures seated { AreSeated frame.now (⟦<Library as Banks>⟧.banks lib.new) }
+    ensures seated { AreSeated frame.now lib.new }
 {
     let seat = frame.seat(block);
     let place = place(frame, block);
@@ -60,8 +61,8 @@ pub fn compute(
 
 /// The branch that a block takes on what goes into it; 0 for a block that isn't synchronous.
 #[inline(always)]
-pub fn take_branch(frame: &Frame, lib: &Library, block: u32, ins: &[i64]) -> u32
-    requires seated { AreSeated frame.now (⟦<Library as Banks>⟧.banks lib.now) }
+pub fn take_branch<B: Bank>(frame: &Frame, lib: &Library<B>, block: u32, ins: &[i64]) -> u32
+    requires seated { AreSeated frame.now lib.now }
     requires block { IsBlock frame.now.net block }
     requires filled { Fills (entering (spec_of frame.now.net block)) ins.now }
     ensures { result ≡ (if is_sync (spec_of frame.now.net block).kind then branch (spec_of frame.now.net block) ins.now else 0) }

@@ -4,8 +4,8 @@ ghost use Rattle.sci_forms.specs.Typed.{typed};
 ghost use Rattle.sci_net.specs.Net.{all_elements};
 ghost use Rattle.sci_net.specs.Parts.{IsBlock, spec_of, column_of, rows_of};
 ghost use Rattle.sci_net.specs.Sources.{sources_of, source_of};
-ghost use Rattle.sci_bank.specs.Library.{AreInOrder, IsFull};
-ghost use Rattle.sci_run.specs.Activity.{is_halt};
+ghost use Rattle.sci_bank.specs.Library.{IsFull};
+ghost use Rattle.sci_forms.specs.Form.{is_halt};
 ghost use Rattle.sci_run.specs.Laws.{AreLoopFree};
 ghost use Rattle.sci_run.specs.Observed.{header};
 ghost use Rattle.sci_store.specs.Seating.{IsSeating, IsSeatingBy, begun};
@@ -13,9 +13,9 @@ ghost use Rattle.sci_store.specs.Seating.{IsSeating, IsSeatingBy, begun};
 use crate::head::Head;
 use crate::heads::heads;
 use crate::seats::{Seat, seat_all, seat_in_states};
-use sci_bank::library::{Banks, Library};
+use sci_bank::Bank;
+use sci_bank::library::Library;
 use sci_base::{NoMemory, Obs};
-use sci_kinds::Kind;
 use sci_net::{Net, Source};
 use sci_places::Places;
 use std::alloc::Global;
@@ -44,17 +44,16 @@ impl Model for Frame {
 
 impl Frame {
     ghost use Rattle.sci_store.specs.Frame.{IsFrame, seat_of};
+    ghost use Rattle.sci_store.specs.Rows.{between};
 
     /// A net, none of whose sources has a loop, with an instance of each block in a full library. It resets all banks. Where memory is wanting,
     /// the banks may hold any instances.
-    pub fn new(alloc: Global, net: Net, lib: &mut Library) -> Result<Frame, NoMemory>
+    pub fn new<B: Bank>(alloc: Global, net: Net, lib: &mut Library<B>) -> Result<Frame, NoMemory>
         requires free { AreLoopFree net }
-        requires full { IsFull (⟦<Library as Banks>⟧.banks lib.old) }
-        requires in_order { AreInOrder (⟦<Library as Banks>⟧.banks lib.old) }
+        requires full { IsFull lib.old }
         ensures net { IfOk result (λ f. f.net ≡ net) }
-        ensures seated { IfOk result (λ f. IsSeating f.net f.seats (⟦<Library as Banks>⟧.banks lib.new)) }
-        ensures full { IsFull (⟦<Library as Banks>⟧.banks lib.new) }
-        ensures in_order { AreInOrder (⟦<Library as Banks>⟧.banks lib.new) }
+        ensures seated { IfOk result (λ f. IsSeating f.net f.seats lib.new) }
+        ensures full { IsFull lib.new }
     {
         net.well_formed();
         let places = Places::new(alloc, &net)?;
@@ -69,21 +68,19 @@ impl Frame {
     }
 
     /// The same, with an instance of each block in its state among these, with which its spec is typed still.
-    pub fn in_states(
+    pub fn in_states<B: Bank>(
         alloc: Global,
         net: Net,
         states: &[Vec<i64>],
-        lib: &mut Library,
+        lib: &mut Library<B>,
     ) -> Result<Frame, NoMemory>
         requires free { AreLoopFree net }
-        requires full { IsFull (⟦<Library as Banks>⟧.banks lib.old) }
-        requires in_order { AreInOrder (⟦<Library as Banks>⟧.banks lib.old) }
+        requires full { IsFull lib.old }
         requires one_each { length states.now ≡ length net.specs }
         requires is_typed { (b : ℕ) → IsBlock net b → typed (begun net (rows_of states.now) b) ≡ true }
         ensures net { IfOk result (λ f. f.net ≡ net) }
-        ensures seated { IfOk result (λ f. IsSeatingBy f.net (begun f.net (rows_of states.now)) f.seats (⟦<Library as Banks>⟧.banks lib.new)) }
-        ensures full { IsFull (⟦<Library as Banks>⟧.banks lib.new) }
-        ensures in_order { AreInOrder (⟦<Library as Banks>⟧.banks lib.new) }
+        ensures seated { IfOk result (λ f. IsSeatingBy f.net (begun f.net (rows_of states.now)) f.seats lib.new) }
+        ensures full { IsFull lib.new }
     {
         net.well_formed();
         let places = Places::new(alloc, &net)?;
@@ -114,13 +111,14 @@ impl Frame {
         self.seats[block as usize - 1]
     }
 
-    /// The start of the line of a value, by its place among those of all.
+    /// The starts of the lines of the values from one place to before another.
     #[inline(always)]
-    pub(crate) fn head(&self, place: usize) -> &Head
-        requires { place < all_elements self.now.net.specs }
-        ensures { result.now ≡ slice_index_or self.now.heads place [] }
+    pub(crate) fn heads(&self, start: usize, end: usize) -> &[Head]
+        requires order { start ≤ end }
+        requires within { end ≤ all_elements self.now.net.specs }
+        ensures { result.now ≡ between self.now.heads start end }
     {
-        &self.heads[place]
+        &self.heads[start..end]
     }
 
     /// The column that a sensor reads, counted from 1.
@@ -138,10 +136,7 @@ impl Frame {
         requires most { block ≤ length self.now.net.specs }
         ensures { result ≡ is_halt (spec_of self.now.net block).kind }
     {
-        match self.seats[block as usize - 1].kind {
-            Kind::Halt => true,
-            _ => false,
-        }
+        self.seats[block as usize - 1].kind.is_halt()
     }
 
     /// What is observed of a source that fires at a date, in ticks, by the source's place among those of the net.

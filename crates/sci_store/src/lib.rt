@@ -1,15 +1,18 @@
-//! What is kept of a net's run and done with one block of it: the values of all outputs, the cursors of sensors, the marks of a reaction,
-//! the lines that are written, and what is counted. It knows no schedule and no agenda.
+//! What is kept of a net's run: the values of all outputs, the cursors of sensors, the marks of a reaction, the lines that are written, and
+//! what is counted; and the pass over the row of a source. It knows no schedule and no agenda.
 #![tactic(auto)]
 
 mod block;
 mod digit_table;
+mod entries;
 mod frame;
 mod head;
 mod heads;
 mod lines;
 mod marks;
+mod pass;
 mod pieces;
+mod row;
 mod seats;
 mod store;
 mod tally;
@@ -17,6 +20,7 @@ mod tally;
 pub use frame::Frame;
 pub use lines::Lines;
 pub use marks::Mark;
+pub use row::Row;
 pub use seats::Seat;
 pub use store::Store;
 pub use tally::Tally;

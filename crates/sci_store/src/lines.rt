@@ -4,6 +4,7 @@ ghost use Rattle.std.specs.Fmt.{signed_decimal};
 ghost use Rattle.sci_io.specs.Taken.{Writes};
 ghost use Rattle.sci_trace.specs.Lines.{line};
 ghost use Rattle.sci_base.specs.declared.observation.Obs.TheVariants.{Start, Event};
+ghost use Rattle.sci_store.specs.Heads.{value_lines};
 ghost use Rattle.sci_store.specs.Paged.{paged};
 ghost use Rattle.sci_store.specs.Written.{IsHeader};
 
@@ -128,9 +129,9 @@ impl Lines {
         self.len = byte_at(&mut self.text, at, b'\n');
     }
 
-    /// Writes the line of a value behind its start; where there is no room for it, what waits is given to the sink first.
+    // Writes the line of a value behind its start; where there is no room for it, what waits is given to the sink first.
     #[inline(always)]
-    pub fn put<S: Sink>(&mut self, head: &Head, value: i64, out: &mut S) -> Result<(), Failed>
+    fn put<S: Sink>(&mut self, head: &Head, value: i64, out: &mut S) -> Result<(), Failed>
         ensures written { Writes (paged (S.state out.old) self.old) (paged (S.state out.new) self.new) (head.now ++ (signed_decimal value ++ codes "\n")) result }
         ensures emptied { OnErr result (self.new ≡ []) }
     {
@@ -138,6 +139,24 @@ impl Lines {
             self.give(out)?;
         }
         self.add(head, value);
+        Ok(())
+    }
+
+    /// Writes the lines of values, each behind its start; where there is no room for one, what waits is given to the sink first.
+    #[inline(always)]
+    pub fn put_all<S: Sink>(
+        &mut self,
+        heads: &[Head],
+        values: &[i64],
+        out: &mut S,
+    ) -> Result<(), Failed>
+        requires { length heads.now ≡ length values.now }
+        ensures written { Writes (paged (S.state out.old) self.old) (paged (S.state out.new) self.new) (value_lines heads.now values.now) result }
+        ensures emptied { OnErr result (self.new ≡ []) }
+    {
+        for at in 0..values.len() {
+            self.put(&heads[at], values[at], out)?;
+        }
         Ok(())
     }
 }

@@ -1,13 +1,15 @@
 // The instances of a net's blocks.
 ghost use Rattle.std.specs.Prelude.{◌≡◌, ℕ, ◌≤◌, ◌+◌, ◌<◌, length, true, IfOk};
-ghost use Rattle.sci_bank.specs.Library.{AreInOrder, IsFull};
+ghost use Rattle.sci_bank.specs.Library.{IsFull};
 ghost use Rattle.sci_forms.specs.Typed.{typed};
 ghost use Rattle.sci_net.specs.Parts.{IsBlock, spec_of, rows_of};
 ghost use Rattle.sci_net.specs.Sources.{block_sources};
 ghost use Rattle.sci_store.specs.Seating.{AreReset, IsSeating, IsSeatingBy, begun};
 
-use sci_bank::library::{Banks, Library};
+use sci_bank::Bank;
+use sci_bank::library::Library;
 use sci_base::{Ints, NoMemory};
+use sci_forms::KINDS;
 use sci_kinds::{Kind, Spec};
 use sci_net::Net;
 use std::alloc::Global;
@@ -22,12 +24,12 @@ pub struct Seat {
 }
 
 /// Drops all instances of all kinds.
-fn reset_all(lib: &mut Library)
-    requires full { IsFull (⟦<Library as Banks>⟧.banks lib.old) }
-    requires in_order { AreInOrder (⟦<Library as Banks>⟧.banks lib.old) }
-    ensures { AreReset (⟦<Library as Banks>⟧.banks lib.new) }
+fn reset_all<B: Bank>(lib: &mut Library<B>)
+    requires full { IsFull lib.old }
+    ensures { AreReset lib.new }
 {
-    for number in 1..35u8 {
+    lib.well_formed();
+    for number in 1..KINDS + 1 {
         if let Some(kind) = Kind::at(number) {
             lib.reset(kind);
         }
@@ -45,12 +47,14 @@ fn source_count(net: &Net, block: u32) -> u32
 }
 
 /// Resets all banks, and adds an instance for each block of a net, in its first state.
-pub fn seat_all(alloc: Global, net: &Net, lib: &mut Library) -> Result<Vec<Seat>, NoMemory>
-    requires full { IsFull (⟦<Library as Banks>⟧.banks lib.old) }
-    requires in_order { AreInOrder (⟦<Library as Banks>⟧.banks lib.old) }
-    ensures seated { IfOk result (λ v. IsSeating net.now v.items (⟦<Library as Banks>⟧.banks lib.new)) }
-    ensures full { IsFull (⟦<Library as Banks>⟧.banks lib.new) }
-    ensures in_order { AreInOrder (⟦<Library as Banks>⟧.banks lib.new) }
+pub fn seat_all<B: Bank>(
+    alloc: Global,
+    net: &Net,
+    lib: &mut Library<B>,
+) -> Result<Vec<Seat>, NoMemory>
+    requires full { IsFull lib.old }
+    ensures seated { IfOk result (λ v. IsSeating net.now v.items lib.new) }
+    ensures full { IsFull lib.new }
 {
     net.well_formed();
     reset_all(lib);
@@ -79,19 +83,17 @@ fn with_state(alloc: Global, spec: &Spec, state: &[i64]) -> Result<Spec, NoMemor
 }
 
 /// Resets all banks, and adds an instance for each block of a net, in its state among these.
-pub fn seat_in_states(
+pub fn seat_in_states<B: Bank>(
     alloc: Global,
     net: &Net,
     states: &[Vec<i64>],
-    lib: &mut Library,
+    lib: &mut Library<B>,
 ) -> Result<Vec<Seat>, NoMemory>
-    requires full { IsFull (⟦<Library as Banks>⟧.banks lib.old) }
-    requires in_order { AreInOrder (⟦<Library as Banks>⟧.banks lib.old) }
+    requires full { IsFull lib.old }
     requires one_each { length states.now ≡ length net.now.specs }
     requires is_typed { (b : ℕ) → IsBlock net.now b → typed (begun net.now (rows_of states.now) b) ≡ true }
-    ensures seated { IfOk result (λ v. IsSeatingBy net.now (begun net.now (rows_of states.now)) v.items (⟦<Library as Banks>⟧.banks lib.new)) }
-    ensures full { IsFull (⟦<Library as Banks>⟧.banks lib.new) }
-    ensures in_order { AreInOrder (⟦<Library as Banks>⟧.banks lib.new) }
+    ensures seated { IfOk result (λ v. IsSeatingBy net.now (begun net.now (rows_of states.now)) v.items lib.new) }
+    ensures full { IsFull lib.new }
 {
     net.well_formed();
     reset_all(lib);

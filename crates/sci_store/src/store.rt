@@ -1,30 +1,33 @@
 // What changes from one reaction to the next.
-ghost use Rattle.std.specs.Prelude.{◌≡◌, ℕ, ◌+◌, ◌-◌, ◌<◌, ◌≤◌, ◌^◌, ◌++◌, ◌∷◌, [], ◌<ℤ◌, pos, slice_set, take, drop, length, Contains, true, IfOk, IsSome, OnOk, OnErr};
+ghost use Rattle.std.specs.Prelude.{◌≡◌, ℕ, ◌+◌, ◌-◌, ◌<◌, ◌≤◌, ◌^◌, ◌++◌, ◌∷◌, [], ◌<ℤ◌, pos, slice_set, take, length, All, Contains, true, IfOk, IsSome, OnOk, OnErr};
 ghost use Rattle.sci_base.specs.Lists.{at, listed};
 ghost use Rattle.sci_io.specs.Taken.{Writes};
 ghost use Rattle.sci_trace.specs.Lines.{line, text};
 ghost use Rattle.sci_forms.specs.Ports.{total};
-ghost use Rattle.sci_forms.specs.Forms.{has_delay};
+ghost use Rattle.sci_forms.specs.Form.{has_delay};
 ghost use Rattle.sci_kinds.specs.Asks.{IsMask, IsState};
-ghost use Rattle.sci_kinds.specs.Table.{held_of};
+ghost use Rattle.sci_forms.specs.Words.{held_of};
 ghost use Rattle.sci_net.specs.declared.Source.{Source};
-ghost use Rattle.sci_net.specs.Parts.{IsBlock, spec_of, is_sensor};
+ghost use Rattle.sci_net.specs.Parts.{IsBlock, spec_of};
+ghost use Rattle.sci_forms.specs.Form.{is_sensor};
 ghost use Rattle.sci_reaction.specs.Memory.{Memory, IsMemory, AreColumns, next_value, first_memory};
 ghost use Rattle.sci_reaction.specs.Equations.{Signals, AreInRange, input_in, all_inputs};
-ghost use Rattle.sci_run.specs.Activity.{Activity, IsActivity, is_halt, halts};
-ghost use Rattle.sci_run.specs.Observed.{outputs_seen, blocks_seen};
+ghost use Rattle.sci_run.specs.Activity.{Activity, IsActivity, halts};
+ghost use Rattle.sci_forms.specs.Form.{is_halt};
+ghost use Rattle.sci_run.specs.Observed.{blocks_seen};
 ghost use Rattle.sci_places.specs.Flat.{values_at, IsWhole};
 
 use crate::block::{compute, place, take_branch};
 use crate::frame::Frame;
 use crate::lines::Lines;
 use crate::marks::{IDLE, Mark, clear};
+use crate::row::{Row, Run, Show};
 use crate::tally::Tally;
-use sci_bank::Fate;
-use sci_bank::library::{Banks, Library};
+use sci_bank::library::Library;
+use sci_bank::{Bank, Call, Fate};
 use sci_base::{NoMemory, Obs, StopWord};
 use sci_io::{Failed, Sink};
-use sci_kinds::{Kind, Spec};
+use sci_kinds::Spec;
 use sci_trace::inputs::Inputs;
 use sci_trace::write_obs;
 use std::alloc::Global;
@@ -34,13 +37,15 @@ use std::marker::Model;
 #[derive(Drop)]
 pub struct Store {
     /// By block, port and element.
-    values: Vec<i64>,
+    pub(crate) values: Vec<i64>,
     /// By block; 0 for a block that is no sensor.
     cursors: Vec<usize>,
     /// By block.
-    marks: Vec<Mark>,
+    pub(crate) marks: Vec<Mark>,
     // room for what goes into one block
     ins: Vec<i64>,
+    // room for the calls of a run
+    pub(crate) chosen: Vec<Call>,
     tally: Tally,
 }
 
@@ -49,22 +54,7 @@ impl Model for Store {
 
     ghost Value = { Standing };
 
-    ghost view = { λ s. record { values = s.values.items; cursors = s.cursors.items; marks = s.marks.items; room = s.ins.items; lines = s.tally.lines; sum = s.tally.sum } };
-}
-
-/// Element `at` of the outputs before the block's first activation.
-fn first_held(spec: &Spec, at: usize) -> i64
-    ensures { result ≡ held_of spec.now.kind spec.now at }
-{
-    match spec.kind {
-        Kind::Dollar => if spec.state.len() == 1 {
-            spec.state.at(0)
-        } else {
-            spec.state.at(at)
-        },
-        Kind::Register | Kind::ModuloCount => spec.state.at(0),
-        _ => 0,
-    }
+    ghost view = { λ s. record { values = s.values.items; cursors = s.cursors.items; marks = s.marks.items; room = s.ins.items; chosen = s.chosen.items; lines = s.tally.lines; sum = s.tally.sum } };
 }
 
 /// Adds the values that a block holds before its first activation.
@@ -72,7 +62,7 @@ fn push_held(values: &mut Vec<i64>, spec: &Spec, count: usize) -> Result<(), NoM
     ensures { OnOk result (values.new.items ≡ values.old.items ++ listed (held_of spec.now.kind spec.now) count) }
 {
     for at in 0..count {
-        values.push(first_held(spec, at))?;
+        values.push(spec.held(at))?;
     }
     Ok(())
 }
@@ -96,8 +86,10 @@ impl Store {
     ghost use Rattle.sci_store.specs.Frame.{AreSeated};
     ghost use Rattle.sci_store.specs.Store.{Standing, IsStore, AreIdle, cursor_at, state_of, ShowsValues};
     ghost use Rattle.sci_store.specs.Passed.{given, IsEvaluated, IsStepped, IsStateStepped, IsBlockStepped, ShowsBefore, AreAlikeCounts, KeepsValues};
-    ghost use Rattle.sci_store.specs.Written.{AreAmong, IsPlain, IsHeader, tallied};
-    ghost use Rattle.sci_store.specs.Chosen.{active_of_kinds, remembers};
+    ghost use Rattle.sci_store.specs.Written.{AreAmong, IsPlain, IsHeader, tallied, tallied_values};
+    ghost use Rattle.sci_store.specs.Chosen.{active_of_kinds};
+    ghost use Rattle.sci_store.specs.Rows.{IsReadyRow, KeepsBegun, IsShowOf, is_shown, between, active_calls, state_calls_in, shown_values};
+    ghost use Rattle.sci_store.specs.Runs.{AreStepped, AreCalledOnce, called_blocks, MayStep, MayStepAmong, lines_of};
     ghost use Rattle.sci_store.specs.Delays.{delays_in};
     ghost use Rattle.sci_store.specs.Paged.{paged};
     ghost use Rattle.sci_store.specs.Entering.{IsEntered};
@@ -134,11 +126,17 @@ impl Store {
     {
         let marks = vec![in alloc; IDLE; frame.net.len() as usize]?;
         let ins = vec![in alloc; 0; frame.places.longest()]?;
+        let chosen = vec![in alloc; Call {
+            slot: 0,
+            block: 0,
+            mask: 0
+        }; frame.net.len() as usize]?;
         Ok(Store {
             values,
             cursors,
             marks,
             ins,
+            chosen,
             tally: Tally::new(),
         })
     }
@@ -178,16 +176,6 @@ impl Store {
         write_obs(o, out)?;
         self.tally.count();
         Ok(())
-    }
-
-    /// Begins the lines of a reaction with that of its source, which is counted. What waited among them before is forgotten.
-    pub fn begin(&mut self, header: &Obs, lines: &mut Lines)
-        requires { IsHeader header.now }
-        ensures begun { lines.new ≡ line header.now }
-        ensures counted { self.new ≡ tallied self.old (header.now ∷ []) }
-    {
-        lines.begin(header);
-        self.tally.count();
     }
 
     /// A value of a block's outputs, the elements of all of them counted from 1.
@@ -253,13 +241,11 @@ impl Store {
         ensures room { length self.new.room ≡ length self.old.room }
     {
         frame.well_formed();
-        match frame.seat(block).kind {
-            Kind::Sensor => {
-                self.ins[0] = self.sense(frame, inputs, block)?;
-                Some(1)
-            }
-            _ => Some(self.gather(frame, block)),
+        if frame.seat(block).kind.is_sensor() {
+            self.ins[0] = self.sense(frame, inputs, block)?;
+            return Some(1);
         }
+        Some(self.gather(frame, block))
     }
 
     // The values on all inputs of a block.
@@ -278,23 +264,23 @@ impl Store {
 
     /// Gives an active block its values; or the word that says why it has none.
     #[inline(always)]
-    pub fn evaluate(
+    pub fn evaluate<B: Bank>(
         &mut self,
         frame: &Frame,
-        lib: &mut Library,
+        lib: &mut Library<B>,
         inputs: &Inputs,
         block: u32,
         mask: u64,
     ) -> Option<StopWord>
         requires store { IsStore frame.now self.old }
-        requires seated { AreSeated frame.now (⟦<Library as Banks>⟧.banks lib.old) }
+        requires seated { AreSeated frame.now lib.old }
         requires block { IsBlock frame.now.net block }
         requires mask { IsMask (spec_of frame.now.net block) mask }
         requires values { AreInRange frame.now.net (values_at frame.now.net self.old.values) }
         requires columns { AreColumns frame.now.net inputs.now }
-        ensures answer { let before = ⟦<Library as Banks>⟧.banks lib.old in IsEvaluated frame.now before (⟦<Library as Banks>⟧.banks lib.new) self.old self.new block mask (given frame.now inputs.now before self.old block mask) result }
+        ensures answer { let before = lib.old in IsEvaluated frame.now before lib.new self.old self.new block mask (given frame.now inputs.now before self.old block mask) result }
         ensures store { IsStore frame.now self.new }
-        ensures seated { AreSeated frame.now (⟦<Library as Banks>⟧.banks lib.new) }
+        ensures seated { AreSeated frame.now lib.new }
         ensures values { AreInRange frame.now.net (values_at frame.now.net self.new.values) }
     {
         frame.well_formed();
@@ -316,60 +302,110 @@ impl Store {
         None
     }
 
-    // Writes the lines of the values of a block.
+    // Whether values are shown: none is asked, or the one that is asked is active.
     #[inline(always)]
-    fn write_block<S: Sink>(
+    fn is_shown(&self, show: &Show) -> bool
+        requires { IsShowOf self.now show.now }
+        ensures { result ≡ is_shown self.now.marks show.now }
+    {
+        match show.asked {
+            None => true,
+            Some(block) => self.is_active(block),
+        }
+    }
+
+    // Writes the lines of values that are shown in one piece.
+    #[inline(always)]
+    fn write_show<S: Sink>(
         &mut self,
         frame: &Frame,
-        block: u32,
+        show: &Show,
         lines: &mut Lines,
         out: &mut S,
     ) -> Result<(), Failed>
         requires store { IsStore frame.now self.old }
-        requires block { IsBlock frame.now.net block }
-        ensures written { Writes (paged (S.state out.old) lines.old) (paged (S.state out.new) lines.new) (text (outputs_seen block 1 (spec_of frame.now.net block).outs (values_at frame.now.net self.old.values block))) result }
-        ensures counted { OnOk result (self.new ≡ tallied self.old (outputs_seen block 1 (spec_of frame.now.net block).outs (values_at frame.now.net self.old.values block))) }
+        requires show { IsShowOf self.old show.now }
+        ensures written { Writes (paged (S.state out.old) lines.old) (paged (S.state out.new) lines.new) (lines_of frame.now self.old show.now) result }
+        ensures counted { OnOk result (self.new ≡ tallied_values self.old (between self.old.values show.now.start show.now.end)) }
         ensures same { self.new ≡ record self.old { lines = self.new.lines; sum = self.new.sum } }
         ensures emptied { OnErr result (lines.new ≡ []) }
     {
         frame.well_formed();
-        let place = place(frame, block);
-        for element in 0..place.len {
-            let at = place.start + element;
-            let value = self.values[at];
-            lines.put(frame.head(at), value, out)?;
-            self.tally.count_value(value);
-        }
+        let values = &self.values[show.start..show.end];
+        lines.put_all(frame.heads(show.start, show.end), values, out)?;
+        self.tally.count_values(values);
         Ok(())
     }
 
-    /// Writes the values of the active ones of these blocks, by block, port and element, behind what waits among the lines; then no line waits.
-    pub fn write_values<S: Sink>(
+    // Writes the values of the active blocks of a row, by block, port and element, behind what waits among the lines; then no line waits.
+    fn write_values<S: Sink>(
         &mut self,
         frame: &Frame,
-        blocks: &[u32],
+        row: &Row,
         lines: &mut Lines,
         out: &mut S,
     ) -> Result<(), Failed>
         requires store { IsStore frame.now self.old }
-        requires blocks { AreBlocksByNumber frame.now.net blocks.now }
-        ensures written { (s : Source) (y : Signals) (active : Activity) → ShowsValues frame.now s self.old y active → AreAmong frame.now.net active blocks.now → Writes (paged (S.state out.old) lines.old) (S.state out.new) (text (blocks_seen 1 frame.now.net.specs y active)) result }
-        ensures counted { OnOk result ((s : Source) (y : Signals) (active : Activity) → ShowsValues frame.now s self.old y active → AreAmong frame.now.net active blocks.now → self.new ≡ tallied self.old (blocks_seen 1 frame.now.net.specs y active)) }
+        requires row { IsReadyRow frame.now row.now }
+        requires begun { KeepsBegun frame.now row.now self.old }
+        ensures written { (s : Source) (y : Signals) (active : Activity) → ShowsValues frame.now s self.old y active → AreAmong frame.now.net active row.now.blocks → Writes (paged (S.state out.old) lines.old) (S.state out.new) (text (blocks_seen 1 frame.now.net.specs y active)) result }
+        ensures counted { OnOk result ((s : Source) (y : Signals) (active : Activity) → ShowsValues frame.now s self.old y active → AreAmong frame.now.net active row.now.blocks → self.new ≡ tallied self.old (blocks_seen 1 frame.now.net.specs y active)) }
         ensures same { self.new ≡ record self.old { lines = self.new.lines; sum = self.new.sum } }
         ensures empty { lines.new ≡ [] }
     {
-        for block in blocks {
-            if self.is_active(*block) {
-                self.write_block(frame, *block, lines, out)?;
+        frame.well_formed();
+        for show in &row.shows {
+            if self.is_shown(show) {
+                self.write_show(frame, show, lines, out)?;
             }
         }
         lines.give(out)
     }
 
-    /// After how many ticks an activation output of an active block fires next, on the values that go in; -1 where nothing is programmed.
-    pub fn delay(&mut self, frame: &Frame, lib: &Library, block: u32, port: u32) -> i64
+    // Counts the values of the active blocks of a row, which nobody reads.
+    fn count_values(&mut self, row: &Row)
+        requires { All (IsShowOf self.old) row.now.shows }
+        ensures { self.new ≡ tallied_values self.old (shown_values self.old row.now.shows) }
+    {
+        for show in &row.shows {
+            if self.is_shown(show) {
+                self.tally.count_values(&self.values[show.start..show.end]);
+            }
+        }
+    }
+
+    /// Writes the line of a reaction's source, and behind it those of the values of the active blocks of its row, by block, port and element. Where
+    /// the sink takes them unseen, they are counted alone.
+    pub fn write_reaction<S: Sink>(
+        &mut self,
+        frame: &Frame,
+        row: &Row,
+        header: &Obs,
+        lines: &mut Lines,
+        out: &mut S,
+    ) -> Result<(), Failed>
         requires store { IsStore frame.now self.old }
-        requires seated { AreSeated frame.now (⟦<Library as Banks>⟧.banks lib.now) }
+        requires row { IsReadyRow frame.now row.now }
+        requires begun { KeepsBegun frame.now row.now self.old }
+        requires header { IsHeader header.now }
+        ensures written { (s : Source) (y : Signals) (active : Activity) → ShowsValues frame.now s self.old y active → AreAmong frame.now.net active row.now.blocks → Writes (S.state out.old) (S.state out.new) (text (header.now ∷ blocks_seen 1 frame.now.net.specs y active)) result }
+        ensures counted { OnOk result ((s : Source) (y : Signals) (active : Activity) → ShowsValues frame.now s self.old y active → AreAmong frame.now.net active row.now.blocks → self.new ≡ tallied self.old (header.now ∷ blocks_seen 1 frame.now.net.specs y active)) }
+        ensures same { self.new ≡ record self.old { lines = self.new.lines; sum = self.new.sum } }
+    {
+        frame.well_formed();
+        self.tally.count();
+        if out.take_unseen() {
+            self.count_values(row);
+            return Ok(());
+        }
+        lines.begin(header);
+        self.write_values(frame, row, lines, out)
+    }
+
+    /// After how many ticks an activation output of an active block fires next, on the values that go in; -1 where nothing is programmed.
+    pub fn delay<B: Bank>(&mut self, frame: &Frame, lib: &Library<B>, block: u32, port: u32) -> i64
+        requires store { IsStore frame.now self.old }
+        requires seated { AreSeated frame.now lib.now }
         requires block { IsBlock frame.now.net block }
         requires delayed { has_delay (spec_of frame.now.net block).kind ≡ true }
         requires active { (mark_at self.old.marks block).active ≡ true }
@@ -387,14 +423,14 @@ impl Store {
 
     // An active block steps its state, where its kind has one.
     #[inline(always)]
-    fn update_state(&mut self, frame: &Frame, lib: &mut Library, block: u32)
+    fn update_state<B: Bank>(&mut self, frame: &Frame, lib: &mut Library<B>, block: u32)
         requires store { IsStore frame.now self.old }
-        requires seated { AreSeated frame.now (⟦<Library as Banks>⟧.banks lib.old) }
+        requires seated { AreSeated frame.now lib.old }
         requires block { IsBlock frame.now.net block }
         requires values { AreInRange frame.now.net (values_at frame.now.net self.old.values) }
         requires mask { IsMask (spec_of frame.now.net block) (mark_at self.old.marks block).mask }
-        requires state { IsState (spec_of frame.now.net block) (state_of frame.now (⟦<Library as Banks>⟧.banks lib.old) block) }
-        ensures { IsStateStepped frame.now block self.old self.new (⟦<Library as Banks>⟧.banks lib.old) (⟦<Library as Banks>⟧.banks lib.new) }
+        requires state { IsState (spec_of frame.now.net block) (state_of frame.now lib.old block) }
+        ensures { IsStateStepped frame.now block self.old self.new lib.old lib.new }
     {
         frame.well_formed();
         let seat = frame.seat(block);
@@ -420,44 +456,124 @@ impl Store {
 
     // An active block steps its state; a sensor goes on in its column.
     #[inline(always)]
-    fn update(&mut self, frame: &Frame, lib: &mut Library, inputs: &Inputs, block: u32)
+    fn update<B: Bank>(&mut self, frame: &Frame, lib: &mut Library<B>, inputs: &Inputs, block: u32)
         requires store { IsStore frame.now self.old }
-        requires seated { AreSeated frame.now (⟦<Library as Banks>⟧.banks lib.old) }
+        requires seated { AreSeated frame.now lib.old }
         requires block { IsBlock frame.now.net block }
         requires values { AreInRange frame.now.net (values_at frame.now.net self.old.values) }
         requires mask { IsMask (spec_of frame.now.net block) (mark_at self.old.marks block).mask }
         requires sensed { is_sensor (spec_of frame.now.net block).kind ≡ true → IsSome (next_value inputs.now (spec_of frame.now.net block) (cursor_at self.old block)) }
-        requires state { IsState (spec_of frame.now.net block) (state_of frame.now (⟦<Library as Banks>⟧.banks lib.old) block) }
-        ensures { IsBlockStepped frame.now block self.old self.new (⟦<Library as Banks>⟧.banks lib.old) (⟦<Library as Banks>⟧.banks lib.new) }
+        requires state { IsState (spec_of frame.now.net block) (state_of frame.now lib.old block) }
+        ensures { IsBlockStepped frame.now block self.old self.new lib.old lib.new }
     {
         frame.well_formed();
         let seat = frame.seat(block);
-        match seat.kind {
-            Kind::Sensor => self.go_on(frame, inputs, block),
-            _ => self.update_state(frame, lib, block),
+        if seat.kind.is_sensor() {
+            self.go_on(frame, inputs, block);
+        } else {
+            self.update_state(frame, lib, block);
         }
     }
 
-    /// The active ones of these blocks step their states, and sensors go on in their columns. Blocks that have neither may be left out.
-    pub fn update_all(&mut self, frame: &Frame, blocks: &[u32], lib: &mut Library, inputs: &Inputs)
+    // Puts the calls of the active ones in front of the chosen, each on the activation inputs that are activated. The answer is how many they are.
+    fn choose_active(&mut self, calls: &[Call]) -> usize
+        requires blocks { All (λ c. (1 ≤ c.block) × (c.block ≤ length self.old.marks)) calls.now }
+        requires room { length calls.now ≤ length self.old.chosen }
+        ensures chosen { take result self.new.chosen ≡ active_calls self.old.marks calls.now }
+        ensures count { result ≤ length self.new.chosen }
+        ensures long { length self.new.chosen ≡ length self.old.chosen }
+        ensures rest { self.new ≡ record self.old { chosen = self.new.chosen } }
+    {
+        let mut count = 0;
+        for call in calls {
+            let mark = self.marks[call.block as usize - 1];
+            if mark.active {
+                self.chosen[count] = Call {
+                    mask: mark.mask,
+                    ..*call
+                };
+                count += 1;
+            }
+        }
+        count
+    }
+
+    // The active blocks of some calls step their states one after the other, or go on in their columns.
+    fn update_alone<B: Bank>(
+        &mut self,
+        frame: &Frame,
+        lib: &mut Library<B>,
+        inputs: &Inputs,
+        calls: &[Call],
+    )
         requires store { IsStore frame.now self.old }
-        requires seated { AreSeated frame.now (⟦<Library as Banks>⟧.banks lib.old) }
-        requires blocks { AreBlocksByNumber frame.now.net blocks.now }
-        requires values { AreInRange frame.now.net (values_at frame.now.net self.old.values) }
-        requires masks { (b : ℕ) → IsBlock frame.now.net b → (mark_at self.old.marks b).active ≡ true → IsMask (spec_of frame.now.net b) (mark_at self.old.marks b).mask }
-        requires sensed { (b : ℕ) → IsBlock frame.now.net b → (mark_at self.old.marks b).active ≡ true → is_sensor (spec_of frame.now.net b).kind ≡ true → IsSome (next_value inputs.now (spec_of frame.now.net b) (cursor_at self.old b)) }
-        requires states { (b : ℕ) → IsBlock frame.now.net b → IsState (spec_of frame.now.net b) (state_of frame.now (⟦<Library as Banks>⟧.banks lib.old) b) }
-        ensures stepped { (s : Source) (m : Memory) (y : Signals) (active : Activity) → IsActivity frame.now.net s y active → ShowsValues frame.now s self.old y active → AreAmong frame.now.net (active_of_kinds frame.now.net remembers active) blocks.now → ShowsBefore frame.now self.old (⟦<Library as Banks>⟧.banks lib.old) m → IsMemory frame.now.net m → IsStepped frame.now s m y self.new (⟦<Library as Banks>⟧.banks lib.new) }
-        ensures values { KeepsValues self.old self.new }
-        ensures store { IsStore frame.now self.new }
-        ensures seated { AreSeated frame.now (⟦<Library as Banks>⟧.banks lib.new) }
-        ensures counts { AreAlikeCounts (⟦<Library as Banks>⟧.banks lib.old) (⟦<Library as Banks>⟧.banks lib.new) }
+        requires seated { AreSeated frame.now lib.old }
+        requires calls { AreCalledOnce frame.now calls.now }
+        requires may_step { MayStepAmong frame.now inputs.now (called_blocks calls.now) self.old lib.old }
+        ensures { AreStepped frame.now (called_blocks calls.now) self.old self.new lib.old lib.new }
+    {
+        for call in calls {
+            if self.is_active(call.block) {
+                self.update(frame, lib, inputs, call.block);
+            }
+        }
+    }
+
+    // The active blocks of a run step their states, or go on in their columns.
+    #[inline(always)]
+    fn update_run<B: Bank>(
+        &mut self,
+        frame: &Frame,
+        lib: &mut Library<B>,
+        inputs: &Inputs,
+        row: &Row,
+        run: &Run,
+    )
+        requires store { IsStore frame.now self.old }
+        requires seated { AreSeated frame.now lib.old }
+        requires row { IsReadyRow frame.now row.now }
+        requires begun { KeepsBegun frame.now row.now self.old }
+        requires run { Contains row.now.state_runs run.now }
+        requires may_step { MayStepAmong frame.now inputs.now (called_blocks (state_calls_in row.now run.now)) self.old lib.old }
+        ensures { AreStepped frame.now (called_blocks (state_calls_in row.now run.now)) self.old self.new lib.old lib.new }
     {
         frame.well_formed();
-        for block in blocks {
-            if self.is_active(*block) {
-                self.update(frame, lib, inputs, *block);
-            }
+        let calls = &row.states.calls[run.start..run.end];
+        if !run.together {
+            return self.update_alone(frame, lib, inputs, calls);
+        }
+        let places = frame.places.blocks();
+        if !run.guarded {
+            return lib.update_run(run.kind, calls, places, &self.values);
+        }
+        let count = self.choose_active(calls);
+        if count > 0 {
+            lib.update_run(run.kind, &self.chosen[..count], places, &self.values);
+        }
+    }
+
+    /// The active blocks of a row step their states, and sensors go on in their columns.
+    pub fn update_all<B: Bank>(
+        &mut self,
+        frame: &Frame,
+        row: &Row,
+        lib: &mut Library<B>,
+        inputs: &Inputs,
+    )
+        requires store { IsStore frame.now self.old }
+        requires seated { AreSeated frame.now lib.old }
+        requires row { IsReadyRow frame.now row.now }
+        requires begun { KeepsBegun frame.now row.now self.old }
+        requires may_step { MayStep frame.now inputs.now self.old lib.old }
+        ensures stepped { (s : Source) (m : Memory) (y : Signals) (active : Activity) → IsActivity frame.now.net s y active → ShowsValues frame.now s self.old y active → AreAmong frame.now.net active row.now.blocks → ShowsBefore frame.now self.old lib.old m → IsMemory frame.now.net m → IsStepped frame.now s m y self.new lib.new }
+        ensures values { KeepsValues self.old self.new }
+        ensures store { IsStore frame.now self.new }
+        ensures seated { AreSeated frame.now lib.new }
+        ensures counts { AreAlikeCounts lib.old lib.new }
+    {
+        frame.well_formed();
+        for run in &row.states.runs {
+            self.update_run(frame, lib, inputs, row, run);
         }
     }
 

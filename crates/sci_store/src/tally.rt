@@ -1,6 +1,6 @@
 // What is counted of a run.
-ghost use Rattle.std.specs.Prelude.{◌≡◌};
-ghost use Rattle.sci_store.specs.Tally.{lines_after, sum_after};
+ghost use Rattle.std.specs.Prelude.{◌≡◌, length};
+ghost use Rattle.sci_store.specs.Tally.{lines_after, sum_with};
 
 /// Counts of the observations of a run.
 #[derive(Clone, Copy, Debug, Drop, PartialEq, Eq)]
@@ -12,7 +12,7 @@ pub struct Tally {
 }
 
 impl Tally {
-    ghost use Rattle.sci_store.specs.Tally.{lines_after, sum_after};
+    ghost use Rattle.sci_store.specs.Tally.{lines_after, sum_with};
 
     /// Nothing was observed.
     pub fn new() -> Tally
@@ -30,12 +30,17 @@ impl Tally {
         self.lines = self.lines.saturating_add(1);
     }
 
-    /// Counts a value.
-    pub fn count_value(&mut self, value: i64)
-        ensures lines { self.new.lines ≡ lines_after self.old.lines 1 }
-        ensures sum { self.new.sum ≡ sum_after self.old.sum value }
+    /// Counts values.
+    #[inline(always)]
+    pub fn count_values(&mut self, values: &[i64])
+        ensures lines { self.new.lines ≡ lines_after self.old.lines (length values.now) }
+        ensures sum { self.new.sum ≡ sum_with self.old.sum values.now }
     {
-        self.lines = self.lines.saturating_add(1);
-        self.sum = self.sum.wrapping_add(value.rem_euclid(4294967296) as u32);
+        let mut sum = self.sum;
+        for value in values {
+            sum = sum.wrapping_add(value.rem_euclid(4294967296) as u32);
+        }
+        self.sum = sum;
+        self.lines = self.lines.saturating_add(values.len() as u64);
     }
 }

@@ -1,6 +1,5 @@
 -- What changes at a tick, part by part.
-use Rattle.std.proofs.Common.{◌≡◌, ℕ, suc, ◌+◌, ◌-◌, ◌<◌, ◌≤◌, ℤ, pos, List, [], ◌∷◌, ◌++◌, take, drop, length, get_or, Bool, true, false, refl, sym, ap, ◌∙◌, subst, arith, append_assoc, append-nil, length-append, length-drop}
-use Rattle.std.specs.Prelude.{if◌then◌else◌}
+use Rattle.std.proofs.Common.{◌≡◌, ℕ, suc, ◌+◌, ◌-◌, ◌<◌, ◌≤◌, ℤ, List, [], ◌∷◌, ◌++◌, take, drop, length, get_or, true, false, refl, sym, ap, ◌∙◌, subst, arith, append_assoc, append-nil, length-drop}
 use Rattle.std.proofs.Math.Seq.{take-add, take-length}
 use Rattle.std.proofs.lemmas.List.{get_or-take, get_or-drop, drop_more, length-take, drop-drop}
 use Rattle.sci_base.specs.Fit.{int_eq}
@@ -10,7 +9,7 @@ use Rattle.sci_vcd.specs.Waveforms.{type_of}
 use Rattle.sci_vcd.specs.Spelling.{change_lines, next_tick, value_line}
 use Rattle.sci_vcd.specs.Machine.{change_by}
 use Rattle.sci_vcd.specs.Writing.{change_here, changes_at, changes_within, told_behind}
-use Rattle.sci_vcd.proofs.Differing.{same_by, same_self}
+use Rattle.sci_vcd.proofs.Differing.{same_self}
 
 -- ---- one signal
 

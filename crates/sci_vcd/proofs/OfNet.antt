@@ -1,6 +1,6 @@
 -- The signals of a net are those of a dump.
-use Rattle.std.proofs.Common.{◌≡◌, ℕ, zero, suc, ◌+◌, ◌-◌, ◌*◌, ◌<◌, ◌≤◌, List, [], ◌∷◌, ◌++◌, take, drop, length, get_or, All, Bool, true, false, ◌⊎◌, inl, inr, refl, sym, ap, ◌∙◌, subst, arith, append_assoc, append-nil, length-append, lit≤}
-use Rattle.std.specs.Prelude.{◌&&◌, ◌||◌, nat_eq, nat_lt, nat_le}
+use Rattle.std.proofs.Common.{◌≡◌, ℕ, zero, suc, ◌+◌, ◌-◌, ◌<◌, ◌≤◌, List, [], ◌∷◌, ◌++◌, take, drop, length, get_or, true, ◌⊎◌, inl, inr, refl, sym, ap, ◌∙◌, subst, arith, append_assoc, append-nil, length-append, lit≤}
+use Rattle.std.specs.Prelude.{◌&&◌, nat_le}
 use Rattle.std.proofs.lemmas.Bool.{and_parts, and_from, eq-eqb, lt-ltb, le-leb, leb-true, or_left, or_right, cases_lt}
 use Rattle.std.proofs.lemmas.List.{length_push, get_or_push, get_or_default, drop_more}
 use Rattle.std.proofs.lemmas.List.{get_or_append_left}
@@ -9,15 +9,15 @@ use Rattle.sci_forms.specs.declared.Kind.{Kind}
 use Rattle.sci_forms.specs.declared.Kind.TheVariants.{Const}
 use Rattle.sci_forms.specs.declared.ports.Port.{Port}
 use Rattle.sci_forms.specs.declared.spec.Spec.{Spec}
-use Rattle.sci_forms.specs.Forms.{counts_of, all_to}
+use Rattle.sci_forms.specs.Forms.{counts_of}
 use Rattle.sci_forms.specs.Ports.{elements, total, type_of, no_port, port_at}
 use Rattle.sci_forms.specs.Typed.{typed, formed_of, known_of, known_out}
 use Rattle.sci_forms.proofs.TestLemmas.{all_to_at}
-use Rattle.sci_net.specs.Parts.{Parts, IsBlock, spec_of, no_spec, numbered}
+use Rattle.sci_net.specs.Parts.{Parts, spec_of, no_spec}
 use Rattle.sci_net.specs.Net.{IsNet, all_elements}
 use Rattle.sci_net.proofs.Numbered.{numbered_next}
 use Rattle.sci_vcd.specs.declared.signal.Signal.{Signal}
-use Rattle.sci_vcd.specs.Waveforms.{Each, Joins, AreSignals, rises, precedes, is_within, no_signal}
+use Rattle.sci_vcd.specs.Waveforms.{Each, Joins, rises, precedes, no_signal}
 use Rattle.sci_vcd.specs.Reading.{signal_by}
 use Rattle.sci_vcd.specs.Signals.{element_signals, output_signals, block_signals, signals_of, before_block, AreSmall}
 use Rattle.sci_vcd.specs.Laws.{NetSignals}

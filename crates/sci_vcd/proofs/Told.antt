@@ -1,17 +1,17 @@
 -- What is written tick by tick is a dump.
-use Rattle.std.proofs.Common.{◌≡◌, ◌≢◌, ℕ, zero, suc, ◌+◌, ◌-◌, ◌^◌, ◌<◌, ◌≤◌, ℤ, pos, List, [], ◌∷◌, ◌++◌, length, get_or, Bool, true, false, cond, ◌⊎◌, inl, inr, refl, sym, ap, ◌∙◌, subst, arith, append_assoc, append-nil}
-use Rattle.std.specs.Prelude.{Option, Some, None, filter, nat_eq, nat_lt, nat_le, ◌&&◌, ◌||◌, if◌then◌else◌}
-use Rattle.std.proofs.lemmas.Bool.{cases_Bool, cases_lt, and_from, eq-eqb, ne_eqb, lt-ltb, le-ltb, ltb-true, ltb-false, le-leb, lt-leb, eqb-true, or_left, or_right, and_parts, cond-true, cond-false}
+use Rattle.std.proofs.Common.{◌≡◌, ℕ, zero, suc, ◌+◌, ◌-◌, ◌^◌, ◌<◌, ◌≤◌, ℤ, pos, List, [], ◌∷◌, ◌++◌, length, get_or, Bool, true, false, ◌⊎◌, inl, inr, refl, sym, ap, ◌∙◌, subst, arith, append_assoc, append-nil}
+use Rattle.std.specs.Prelude.{Option, Some, None, nat_eq, nat_lt, nat_le, ◌&&◌, ◌||◌, if◌then◌else◌}
+use Rattle.std.proofs.lemmas.Bool.{cases_Bool, cases_lt, and_from, eq-eqb, ne_eqb, lt-ltb, le-ltb, ltb-true, le-leb, lt-leb, eqb-true, or_left, or_right, and_parts, cond-true, cond-false}
 use Rattle.std.proofs.lemmas.List.Elements.{filter-append}
 use Rattle.std.proofs.lemmas.List.{length_push}
 use Rattle.sci_base.specs.Fit.{in_range, int_eq}
 use Rattle.sci_vcd.specs.declared.signal.Signal.{Signal}
 use Rattle.sci_vcd.specs.declared.signal.Change.{Change}
-use Rattle.sci_vcd.specs.Waveforms.{Waveforms, Each, counts, type_of, Begins, AreValues, first_of, is_later, outset_of, last_from, last_of, value_behind, Follows, AreChanges, IsDump, up_to, value_at}
+use Rattle.sci_vcd.specs.Waveforms.{Waveforms, Each, type_of, Begins, AreValues, first_of, is_later, outset_of, last_from, last_of, value_behind, Follows, up_to, value_at}
 use Rattle.sci_text.specs.Lines.{joined}
-use Rattle.sci_vcd.specs.Spelling.{change_lines, next_tick, tick_line, value_line, head_part, lines_of, spelling}
-use Rattle.sci_vcd.specs.Machine.{value_now, last_change, change_by}
-use Rattle.sci_vcd.specs.Writing.{Writing, IsWriting, AreOf, MayClose, change_here, changes_at, told_behind, lines_behind, tick_text, closed_at, text_of, IsTold, HasTold, told_at, told_value, IsTickTold}
+use Rattle.sci_vcd.specs.Spelling.{change_lines, value_line, head_part, lines_of, spelling}
+use Rattle.sci_vcd.specs.Machine.{last_change, change_by}
+use Rattle.sci_vcd.specs.Writing.{Writing, IsWriting, AreOf, MayClose, change_here, changes_at, told_behind, lines_behind, IsTold, IsTickTold}
 use Rattle.sci_vcd.specs.Laws.{WrittenIsDump}
 use Rattle.sci_vcd.proofs.Differing.{same_by, same_self}
 use Rattle.sci_text.proofs.Splits.{joined-append}

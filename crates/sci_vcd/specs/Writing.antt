@@ -1,5 +1,5 @@
 -- Writing a dump tick by tick, from values that are noted on the way.
-use Rattle.std.specs.Prelude.{◌≡◌, ℕ, ◌+◌, ◌-◌, ◌*◌, ◌/◌, min, ◌<◌, ◌≤◌, ◌^◌, ℤ, pos, List, [], ◌∷◌, ◌++◌, take, drop, length, slice_set, slice_index_or, Option, Some, None, Bool, true, false, nat_lt, if◌then◌else◌}
+use Rattle.std.specs.Prelude.{◌≡◌, ℕ, ◌+◌, ◌-◌, ◌*◌, ◌/◌, min, ◌<◌, ◌≤◌, ℤ, pos, List, [], ◌∷◌, ◌++◌, take, drop, length, slice_set, slice_index_or, Option, Some, None, Bool, true, false, nat_lt, if◌then◌else◌}
 use Rattle.sci_base.specs.Fit.{in_range, int_eq}
 use Rattle.sci_net.specs.Parts.{Parts}
 use Rattle.sci_vcd.specs.declared.signal.Signal.{Signal}

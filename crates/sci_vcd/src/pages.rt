@@ -1,6 +1,6 @@
 // Old and new values of all signals, by pages of 64 of which some are marked: those of the others are the same.
 
-ghost use Rattle.std.specs.Prelude.{◌≡◌, ◌≤◌, ◌<◌, ◌*◌, ◌+◌, min, length, IfOk};
+ghost use Rattle.std.specs.Prelude.{◌≡◌, ◌≤◌, ◌<◌, ◌*◌, ◌+◌, min, length, IfOk, All, false};
 ghost use Rattle.sci_io.specs.Taken.{Writes};
 ghost use Rattle.sci_text.specs.Lines.{joined};
 ghost use Rattle.sci_vcd.specs.Spelling.{change_lines};
@@ -113,6 +113,7 @@ pub fn settle(old: &mut [i64], new: &[i64], marked: &mut [bool])
     requires marked { AreMarked old.old new.now marked.old }
     ensures old { old.new ≡ new.now }
     ensures marked { length marked.new ≡ length marked.old }
+    ensures unmarked { All (λ m. m ≡ false) marked.new }
 {
     for page in 0..marked.len() {
         if marked[page] {

@@ -1,6 +1,6 @@
 -- A tree has at most one flat net.
 use Rattle.std.proofs.Common.{◌≡◌, ℕ, zero, suc, ◌<◌, List, [], ◌∷◌, length, map, refl, sym, ◌∙◌, ap, subst, arith, inl, inr, ◌⊎◌, true, pos}
-use Rattle.std.specs.Prelude.{Ok, Err, Contains, slice_index_or, nat_lt, nat_eq, ◌&&◌}
+use Rattle.std.specs.Prelude.{Ok, Contains, slice_index_or, nat_lt, nat_eq, ◌&&◌}
 use Rattle.sci_diagram.specs.Objects.{Objects}
 use Rattle.sci_forms.specs.declared.spec.Spec.{Spec}
 use Rattle.sci_forms.proofs.TestLemmas.{both_true, either_true, nat_lt_told, nat_same}

@@ -1,12 +1,12 @@
 -- Values of blocks that are noted one after another.
-use Rattle.std.proofs.Common.{◌≡◌, ◌≢◌, ℕ, zero, suc, ◌+◌, ◌-◌, ◌<◌, ◌≤◌, ℤ, pos, List, [], ◌∷◌, ◌++◌, take, drop, length, get_or, set, Bool, true, false, cond, ◌⊎◌, inl, inr, refl, sym, ap, ◌∙◌, subst, arith, append_assoc, length-append}
+use Rattle.std.proofs.Common.{◌≡◌, ◌≢◌, ℕ, zero, suc, ◌+◌, ◌-◌, ◌<◌, ◌≤◌, ℤ, pos, List, [], ◌∷◌, ◌++◌, take, drop, length, get_or, set, Bool, true, false, ◌⊎◌, inl, inr, refl, sym, ap, ◌∙◌, subst, arith, append_assoc, length-append}
 use Rattle.std.specs.Prelude.{nat_eq, nat_lt, if◌then◌else◌, Contains, ◌↔◌}
 use Rattle.std.proofs.lemmas.Bool.{cases_lt, cond-true, cond-false, lt-ltb, le-ltb, cases_Bool, eqb-true, eqb-false}
-use Rattle.std.proofs.lemmas.List.{set_at, drop_more, take_more, length-take, length_push, get_or_push, get_or_append_left, take_all, take-append-drop, get_or_default}
+use Rattle.std.proofs.lemmas.List.{set_at, drop_more, take_more, length-take, get_or_push, get_or_append_left, take_all, take-append-drop, get_or_default}
 use Rattle.std.proofs.lemmas.List.Elements.{Contains-get_or}
 use Rattle.std.proofs.Math.Seq.{get_or-append_right}
 use Rattle.sci_base.specs.declared.Ty.{Ty}
-use Rattle.sci_base.specs.Fit.{InRange, in_range}
+use Rattle.sci_base.specs.Fit.{in_range}
 use Rattle.sci_base.specs.Lists.{at}
 use Rattle.sci_base.proofs.FitLemmas.{in_range_yes}
 use Rattle.sci_forms.specs.declared.ports.Port.{Port}
@@ -15,13 +15,14 @@ use Rattle.sci_forms.specs.Ports.{elements, total, type_of, type_at, Fills}
 use Rattle.sci_net.specs.Parts.{Parts, IsBlock, spec_of, no_spec}
 use Rattle.sci_net.specs.Net.{IsNet, all_elements}
 use Rattle.sci_net.proofs.Numbered.{numbered_next}
-use Rattle.sci_places.specs.Flat.{start_in, start_of, values_at, IsWhole, overwritten}
+use Rattle.sci_places.specs.Flat.{start_in, start_of, values_at, IsWhole}
+use Rattle.sci_span.specs.Values.{overwritten}
 use Rattle.sci_places.proofs.Outputs.{outputs_law, block_within}
-use Rattle.sci_places.proofs.Lists.{read_length}
+use Rattle.sci_span.proofs.Runs.{read_length}
 use Rattle.sci_vcd.specs.declared.signal.Signal.{Signal}
-use Rattle.sci_vcd.specs.Waveforms.{no_signal, type_of as signal_type, first_of}
+use Rattle.sci_vcd.specs.Waveforms.{no_signal, type_of as signal_type}
 use Rattle.sci_vcd.specs.Reading.{signal_by}
-use Rattle.sci_vcd.specs.Signals.{element_signals, output_signals, block_signals, signals_of, before_block, number_of, AreStarts}
+use Rattle.sci_vcd.specs.Signals.{element_signals, output_signals, block_signals, signals_of, before_block}
 use Rattle.sci_vcd.specs.Writing.{Writing, IsWriting, with_note, closed_at}
 use Rattle.sci_wave.specs.Following.{moved_to}
 use Rattle.sci_vcd.proofs.OfNet.{element_signals_length, output_signals_length, all_elements_next, net_signals}

@@ -1,8 +1,8 @@
 -- A dump that has followed a run up to a reaction may be completed: the run goes on, and so does the dump.
-use Rattle.std.proofs.Common.{◌≡◌, ℕ, zero, suc, ◌+◌, ◌-◌, ◌^◌, ◌<◌, ◌≤◌, ℤ, pos, List, [], ◌∷◌, ◌++◌, take, drop, length, get_or, Bool, true, false, inl, inr, refl, sym, ap, ◌∙◌, subst, arith, append-nil, append_assoc, length-append}
-use Rattle.std.specs.Prelude.{Option, Some, None, nat_eq, if◌then◌else◌}
+use Rattle.std.proofs.Common.{◌≡◌, ℕ, zero, suc, ◌+◌, ◌-◌, ◌^◌, ◌<◌, ◌≤◌, ℤ, pos, List, [], ◌∷◌, ◌++◌, take, drop, length, get_or, Bool, true, false, inl, inr, refl, sym, ap, ◌∙◌, subst, arith, append_assoc, length-append}
+use Rattle.std.specs.Prelude.{Option, nat_eq, if◌then◌else◌}
 use Rattle.std.proofs.lemmas.Bool.{cases_lt}
-use Rattle.std.proofs.lemmas.List.{take-append-le, get_or_append_left, drop-drop}
+use Rattle.std.proofs.lemmas.List.{get_or_append_left}
 use Rattle.std.proofs.Math.Seq.{get_or-append_right, drop-append-add, take-append_seam}
 use Rattle.sci_base.specs.declared.Ty.{Ty}
 use Rattle.sci_base.specs.declared.observation.Obs.{Obs}
@@ -18,7 +18,7 @@ use Rattle.sci_net.proofs.Numbered.{numbered_next}
 use Rattle.sci_places.specs.Flat.{start_in, start_of, values_at}
 use Rattle.sci_reaction.specs.Memory.{Memory, Columns, AreColumns, IsMemory}
 use Rattle.sci_run.specs.Laws.{AreLoopFree}
-use Rattle.sci_run.specs.Run.{State, taken, ReactionOutcome, Leads, StopsWith, Decision, Over, Fires, comes_next, Reacts, Stops, EndsOr, Observes, IsRunFrom, IsOutcome, Then, Reachable}
+use Rattle.sci_run.specs.Run.{State, taken, ReactionOutcome, Leads, StopsWith, Decision, Over, Fires, comes_next, Reacts, EndsOr, Observes, IsRunFrom, IsOutcome, Then}
 use Rattle.sci_pending.specs.Pending.{Event}
 use Rattle.sci_run.proofs.Ranges.{stands_in_range, now_within}
 use Rattle.sci_run.proofs.Ordered.{stands_ahead, fires_ahead}
@@ -28,12 +28,12 @@ use Rattle.sci_vcd.specs.Waveforms.{Waveforms, no_signal}
 use Rattle.sci_vcd.specs.Spelling.{spelling}
 use Rattle.sci_vcd.specs.Signals.{block_signals, output_signals, signals_of}
 use Rattle.sci_vcd.specs.Writing.{Writing, IsWriting, AreOf, text_of, told_at, tick_text, closed_at}
-use Rattle.sci_vcd.proofs.OfNet.{block_signals_length, net_signals, output_signals_length}
+use Rattle.sci_vcd.proofs.OfNet.{net_signals, output_signals_length}
 use Rattle.sci_wave.specs.History.{IsHistory, event, IsWholeHistory, ended, stopped}
 use Rattle.sci_wave.specs.RunDump.{IsRunDump}
 use Rattle.sci_wave.specs.Following.{IsFollowed, due_text, moved_to}
 use Rattle.sci_wave.proofs.Blockwise.{block_type}
-use Rattle.sci_wave.proofs.Followed.{history_reaches, whole_dump, GoesOn, goes_on}
+use Rattle.sci_wave.proofs.Followed.{history_reaches, whole_dump, goes_on}
 
 -- ---- the values of all blocks in one list
 

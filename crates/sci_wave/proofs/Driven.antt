@@ -1,6 +1,6 @@
 -- The loop that drives a run and its dump.
-use Rattle.std.proofs.Common.{◌≡◌, ℕ, ◌+◌, ◌-◌, ◌^◌, ◌<◌, ◌≤◌, ℤ, pos, List, [], ◌∷◌, ◌++◌, Bool, true, false, ◌⊎◌, inl, inr, refl, sym, ap, ◌∙◌, subst, arith, append-nil, append_assoc, Result, Ok, Err}
-use Rattle.std.specs.Prelude.{Option, Some, None, min, if◌then◌else◌}
+use Rattle.std.proofs.Common.{◌≡◌, ℕ, ◌+◌, ◌-◌, ◌^◌, ◌≤◌, List, [], ◌∷◌, ◌++◌, Bool, true, refl, sym, ap, ◌∙◌, subst, arith, append-nil, append_assoc, Result, Ok, Err}
+use Rattle.std.specs.Prelude.{Option, None, min, if◌then◌else◌}
 use Rattle.sci_base.specs.declared.observation.Obs.{Obs}
 use Rattle.sci_base.specs.declared.observation.EndWord.{EndWord}
 use Rattle.sci_base.specs.declared.observation.StopWord.{StopWord}
@@ -11,7 +11,7 @@ use Rattle.sci_net.specs.Parts.{Parts, IsBlock}
 use Rattle.sci_net.specs.Net.{IsNet}
 use Rattle.sci_net.specs.Sources.{source_of}
 use Rattle.sci_places.specs.Flat.{values_at}
-use Rattle.sci_reaction.specs.Memory.{Memory, Columns, AreColumns, first_memory}
+use Rattle.sci_reaction.specs.Memory.{Memory, Columns, AreColumns}
 use Rattle.sci_pending.specs.Pending.{Event}
 use Rattle.sci_bank.specs.Bank.{Meaning}
 use Rattle.sci_run.specs.Laws.{AreLoopFree}

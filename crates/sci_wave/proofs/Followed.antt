@@ -1,5 +1,5 @@
 -- A dump that follows a run, reaction by reaction.
-use Rattle.std.proofs.Common.{◌≡◌, ℕ, zero, suc, ◌+◌, ◌-◌, ◌^◌, ◌<◌, ◌≤◌, ℤ, pos, List, [], ◌∷◌, ◌++◌, take, drop, length, get_or, Bool, true, false, cond, ◌⊎◌, inl, inr, refl, sym, ap, ◌∙◌, subst, arith, append-nil, append_assoc}
+use Rattle.std.proofs.Common.{◌≡◌, ℕ, ◌+◌, ◌-◌, ◌^◌, ◌<◌, ◌≤◌, ℤ, pos, List, [], ◌∷◌, ◌++◌, drop, length, get_or, true, false, inl, inr, refl, sym, ap, ◌∙◌, subst, arith, append-nil}
 use Rattle.std.specs.Prelude.{Option, Some, None, nat_eq, nat_lt, nat_le, if◌then◌else◌}
 use Rattle.std.proofs.lemmas.Bool.{cases_lt, cases_Bool, cond-true, cond-false, lt-ltb, le-ltb, le-leb, lt-leb, eqb-true, eqb-false}
 use Rattle.std.proofs.lemmas.List.{get_or-take, get_or-drop}
@@ -9,15 +9,13 @@ use Rattle.sci_forms.specs.Ports.{total}
 use Rattle.sci_net.specs.declared.Source.{Source}
 use Rattle.sci_net.specs.Parts.{Parts, IsBlock, spec_of}
 use Rattle.sci_net.specs.Net.{IsNet}
-use Rattle.sci_net.specs.Sources.{source_of}
 use Rattle.sci_places.specs.Flat.{start_of, values_at}
 use Rattle.sci_reaction.specs.Memory.{Memory, Columns, first_memory}
-use Rattle.sci_pending.specs.Pending.{Event}
-use Rattle.sci_run.specs.Run.{State, first_state, taken, Fires, comes_next, Reacts, here, Reachable}
+use Rattle.sci_run.specs.Run.{State, first_state, Reacts, here, Reachable}
 use Rattle.sci_run.proofs.Finish.{further}
 use Rattle.sci_vcd.specs.Waveforms.{Waveforms, first_of, value_at}
 use Rattle.sci_vcd.specs.Spelling.{spelling}
-use Rattle.sci_vcd.specs.Signals.{before_block, number_of}
+use Rattle.sci_vcd.specs.Signals.{number_of}
 use Rattle.sci_vcd.specs.Writing.{Writing, IsWriting, MayClose, HasTold, told_at, told_value, text_of, tick_text, closed_at, IsTickTold}
 use Rattle.sci_vcd.proofs.Told.{written_is_dump}
 use Rattle.sci_wave.specs.History.{IsHistory, start, event, memory_at}

@@ -1,5 +1,5 @@
 -- A run has one dump.
-use Rattle.std.proofs.Common.{◌≡◌, ◌<◌, ◌≤◌, ◌+◌, ◌-◌, ℕ, ℤ, suc, Bool, true, false, List, [], ◌∷◌, ◌++◌, take, get_or, length, ◌⊎◌, inl, inr, refl, sym, ap, ◌∙◌, subst, arith, append_assoc}
+use Rattle.std.proofs.Common.{◌≡◌, ◌≤◌, ◌+◌, ◌-◌, ℕ, ℤ, suc, true, false, List, [], ◌∷◌, ◌++◌, take, get_or, length, inl, inr, refl, sym, ap, ◌∙◌, subst, arith, append_assoc}
 use Rattle.std.specs.Prelude.{nat_le, if◌then◌else◌}
 use Rattle.std.proofs.lemmas.Bool.{cases_lt}
 use Rattle.std.proofs.lemmas.List.{length-append}
@@ -16,19 +16,19 @@ use Rattle.sci_net.specs.Net.{IsNet, all_elements}
 use Rattle.sci_net.specs.Sources.{source_of}
 use Rattle.sci_reaction.specs.Memory.{Memory, Columns, first_memory}
 use Rattle.sci_run.specs.Observed.{stop_seen, reactions}
-use Rattle.sci_run.specs.Run.{State, first_state, Reachable, here, reacted}
-use Rattle.sci_run.specs.Finish.{Ending, ByEnd, ByStop, Finish, ended, stopped, stopped_at_start}
+use Rattle.sci_run.specs.Run.{State, Reachable, here, reacted}
+use Rattle.sci_run.specs.Finish.{ByEnd, ByStop, ended, stopped, stopped_at_start}
 use Rattle.sci_run.specs.Alike.{AreAlike}
 use Rattle.sci_run.specs.Laws.{AreLoopFree}
 use Rattle.sci_run.proofs.Reactions.{reactions_joined, stop_counted, counted}
 use Rattle.sci_run.proofs.Unique.{one_state}
 use Rattle.sci_run.proofs.OneFinish.{one_finish}
 use Rattle.sci_vcd.specs.Waveforms.{Waveforms, value_at}
-use Rattle.sci_vcd.specs.Signals.{signals_of, number_of}
+use Rattle.sci_vcd.specs.Signals.{number_of}
 use Rattle.sci_vcd.proofs.OfNet.{block_signals_length}
 use Rattle.sci_wave.specs.History as history
 use Rattle.sci_wave.specs.History.{IsHistory, IsWholeHistory, memory_at}
-use Rattle.sci_wave.specs.RunDump.{IsDumpOf, IsRunDump}
+use Rattle.sci_wave.specs.RunDump.{IsDumpOf}
 use Rattle.sci_wave.specs.Laws.{OneRunDump}
 use Rattle.sci_wave.proofs.OneWaveform.{one_waveform}
 

@@ -1,12 +1,12 @@
 -- A dump is known by its signals and by their values at all ticks.
-use Rattle.std.proofs.Common.{◌≡◌, ◌≢◌, ℕ, ◌+◌, ◌-◌, ◌<◌, ◌≤◌, ℤ, pos, List, [], ◌∷◌, ◌++◌, length, get_or, Bool, true, false, ◌⊎◌, inl, inr, refl, sym, ap, ◌∙◌, subst, arith, append_assoc}
+use Rattle.std.proofs.Common.{◌≡◌, ℕ, ◌+◌, ◌-◌, ◌<◌, ◌≤◌, ℤ, pos, List, [], ◌∷◌, ◌++◌, length, get_or, Bool, true, false, ◌⊎◌, inl, inr, refl, sym, ap, ◌∙◌, subst, arith, append_assoc}
 use Rattle.std.specs.Prelude.{nat_eq, nat_lt, nat_le, ◌&&◌, ◌||◌, if◌then◌else◌}
 use Rattle.std.proofs.lemmas.Bool.{cases_order, ne_eqb, eq-eqb, ltb-true, eqb-true, leb-true, le-leb, lt-leb, and_parts, cond-true, cond-false}
 use Rattle.std.proofs.lemmas.List.Elements.{filter-append}
 use Rattle.std.proofs.lemmas.List.{ext_get_or}
 use Rattle.sci_vcd.specs.declared.signal.Signal.{Signal}
 use Rattle.sci_vcd.specs.declared.signal.Change.{Change}
-use Rattle.sci_vcd.specs.Waveforms.{Waveforms, Each, counts, first_of, is_later, outset_of, last_of, value_behind, Follows, AreChanges, IsDump, up_to, value_at}
+use Rattle.sci_vcd.specs.Waveforms.{Waveforms, Each, first_of, is_later, outset_of, last_of, value_behind, Follows, AreChanges, IsDump, up_to, value_at}
 use Rattle.sci_vcd.specs.Machine.{change_by}
 use Rattle.sci_vcd.proofs.Eachs.{last_push}
 

@@ -2,7 +2,8 @@
 use Rattle.std.specs.Prelude.{◌≡◌, ℕ, ℤ, List}
 use Rattle.sci_forms.specs.Ports.{Fills}
 use Rattle.sci_net.specs.Parts.{Parts, IsBlock, spec_of}
-use Rattle.sci_places.specs.Flat.{start_of, values_at, overwritten}
+use Rattle.sci_places.specs.Flat.{start_of, values_at}
+use Rattle.sci_span.specs.Values.{overwritten}
 use Rattle.sci_vcd.specs.Signals.{signals_of, AreStarts}
 use Rattle.sci_vcd.specs.Writing.{Writing}
 use Rattle.sci_sim.specs.At.{Running}

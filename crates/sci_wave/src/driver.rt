@@ -10,7 +10,7 @@ ghost use Rattle.sci_reaction.specs.Memory.{AreColumns};
 ghost use Rattle.sci_run.specs.Laws.{AreLoopFree};
 ghost use Rattle.sci_run.specs.Run.{State, IsRun};
 ghost use Rattle.sci_bank.specs.Bank.{Meaning};
-ghost use Rattle.sci_bank.specs.Library.{AreInOrder, IsFull};
+ghost use Rattle.sci_bank.specs.Library.{IsFull};
 ghost use Rattle.sci_sim.specs.At.{IsAt, IsAtStart};
 ghost use Rattle.sci_sim.specs.Steps.{IsFinished};
 ghost use Rattle.sci_vcd.specs.Waveforms.{Waveforms};
@@ -21,7 +21,8 @@ ghost use Rattle.sci_wave.specs.Following.{due_text, moved_to};
 ghost use Rattle.sci_wave.specs.RunDump.{IsRunDump};
 
 use crate::noting::{note_active, note_all};
-use sci_bank::library::{Banks, Library};
+use sci_bank::Bank;
+use sci_bank::library::Library;
 use sci_base::StopWord;
 use sci_io::{Failed, Sink, SureSink};
 use sci_sim::{Ready, RunEnd, Step};
@@ -76,10 +77,10 @@ fn follow<S: Sink>(ready: &Ready, dump: &mut VcdOut, date: u64, out: &mut S) -> 
 /// Runs the net from before start until the end of its run, as `Ready::run` does with the same bounds and inputs, and writes the dump of the run
 /// in place of its trace, up to where it ends or stops. No source of the net has a loop, and `dump` is new, of the same net. It takes no memory.
 /// It fails only where the sink does, which then took a front of the text.
-pub fn dump_run<S: Sink>(
+pub fn dump_run<S: Sink, B: Bank>(
     ready: &mut Ready,
     dump: &mut VcdOut,
-    lib: &mut Library,
+    lib: &mut Library<B>,
     ins: &Inputs,
     until: u64,
     limit: u64,
@@ -90,13 +91,12 @@ pub fn dump_run<S: Sink>(
     requires until { until ≤ 2 ^ 62 }
     requires limit { limit ≤ 1000000 }
     requires columns { AreColumns ready.old.fixed.net ins.now }
-    requires start { IsAtStart ready.old.fixed.net ready.old (⟦<Library as Banks>⟧.banks lib.old) }
+    requires start { IsAtStart ready.old.fixed.net ready.old lib.old }
     requires outset { IsOutset ready.old.fixed.net dump.old }
     ensures written { (w : Waveforms) × IsRunDump ready.old.fixed.net ins.now until limit w × Writes (S.state out.old) (S.state out.new) (spelling w) result }
-    ensures finished { IfOk result (λ e. (os : List Obs) × IsRun ready.old.fixed.net ins.now until limit os × IsFinished ins.now until limit ready.new (⟦<Library as Banks>⟧.banks lib.new) os e) }
+    ensures finished { IfOk result (λ e. (os : List Obs) × IsRun ready.old.fixed.net ins.now until limit os × IsFinished ins.now until limit ready.new lib.new os e) }
     ensures net { ready.new.fixed ≡ ready.old.fixed }
-    ensures full { IsFull (⟦<Library as Banks>⟧.banks lib.new) }
-    ensures in_order { AreInOrder (⟦<Library as Banks>⟧.banks lib.new) }
+    ensures full { IsFull lib.new }
 {
     note_all(ready, dump);
     dump.well_formed();

@@ -1,5 +1,5 @@
 // A run that is walked step by step, and what is read between two steps.
-ghost use Rattle.std.specs.Prelude.{◌≡◌, ◌≤◌, length, IfOk};
+ghost use Rattle.std.specs.Prelude.{◌≡◌, ◌≤◌, length, IfOk, map};
 ghost use Rattle.sci_forms.specs.Ports.{total};
 ghost use Rattle.sci_net.specs.Parts.{spec_of};
 ghost use Rattle.sci_reaction.specs.Memory.{AreColumns};
@@ -9,10 +9,11 @@ ghost use Rattle.sci_bank.specs.Library.{AreInOrder, IsFull};
 ghost use Rattle.sci_sim.specs.Reacting.{MayStep};
 
 use crate::judged::{BRANCHES, columns, judged};
-use sci_bank::library::{Banks, Library};
+use sci_bank::Bank;
+use sci_bank::library::Library;
 use sci_base::{EndWord, NoMemory};
 use sci_io::MemSink;
-use sci_library::{AnyBank, put_fresh};
+use sci_library::{AnyBank, next_kind, put_fresh};
 use sci_net::Net;
 use sci_sim::{Ready, RunEnd, Step};
 use sci_trace::inputs::Inputs;
@@ -33,18 +34,17 @@ fn values_of(rt: &impl Abort, net: &Net) -> u128
 }
 
 // Such a net before its run.
-fn begun(
+fn begun<B: Bank>(
     rt: &impl Abort,
     alloc: Global,
     checked: Checked,
-    lib: &mut Library,
+    lib: &mut Library<B>,
     ins: &Inputs,
 ) -> Result<Ready, NoMemory>
     requires plan { IsPlan checked.net (rows_of checked.schedule) }
     requires columns { AreColumns checked.net ins.now }
-    requires full { IsFull (⟦<Library as Banks>⟧.banks lib.old) }
-    requires in_order { AreInOrder (⟦<Library as Banks>⟧.banks lib.old) }
-    ensures may { IfOk result (λ r. MayStep 10 3 r (⟦<Library as Banks>⟧.banks lib.new)) }
+    requires full { IsFull lib.old }
+    ensures may { IfOk result (λ r. MayStep 10 3 r lib.new) }
     ensures columns { IfOk result (λ r. AreColumns r.fixed.net ins.now) }
     ensures few { IfOk result (λ r. 5 ≤ length r.fixed.net.specs) }
     ensures values { IfOk result (λ r. 1 ≤ total (spec_of r.fixed.net 2).outs) }
@@ -56,12 +56,18 @@ fn begun(
 }
 
 // A step behind which the run goes on, to the last date 10 and for at most 3 events.
-fn step_on(rt: &impl Abort, ready: &mut Ready, lib: &mut Library, ins: &Inputs, out: &mut MemSink)
-    requires may { MayStep 10 3 ready.old (⟦<Library as Banks>⟧.banks lib.old) }
+fn step_on<B: Bank>(
+    rt: &impl Abort,
+    ready: &mut Ready,
+    lib: &mut Library<B>,
+    ins: &Inputs,
+    out: &mut MemSink,
+)
+    requires may { MayStep 10 3 ready.old lib.old }
     requires columns { AreColumns ready.old.fixed.net ins.now }
     requires few { 5 ≤ length ready.old.fixed.net.specs }
     requires values { 1 ≤ total (spec_of ready.old.fixed.net 2).outs }
-    ensures may { MayStep 10 3 ready.new (⟦<Library as Banks>⟧.banks lib.new) }
+    ensures may { MayStep 10 3 ready.new lib.new }
     ensures columns { AreColumns ready.new.fixed.net ins.now }
     ensures few { 5 ≤ length ready.new.fixed.net.specs }
     ensures values { 1 ≤ total (spec_of ready.new.fixed.net 2).outs }
@@ -93,10 +99,12 @@ fn shows(rt: &impl Abort, ready: &Ready, possible: &[u32], active: &[u32], held:
 }
 
 // The trace is start and three ticks, at 0, 1 and 2, with the values 5, -1 and 0; the first goes to block 4, and the others to block 5.
-fn walk(rt: &impl Abort, alloc: Global, lib: &mut Library) -> Result<(), NoMemory>
-    requires full { IsFull (⟦<Library as Banks>⟧.banks lib.old) }
-    requires in_order { AreInOrder (⟦<Library as Banks>⟧.banks lib.old) }
+fn walk<B: Bank>(rt: &impl Abort, alloc: Global, banks: Vec<B>) -> Result<(), NoMemory>
+    requires full { IsFull (map B.meaning banks.items) }
+    requires in_order { AreInOrder (map B.meaning banks.items) }
 {
+    let mut library = Library::of(banks);
+    let lib = &mut library;
     let checked = judged(rt, alloc, BRANCHES);
     let ins = columns(rt, alloc, &checked.net, "[[5,-1,0]]")?;
     let mut ready = begun(rt, alloc, checked, lib, &ins)?;
@@ -129,11 +137,11 @@ fn walk(rt: &impl Abort, alloc: Global, lib: &mut Library) -> Result<(), NoMemor
 #[test]
 fn a_run_is_walked(rt: HostRuntime) -> Result<(), Fail> {
     let alloc = rt.alloc();
-    let mut lib = Library::new(alloc);
-    while let Some(kind) = lib.next_kind() {
+    let mut banks: Vec<Box<dyn Bank>> = Vec::new(alloc);
+    while let Some(kind) = next_kind(banks.len()) {
         let bank = Box::new(alloc, AnyBank::of_kind(alloc, kind))?;
-        put_fresh(&mut lib, kind, bank)?;
+        put_fresh(&mut banks, kind, bank)?;
     }
-    walk(&rt, alloc, &mut lib)?;
+    walk(&rt, alloc, banks)?;
     Ok(())
 }

@@ -1,13 +1,13 @@
 // A library of the banks of all kinds, filled and called.
-ghost use Rattle.std.specs.Prelude.{◌≡◌};
+ghost use Rattle.std.specs.Prelude.{◌≡◌, map};
 ghost use Rattle.sci_bank.specs.Library.{AreInOrder, IsFull};
 
-use sci_bank::Fate;
 use sci_bank::calls::{enters, fills, masks};
-use sci_bank::library::{Banks, Library};
+use sci_bank::library::Library;
+use sci_bank::{Bank, Fate};
 use sci_base::{Ints, NoMemory, Truths};
 use sci_kinds::{Kind, Port, Ports, Spec};
-use sci_library::{AnyBank, put_fresh};
+use sci_library::{AnyBank, next_kind, put_fresh};
 use std::alloc::Global;
 use std::process::Abort;
 use std::test::Fail;
@@ -33,18 +33,17 @@ fn scalar(alloc: Global, kind: Kind, params: &[i64]) -> Result<Spec, NoMemory> {
 }
 
 /// Adds a block to the bank of its kind, and evaluates it.
-fn evaluate(
+fn evaluate<B: Bank>(
     rt: &impl Abort,
-    lib: &mut Library,
+    lib: &mut Library<B>,
     spec: &Spec,
     ins: &[i64],
     outs: &mut [i64],
 ) -> Result<Fate, NoMemory>
-    requires full { IsFull (⟦<Library as Banks>⟧.banks lib.old) }
-    requires in_order { AreInOrder (⟦<Library as Banks>⟧.banks lib.old) }
-    ensures full { IsFull (⟦<Library as Banks>⟧.banks lib.new) }
-    ensures in_order { AreInOrder (⟦<Library as Banks>⟧.banks lib.new) }
+    requires full { IsFull lib.old }
+    ensures full { IsFull lib.new }
 {
+    lib.well_formed();
     assert!(rt; spec.is_typed());
     assert!(rt; masks(spec, 0));
     assert!(rt; enters(spec, ins));
@@ -54,10 +53,13 @@ fn evaluate(
 }
 
 /// Calls banks of a full library, and asserts what they give.
-fn rows(rt: &impl Abort, alloc: Global, lib: &mut Library) -> Result<(), NoMemory>
-    requires full { IsFull (⟦<Library as Banks>⟧.banks lib.old) }
-    requires in_order { AreInOrder (⟦<Library as Banks>⟧.banks lib.old) }
+fn rows<B: Bank>(rt: &impl Abort, alloc: Global, banks: Vec<B>) -> Result<(), NoMemory>
+    requires full { IsFull (map B.meaning banks.items) }
+    requires in_order { AreInOrder (map B.meaning banks.items) }
 {
+    let mut library = Library::of(banks);
+    let lib = &mut library;
+    assert!(rt; lib.is_full());
     let mut outs = [0; 1];
     let gain = scalar(alloc, Kind::GainBlk, &[0, 3])?;
     assert_eq!(rt; evaluate(rt, lib, &gain, &[100], &mut outs)?, Fate::Done);
@@ -72,12 +74,11 @@ fn rows(rt: &impl Abort, alloc: Global, lib: &mut Library) -> Result<(), NoMemor
 #[test]
 fn a_bank_for_each_kind(rt: HostRuntime) -> Result<(), Fail> {
     let alloc = rt.alloc();
-    let mut lib = Library::new(alloc);
-    while let Some(kind) = lib.next_kind() {
+    let mut banks: Vec<Box<dyn Bank>> = Vec::new(alloc);
+    while let Some(kind) = next_kind(banks.len()) {
         let bank = Box::new(alloc, AnyBank::of_kind(alloc, kind))?;
-        put_fresh(&mut lib, kind, bank)?;
+        put_fresh(&mut banks, kind, bank)?;
     }
-    assert!(rt; lib.is_full());
-    rows(&rt, alloc, &mut lib)?;
+    rows(&rt, alloc, banks)?;
     Ok(())
 }

@@ -1,9 +1,11 @@
+ghost use Rattle.std.specs.Prelude.{map};
 ghost use Rattle.sci_commands.specs.Banks.{AreAllBanks};
 
-use sci_bank::library::{Banks, Library};
+use sci_bank::Bank;
+use sci_bank::library::Library;
 use sci_commands::top::top;
 use sci_io::{BufferedSink, MemFolder, MemSink};
-use sci_library::{AnyBank, put_fresh};
+use sci_library::{AnyBank, next_kind, put_fresh};
 use std::alloc::Global;
 use std::test::Fail;
 
@@ -72,17 +74,19 @@ fn stream(
     Ok(stream)
 }
 
-fn run_with(
+fn run_with<B: Bank>(
     alloc: Global,
-    lib: &mut Library,
+    banks: Vec<B>,
     line: &str,
     diagram: &str,
     inputs: &str,
     third: &str,
     faults: Faults,
 ) -> Result<Call, Fail>
-    requires { AreAllBanks (⟦<Library as Banks>⟧.banks lib.old) }
+    requires { AreAllBanks (map B.meaning banks.items) }
 {
+    let mut library = Library::of(banks);
+    let lib = &mut library;
     let mut words = Vec::new(alloc);
     for word in line.split(' ') {
         words.push(String::from_str(alloc, word)?)?;
@@ -131,12 +135,12 @@ fn run_on_three(
     third: &str,
     faults: Faults,
 ) -> Result<Call, Fail> {
-    let mut lib = Library::new(alloc);
-    while let Some(kind) = lib.next_kind() {
+    let mut banks: Vec<Box<dyn Bank>> = Vec::new(alloc);
+    while let Some(kind) = next_kind(banks.len()) {
         let bank = Box::new(alloc, AnyBank::of_kind(alloc, kind))?;
-        put_fresh(&mut lib, kind, bank)?;
+        put_fresh(&mut banks, kind, bank)?;
     }
-    run_with(alloc, &mut lib, line, diagram, inputs, third, faults)
+    run_with(alloc, banks, line, diagram, inputs, third, faults)
 }
 
 #[test]

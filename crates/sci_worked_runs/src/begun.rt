@@ -5,10 +5,11 @@ ghost use Rattle.sci_reaction.specs.Memory.{AreColumns};
 ghost use Rattle.sci_run.specs.Laws.{AreLoopFree};
 ghost use Rattle.sci_sched.specs.Plain.{rows_of};
 ghost use Rattle.sci_sched.specs.Answer.{IsPlan};
-ghost use Rattle.sci_bank.specs.Library.{AreInOrder, IsFull};
+ghost use Rattle.sci_bank.specs.Library.{IsFull};
 ghost use Rattle.sci_sim.specs.At.{IsAtStart};
 
-use sci_bank::library::{Banks, Library};
+use sci_bank::Bank;
+use sci_bank::library::Library;
 use sci_base::NoMemory;
 use sci_needs::needs_of_net;
 use sci_net::Net;
@@ -52,15 +53,17 @@ pub fn columns(rt: &impl Abort, alloc: Global, net: &Net) -> Result<Inputs, NoMe
 }
 
 /// The net before its run, and the columns.
-pub fn begun(rt: &impl Abort, alloc: Global, lib: &mut Library) -> Result<(Ready, Inputs), NoMemory>
-    requires full { IsFull (⟦<Library as Banks>⟧.banks lib.old) }
-    requires in_order { AreInOrder (⟦<Library as Banks>⟧.banks lib.old) }
-    ensures start { IfOk result (λ x. IsAtStart x.0.fixed.net x.0 (⟦<Library as Banks>⟧.banks lib.new)) }
+pub fn begun<B: Bank>(
+    rt: &impl Abort,
+    alloc: Global,
+    lib: &mut Library<B>,
+) -> Result<(Ready, Inputs), NoMemory>
+    requires full { IsFull lib.old }
+    ensures start { IfOk result (λ x. IsAtStart x.0.fixed.net x.0 lib.new) }
     ensures net { IfOk result (λ x. IsNet x.0.fixed.net) }
     ensures free { IfOk result (λ x. AreLoopFree x.0.fixed.net) }
     ensures columns { IfOk result (λ x. AreColumns x.0.fixed.net x.1) }
-    ensures full { IsFull (⟦<Library as Banks>⟧.banks lib.new) }
-    ensures in_order { AreInOrder (⟦<Library as Banks>⟧.banks lib.new) }
+    ensures full { IsFull lib.new }
 {
     let checked = judged(rt, alloc);
     checked.net.well_formed();

@@ -1,10 +1,11 @@
 // The dump of a run, and one that is written tick by tick.
 ghost use Rattle.std.specs.Prelude.{◌≡◌, ◌≤◌, ◌^◌, None, length};
-ghost use Rattle.sci_bank.specs.Library.{AreInOrder, IsFull};
+ghost use Rattle.sci_bank.specs.Library.{IsFull};
 ghost use Rattle.sci_vcd.specs.Writing.{IsOutset, MayClose, closed_at};
 
 use crate::begun::{begun, judged};
-use sci_bank::library::{Banks, Library};
+use sci_bank::Bank;
+use sci_bank::library::Library;
 use sci_base::{EndWord, NoMemory};
 use sci_io::MemSink;
 use sci_net::Net;
@@ -56,11 +57,9 @@ b00001000 v2
 ";
 
 /// A run is dumped.
-pub fn dumped(rt: &impl Abort, alloc: Global, lib: &mut Library) -> Result<(), NoMemory>
-    requires full { IsFull (⟦<Library as Banks>⟧.banks lib.old) }
-    requires in_order { AreInOrder (⟦<Library as Banks>⟧.banks lib.old) }
-    ensures full { IsFull (⟦<Library as Banks>⟧.banks lib.new) }
-    ensures in_order { AreInOrder (⟦<Library as Banks>⟧.banks lib.new) }
+pub fn dumped<B: Bank>(rt: &impl Abort, alloc: Global, lib: &mut Library<B>) -> Result<(), NoMemory>
+    requires full { IsFull lib.old }
+    ensures full { IsFull lib.new }
 {
     let (mut ready, ins) = begun(rt, alloc, lib)?;
     let mut dump = VcdOut::new(alloc, ready.net())?;

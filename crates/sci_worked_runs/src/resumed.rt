@@ -4,14 +4,15 @@ ghost use Rattle.sci_net.specs.Net.{IsNet};
 ghost use Rattle.sci_reaction.specs.Memory.{AreColumns};
 ghost use Rattle.sci_run.specs.Laws.{AreLoopFree};
 ghost use Rattle.sci_run.specs.Run.{State};
-ghost use Rattle.sci_bank.specs.Library.{AreInOrder, IsFull};
+ghost use Rattle.sci_bank.specs.Library.{IsFull};
 ghost use Rattle.sci_save.specs.Saved.{Saved, saved_of};
 ghost use Rattle.sci_save.specs.Valid.{IsShaped};
 ghost use Rattle.sci_save.specs.Resumed.{IsSavedOf};
 ghost use Rattle.sci_sim.specs.At.{IsAt, IsAtStart};
 
 use crate::begun::{begun, columns, judged};
-use sci_bank::library::{Banks, Library};
+use sci_bank::Bank;
+use sci_bank::library::Library;
 use sci_base::{EndWord, NoMemory};
 use sci_io::MemSink;
 use sci_net::Net;
@@ -100,13 +101,15 @@ fn check_text(rt: &impl Abort, alloc: Global, ready: &Ready, image: &Image) -> R
 }
 
 // The net where it was saved, and the columns.
-fn restored(rt: &impl Abort, alloc: Global, lib: &mut Library) -> Result<(Ready, Inputs), NoMemory>
-    requires full { IsFull (⟦<Library as Banks>⟧.banks lib.old) }
-    requires in_order { AreInOrder (⟦<Library as Banks>⟧.banks lib.old) }
-    ensures full { IsFull (⟦<Library as Banks>⟧.banks lib.new) }
-    ensures in_order { AreInOrder (⟦<Library as Banks>⟧.banks lib.new) }
-    ensures at { IfOk result (λ x. (st : State) × IsAt x.0 (⟦<Library as Banks>⟧.banks lib.new) st) }
-    ensures saved { IfOk result (λ x. (st : State) × (m : Saved) × IsAt x.0 (⟦<Library as Banks>⟧.banks lib.new) st × IsSavedOf x.0.fixed.net st m) }
+fn restored<B: Bank>(
+    rt: &impl Abort,
+    alloc: Global,
+    lib: &mut Library<B>,
+) -> Result<(Ready, Inputs), NoMemory>
+    requires full { IsFull lib.old }
+    ensures full { IsFull lib.new }
+    ensures at { IfOk result (λ x. (st : State) × IsAt x.0 lib.new st) }
+    ensures saved { IfOk result (λ x. (st : State) × (m : Saved) × IsAt x.0 lib.new st × IsSavedOf x.0.fixed.net st m) }
     ensures started { IfOk result (λ x. x.0.started ≡ true) }
     ensures columns { IfOk result (λ x. AreColumns x.0.fixed.net x.1) }
 {
@@ -117,24 +120,26 @@ fn restored(rt: &impl Abort, alloc: Global, lib: &mut Library) -> Result<(Ready,
     Ok((ready, ins))
 }
 
-fn check_again(
+fn check_again<B: Bank>(
     rt: &impl Abort,
     alloc: Global,
     ready: &mut Ready,
-    lib: &Library,
+    lib: &Library<B>,
 ) -> Result<(), NoMemory>
-    requires { (st : State) × (m : Saved) × IsAt ready.old (⟦<Library as Banks>⟧.banks lib.now) st × IsSavedOf ready.old.fixed.net st m }
+    requires { (st : State) × (m : Saved) × IsAt ready.old lib.now st × IsSavedOf ready.old.fixed.net st m }
 {
     let image = ready.image(alloc, lib)?;
     check_text(rt, alloc, ready, &image)
 }
 
 /// What was saved is restored, and saved again.
-pub fn saved_again(rt: &impl Abort, alloc: Global, lib: &mut Library) -> Result<(), NoMemory>
-    requires full { IsFull (⟦<Library as Banks>⟧.banks lib.old) }
-    requires in_order { AreInOrder (⟦<Library as Banks>⟧.banks lib.old) }
-    ensures full { IsFull (⟦<Library as Banks>⟧.banks lib.new) }
-    ensures in_order { AreInOrder (⟦<Library as Banks>⟧.banks lib.new) }
+pub fn saved_again<B: Bank>(
+    rt: &impl Abort,
+    alloc: Global,
+    lib: &mut Library<B>,
+) -> Result<(), NoMemory>
+    requires full { IsFull lib.old }
+    ensures full { IsFull lib.new }
 {
     let (mut ready, _) = restored(rt, alloc, lib)?;
     assert_eq!(rt; ready.net().len(), 3);
@@ -144,11 +149,13 @@ pub fn saved_again(rt: &impl Abort, alloc: Global, lib: &mut Library) -> Result<
 }
 
 /// A run goes on from what was saved.
-pub fn goes_on(rt: &impl Abort, alloc: Global, lib: &mut Library) -> Result<(), NoMemory>
-    requires full { IsFull (⟦<Library as Banks>⟧.banks lib.old) }
-    requires in_order { AreInOrder (⟦<Library as Banks>⟧.banks lib.old) }
-    ensures full { IsFull (⟦<Library as Banks>⟧.banks lib.new) }
-    ensures in_order { AreInOrder (⟦<Library as Banks>⟧.banks lib.new) }
+pub fn goes_on<B: Bank>(
+    rt: &impl Abort,
+    alloc: Global,
+    lib: &mut Library<B>,
+) -> Result<(), NoMemory>
+    requires full { IsFull lib.old }
+    ensures full { IsFull lib.new }
 {
     let (mut ready, ins) = restored(rt, alloc, lib)?;
     let mut out = MemSink::new(alloc, Vec::new(alloc), 200)?;
@@ -161,19 +168,18 @@ pub fn goes_on(rt: &impl Abort, alloc: Global, lib: &mut Library) -> Result<(), 
     Ok(())
 }
 
-fn check_behind(
+fn check_behind<B: Bank>(
     rt: &impl Abort,
     alloc: Global,
     ready: &mut Ready,
-    lib: &mut Library,
+    lib: &mut Library<B>,
     ins: &Inputs,
 ) -> Result<(), NoMemory>
-    requires start { IsAtStart ready.old.fixed.net ready.old (⟦<Library as Banks>⟧.banks lib.old) }
+    requires start { IsAtStart ready.old.fixed.net ready.old lib.old }
     requires net { IsNet ready.old.fixed.net }
     requires free { AreLoopFree ready.old.fixed.net }
     requires columns { AreColumns ready.old.fixed.net ins.now }
-    ensures full { IsFull (⟦<Library as Banks>⟧.banks lib.new) }
-    ensures in_order { AreInOrder (⟦<Library as Banks>⟧.banks lib.new) }
+    ensures full { IsFull lib.new }
 {
     match run_to(alloc, ready, lib, ins, 8, 10, 2) {
         Ok(Reached::Saved(image)) => check_text(rt, alloc, ready, &image),
@@ -183,22 +189,18 @@ fn check_behind(
 }
 
 /// A run is saved behind its second reaction.
-pub fn saved(rt: &impl Abort, alloc: Global, lib: &mut Library) -> Result<(), NoMemory>
-    requires full { IsFull (⟦<Library as Banks>⟧.banks lib.old) }
-    requires in_order { AreInOrder (⟦<Library as Banks>⟧.banks lib.old) }
-    ensures full { IsFull (⟦<Library as Banks>⟧.banks lib.new) }
-    ensures in_order { AreInOrder (⟦<Library as Banks>⟧.banks lib.new) }
+pub fn saved<B: Bank>(rt: &impl Abort, alloc: Global, lib: &mut Library<B>) -> Result<(), NoMemory>
+    requires full { IsFull lib.old }
+    ensures full { IsFull lib.new }
 {
     let (mut ready, ins) = begun(rt, alloc, lib)?;
     check_behind(rt, alloc, &mut ready, lib, &ins)
 }
 
 /// A run of four reactions, start and the ticks at 2, 5 and 8, is asked for what stands behind a fifth.
-pub fn ended(rt: &impl Abort, alloc: Global, lib: &mut Library) -> Result<(), NoMemory>
-    requires full { IsFull (⟦<Library as Banks>⟧.banks lib.old) }
-    requires in_order { AreInOrder (⟦<Library as Banks>⟧.banks lib.old) }
-    ensures full { IsFull (⟦<Library as Banks>⟧.banks lib.new) }
-    ensures in_order { AreInOrder (⟦<Library as Banks>⟧.banks lib.new) }
+pub fn ended<B: Bank>(rt: &impl Abort, alloc: Global, lib: &mut Library<B>) -> Result<(), NoMemory>
+    requires full { IsFull lib.old }
+    ensures full { IsFull lib.new }
 {
     let (mut ready, ins) = begun(rt, alloc, lib)?;
     match run_to(alloc, &mut ready, lib, &ins, 8, 10, 5)? {

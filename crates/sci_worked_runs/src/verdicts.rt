@@ -1,9 +1,10 @@
 // The verdict on the trace of a run.
-ghost use Rattle.sci_bank.specs.Library.{AreInOrder, IsFull};
+ghost use Rattle.sci_bank.specs.Library.{IsFull};
 
 use crate::begun::{columns, judged};
 use sci_agree::Verdict;
-use sci_bank::library::{Banks, Library};
+use sci_bank::Bank;
+use sci_bank::library::Library;
 use sci_base::NoMemory;
 use sci_judge::judge_trace;
 use std::alloc::Global;
@@ -36,16 +37,14 @@ val 3 1 1 0
 end until
 ";
 
-fn verdict_on(
+fn verdict_on<B: Bank>(
     rt: &impl Abort,
     alloc: Global,
-    lib: &mut Library,
+    lib: &mut Library<B>,
     trace: &str,
 ) -> Result<Verdict, NoMemory>
-    requires full { IsFull (⟦<Library as Banks>⟧.banks lib.old) }
-    requires in_order { AreInOrder (⟦<Library as Banks>⟧.banks lib.old) }
-    ensures full { IsFull (⟦<Library as Banks>⟧.banks lib.new) }
-    ensures in_order { AreInOrder (⟦<Library as Banks>⟧.banks lib.new) }
+    requires full { IsFull lib.old }
+    ensures full { IsFull lib.new }
 {
     let net = judged(rt, alloc).net;
     let ins = columns(rt, alloc, &net)?;
@@ -53,11 +52,13 @@ fn verdict_on(
 }
 
 /// The trace of a run, one with another value, and one that is cut off.
-pub fn verdicts(rt: &impl Abort, alloc: Global, lib: &mut Library) -> Result<(), NoMemory>
-    requires full { IsFull (⟦<Library as Banks>⟧.banks lib.old) }
-    requires in_order { AreInOrder (⟦<Library as Banks>⟧.banks lib.old) }
-    ensures full { IsFull (⟦<Library as Banks>⟧.banks lib.new) }
-    ensures in_order { AreInOrder (⟦<Library as Banks>⟧.banks lib.new) }
+pub fn verdicts<B: Bank>(
+    rt: &impl Abort,
+    alloc: Global,
+    lib: &mut Library<B>,
+) -> Result<(), NoMemory>
+    requires full { IsFull lib.old }
+    ensures full { IsFull lib.new }
 {
     let right = verdict_on(rt, alloc, lib, TRACE)?;
     assert_eq!(rt; right, Verdict::Yes(11));

@@ -1,13 +1,15 @@
 //! Checks, simulates and compiles Scicos block diagrams in discrete time over integer signals.
 #![tactic(auto)]
 
+ghost use Rattle.std.specs.Prelude.{map};
 ghost use Rattle.sci_commands.specs.Banks.{AreAllBanks};
 
-use sci_bank::library::{Banks, Library};
+use sci_bank::Bank;
+use sci_bank::library::Library;
 use sci_base::NoMemory;
 use sci_commands::top::top;
 use sci_io::{BufferedSink, Machine, RealFolder, RealSink, Sink};
-use sci_library::{AnyBank, put_fresh};
+use sci_library::{AnyBank, next_kind, put_fresh};
 use std::alloc::Global;
 use std::env;
 use std::io::ErrorKind;
@@ -32,14 +34,15 @@ fn words_of(rt: &HostRuntime, alloc: Global) -> Result<Vec<String>, NoMemory> {
 }
 
 // Does what the words ask for, with the machine's files and streams.
-fn run(rt: &HostRuntime, alloc: Global, lib: &mut Library) -> Result<u8, NoMemory>
-    requires { AreAllBanks (⟦<Library as Banks>⟧.banks lib.old) }
+fn run<B: Bank>(rt: &HostRuntime, alloc: Global, banks: Vec<B>) -> Result<u8, NoMemory>
+    requires { AreAllBanks (map B.meaning banks.items) }
 {
+    let mut lib = Library::of(banks);
     let words = words_of(rt, alloc)?;
     let mut out = BufferedSink::new(alloc, RealSink::new(rt.stdout()), ROOM)?;
     let mut err = BufferedSink::new(alloc, RealSink::new(rt.stderr()), LINE_ROOM)?;
     let mut folder = RealFolder::new(Machine::new(rt), alloc);
-    Ok(top(alloc, &words, &mut folder, &mut out, &mut err, lib))
+    Ok(top(alloc, &words, &mut folder, &mut out, &mut err, &mut lib))
 }
 
 // Tells that there is no memory to begin with.
@@ -50,16 +53,16 @@ fn no_memory(rt: &HostRuntime) -> ExitCode {
 
 fn main(rt: HostRuntime) -> ExitCode {
     let alloc = rt.alloc();
-    let mut lib = Library::new(alloc);
-    while let Some(kind) = lib.next_kind() {
+    let mut banks: Vec<Box<dyn Bank>> = Vec::new(alloc);
+    while let Some(kind) = next_kind(banks.len()) {
         let Ok(bank) = Box::new(alloc, AnyBank::of_kind(alloc, kind)) else {
             return no_memory(&rt);
         };
-        if put_fresh(&mut lib, kind, bank).is_err() {
+        if put_fresh(&mut banks, kind, bank).is_err() {
             return no_memory(&rt);
         }
     }
-    match run(&rt, alloc, &mut lib) {
+    match run(&rt, alloc, banks) {
         Ok(status) => ExitCode::from(status),
         Err(NoMemory) => no_memory(&rt),
     }

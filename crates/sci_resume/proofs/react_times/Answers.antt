@@ -1,7 +1,7 @@
-use Rattle.std.proofs.Common.{◌≡◌, ◌∙◌, ◌+◌, ℕ, refl, sym, subst, ap, arith}
+use Rattle.std.proofs.Common.{◌≡◌, ◌+◌, refl, sym, subst, arith}
 use Rattle.sci_reaction.specs.Memory.{AreColumns}
 use Rattle.sci_store.specs.Frame.{Fixed}
-use Rattle.sci_sim.proofs.Runs.{start_on_way, fires_now, goes_further, trace_is, finished_by, not_over}
+use Rattle.sci_sim.proofs.Runs.{start_on_way, fires_now, goes_further, trace_is, finished_by}
 use Rattle.sci_resume.proofs.Reactions.{stands_behind, fired_on_way, over_by}
 use Rattle.sci_resume.proofs.react_times.Goals as goal
 

@@ -8,14 +8,14 @@ use Rattle.sci_run.specs.Worked.{count_by_five, no_blocks, twice_at_seven, put_o
 use Rattle.sci_run.proofs.Slow.{is_run, finishes}
 use Rattle.sci_run.proofs.worked_runs.Goals as goal
 
--- the blocks in an order in which their values can be found
+-- the blocks in an order in which their values can be found; of their depth nothing is asked
 abbrev row : List ℕ → List Entry
 row [] = []
-row (b ∷ bs) = record { block = b; always = true; mask = 0; guards = [] } ∷ row bs
+row (b ∷ bs) = record { block = b; depth = 0; always = true; mask = 0; guards = [] } ∷ row bs
 
 -- the same where a branch activates the block
 abbrev guarded : ℕ → ℕ → ℕ → Entry
-guarded b c p = record { block = b; always = false; mask = 0; guards = record { block = c; port = p; mask = 0 } ∷ [] }
+guarded b c p = record { block = b; depth = 0; always = false; mask = 0; guards = record { block = c; port = p; mask = 0 } ∷ [] }
 
 -- for start, and for each event block
 abbrev counting : List (List Entry)
@@ -135,7 +135,7 @@ selects = is_run selected [] (row [] ∷ (row (1 ∷ 2 ∷ 3 ∷ []) ++ guarded 
 
 -- with a mask
 masked : ℕ → ℕ → Entry
-masked b mask = record { block = b; always = true; mask = mask; guards = [] }
+masked b mask = record { block = b; depth = 0; always = true; mask = mask; guards = [] }
 
 masks : IsRun both_activated [] 10 10 both_activated_seen
 unfolding branch_on answer masked
@@ -147,7 +147,7 @@ masks_of_branches =
     is_run selected_by_branch ((pos 5 ∷ negsuc 0 ∷ []) ∷ [])
     (row (4 ∷ 5 ∷ [])
     ∷ (row (1 ∷ 2 ∷ 3 ∷ [])
-    ++ record { block = 6; always = false; mask = 0; guards = record { block = 3; port = 1; mask = 1 } ∷ record { block = 3; port = 2; mask = 2 } ∷ [] } ∷ [])
+    ++ record { block = 6; depth = 0; always = false; mask = 0; guards = record { block = 3; port = 1; mask = 1 } ∷ record { block = 3; port = 2; mask = 2 } ∷ [] } ∷ [])
     ∷ [])
     10 2 selected_by_branch_seen refl
 

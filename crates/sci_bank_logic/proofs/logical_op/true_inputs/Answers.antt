@@ -9,5 +9,4 @@ overflow_add-count c =
     let most = count_most (λ k. input (size c.args.spec.now) c.args.ins.now k c.args.at) c.loop-k.k in
     let is = c.loop-k.invariant in
     let few = c.digit-count.ensures.few in
-    let all = c.len-k-end.ensures.few in
-    omega (arith, most, is, few, all)
+    omega (arith, most, is, few)

@@ -1,5 +1,5 @@
 use Rattle.std.proofs.Common.{◌≡◌, map, take}
-use Rattle.sci_places.specs.declared.span.Span.{Span}
+use Rattle.sci_span.specs.declared.span.Span.{Span}
 use Rattle.sci_cgen.proofs.block_layouts.starts.Given as goal
 
 abbrev pub invariant-loop-span : goal.invariant-loop-span

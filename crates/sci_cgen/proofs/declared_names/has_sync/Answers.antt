@@ -1,6 +1,6 @@
 use Rattle.std.proofs.Common.{arith, ◌<◌, length, sym, ap, ◌∙◌}
 use Rattle.sci_forms.specs.declared.spec.Spec.{Spec}
-use Rattle.sci_forms.specs.Forms.{is_sync}
+use Rattle.sci_forms.specs.Form.{is_sync}
 use Rattle.sci_cgen.proofs.DeclaredLemmas.{any_passed}
 use Rattle.sci_cgen.proofs.declared_names.has_sync.Goals as goal
 

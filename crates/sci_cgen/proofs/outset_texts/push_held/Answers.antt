@@ -2,7 +2,7 @@ use Rattle.std.proofs.Common.{arith, rules, w64, ◌+◌, ◌<◌, ℤ, negsuc, 
 use Rattle.std.specs.Prelude.{◌≤ℤ◌}
 use Rattle.std.proofs.lemmas.Int.{to_z-of_z}
 use Rattle.sci_forms.specs.Ports.{total}
-use Rattle.sci_kinds.specs.Table.{held_of}
+use Rattle.sci_forms.specs.Words.{held_of}
 use Rattle.c_ast.specs.View.{statements_of}
 use Rattle.c_steps.specs.Texts.{joined}
 use Rattle.sci_cgen_blocks.specs.Texts.{values}
@@ -17,7 +17,7 @@ loop-e-init c = (sym (joined_done _), omega arith)
 pub push_begun-requires : goal.push_begun-requires
 push_begun-requires c =
     let within : c.loop-e.e < total c.args.s.now.outs = omega (arith, c.loop-e-test.true) in
-    subst (λ (z : ℤ). negsuc 9223372036854775806 ≤ℤ z) (sym (to_z-of_z w64 c.first_held.result (search rules) ∙ c.first_held.ensures))
+    subst (λ (z : ℤ). negsuc 9223372036854775806 ≤ℤ z) (sym (to_z-of_z w64 c.held.result (search rules) ∙ c.held.ensures))
     (held_least c.args.s.now c.loop-e.e c.requires.is_typed within)
 
 pub loop-e-preserved : goal.loop-e-preserved
@@ -25,7 +25,7 @@ loop-e-preserved c = (
   behind_more (λ j. begun_text values (c.args.at.now.outs + j) (held_of c.args.s.now.kind c.args.s.now j)) c.loop-e.e _ _ _
       (c.in_ok-push_begun.ensures
       ∙ ap (joined (statements_of c.loop-e.out.items)) (begun_alike _ _ _ _ _ c.values.ensures
-      (to_z-of_z w64 c.first_held.result (search rules) ∙ c.first_held.ensures)))
+      (to_z-of_z w64 c.held.result (search rules) ∙ c.held.ensures)))
       c.loop-e.invariant.0,
   omega arith,
 )

@@ -1,6 +1,6 @@
 use Rattle.std.proofs.Common.{◌≡◌, ◌≤◌, ◌+◌}
 use Rattle.sci_forms.specs.Ports.{total}
-use Rattle.sci_kinds.specs.Table.{held_of}
+use Rattle.sci_forms.specs.Words.{held_of}
 use Rattle.c_ast.specs.View.{statements_of}
 use Rattle.c_steps.specs.Texts.{joined, upto}
 use Rattle.sci_cgen_blocks.specs.Texts.{values}

@@ -1,6 +1,6 @@
 use Rattle.std.proofs.Common.{sym, ap, ◌∙◌}
 use Rattle.sci_forms.specs.declared.spec.Spec.{Spec}
-use Rattle.sci_forms.specs.Forms.{is_sync}
+use Rattle.sci_forms.specs.Form.{is_sync}
 use Rattle.sci_cgen.proofs.RowLemmas.{where_false}
 use Rattle.sci_cgen.proofs.row_texts.push_branch.Goals as goal
 

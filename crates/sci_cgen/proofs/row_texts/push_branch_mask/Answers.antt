@@ -1,6 +1,6 @@
 use Rattle.std.proofs.Common.{sym, ap, ◌∙◌}
 use Rattle.sci_forms.specs.declared.spec.Spec.{Spec}
-use Rattle.sci_cgen.specs.Program.{reads_mask}
+use Rattle.sci_forms.specs.Form.{reads_mask}
 use Rattle.sci_cgen.proofs.Entries.{few_inputs}
 use Rattle.sci_cgen.proofs.RowLemmas.{where_false}
 use Rattle.sci_cgen.proofs.row_texts.push_branch_mask.Goals as goal

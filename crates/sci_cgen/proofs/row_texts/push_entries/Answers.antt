@@ -1,5 +1,5 @@
 use Rattle.std.proofs.Common.{arith, ◌≤◌, length}
-use Rattle.sci_sched.specs.Plain.{entry_of}
+use Rattle.sci_reaction.specs.Kept.{entry_of}
 use Rattle.sci_cgen_blocks.proofs.Written.{drop_item}
 use Rattle.sci_cgen.specs.Program.{entry_text}
 use Rattle.sci_cgen.specs.Built.{IsNamed}

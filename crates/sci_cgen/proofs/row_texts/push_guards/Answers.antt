@@ -2,8 +2,8 @@ use Rattle.std.proofs.Common.{arith, ◌≤◌, length}
 use Rattle.std.proofs.lemmas.List.{drop_more}
 use Rattle.sci_net.specs.Parts.{IsBlock}
 use Rattle.sci_reaction.specs.Schedule.{Guard}
-use Rattle.sci_sched.specs.declared.schedule.Guard.{Guard as KeptGuard}
-use Rattle.sci_sched.specs.Plain.{guard_of, entry_of}
+use Rattle.sci_reaction.specs.declared.entry.Guard.{Guard as KeptGuard}
+use Rattle.sci_reaction.specs.Kept.{guard_of, entry_of}
 use Rattle.sci_cgen.specs.Program.{guard_text}
 use Rattle.sci_cgen.proofs.RowLemmas.{of_guard, texts_pushed, all_pushed}
 use Rattle.sci_cgen.proofs.row_texts.push_guards.Goals as goal

@@ -2,7 +2,7 @@
 use Rattle.std.proofs.Common.{◌≡◌, drop}
 use Rattle.c_ast.specs.View.{statements_of}
 use Rattle.c_steps.specs.Texts.{joined}
-use Rattle.sci_sched.specs.Plain.{entry_of, guards_of}
+use Rattle.sci_reaction.specs.Kept.{entry_of, guards_of}
 use Rattle.sci_cgen.specs.Program.{texts, guard_text}
 use Rattle.sci_cgen.proofs.row_texts.push_guards.Given as goal
 

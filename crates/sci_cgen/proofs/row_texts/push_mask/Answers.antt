@@ -1,7 +1,7 @@
 use Rattle.std.proofs.Common.{arith, sym, ap, ◌∙◌}
 use Rattle.sci_forms.specs.declared.spec.Spec.{Spec}
 use Rattle.sci_net.specs.Parts.{spec_of}
-use Rattle.sci_cgen.specs.Program.{reads_mask}
+use Rattle.sci_forms.specs.Form.{reads_mask}
 use Rattle.sci_cgen.proofs.RowLemmas.{where_false, mask_fits}
 use Rattle.sci_cgen.proofs.row_texts.push_mask.Goals as goal
 

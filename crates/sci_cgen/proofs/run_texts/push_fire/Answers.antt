@@ -4,7 +4,7 @@ use Rattle.c_ast.specs.View.{statements_of}
 use Rattle.c_steps.specs.Texts.{joined}
 use Rattle.sci_due.specs.Due.{best, dates, now}
 use Rattle.sci_due.specs.Texts.{at_best}
-use Rattle.sci_cgen.specs.Names.{clear_name, settle_name}
+use Rattle.sci_cgen.specs.Names.{clear_name, settle_name, choose_name}
 use Rattle.sci_cgen.specs.Program.{one, each_port}
 use Rattle.sci_cgen.proofs.RunLemmas.{follows, behind, reacting}
 use Rattle.sci_cgen.proofs.run_texts.push_fire.Goals as goal
@@ -21,4 +21,6 @@ returns c =
     (each_port reacting c.args.net.now) c.in_ok-push_sources.ensures in
     let settle = follows (statements_of c.push_sources.new.out.items) (one (call settle_name))
     (c.in_ok-push-4.ensures ∙ ap (λ x. joined (statements_of c.push_sources.new.out.items) (next (call x) done)) c.settle.ensures) in
-    (behind date (behind free (behind clear (behind react settle)))).is
+    let choose = follows (statements_of c.push-4.new.out.items) (one (call choose_name))
+    (c.in_ok-push-5.ensures ∙ ap (λ x. joined (statements_of c.push-4.new.out.items) (next (call x) done)) c.choose.ensures) in
+    (behind date (behind free (behind clear (behind react (behind settle choose))))).is

@@ -1,7 +1,7 @@
 use Rattle.std.proofs.Common.{◌≡◌, false, ap, sym, ◌∙◌}
 use Rattle.sci_forms.specs.declared.spec.Spec.{Spec}
 use Rattle.sci_net.specs.Parts.{spec_of}
-use Rattle.sci_run.specs.Activity.{is_halt}
+use Rattle.sci_forms.specs.Form.{is_halt}
 use Rattle.sci_cgen.proofs.SettleLemmas.{where_absent}
 use Rattle.sci_cgen.proofs.settle_texts.push_halt.Goals as goal
 

@@ -1,6 +1,6 @@
 use Rattle.std.proofs.Common.{ap, ◌∙◌}
 use Rattle.sci_forms.specs.declared.spec.Spec.{Spec}
-use Rattle.sci_forms.specs.Forms.{has_delay}
+use Rattle.sci_forms.specs.Form.{has_delay}
 use Rattle.sci_cgen.proofs.Sizes.{port_has_delay}
 use Rattle.sci_cgen.proofs.settle_texts.push_port_delay.Goals as goal
 

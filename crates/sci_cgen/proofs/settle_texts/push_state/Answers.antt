@@ -1,6 +1,6 @@
 use Rattle.std.proofs.Common.{◌≡◌, false, ap, sym, ◌∙◌}
 use Rattle.sci_forms.specs.declared.spec.Spec.{Spec}
-use Rattle.sci_forms.specs.Forms.{has_state}
+use Rattle.sci_forms.specs.Form.{has_state}
 use Rattle.sci_net.specs.Parts.{spec_of}
 use Rattle.sci_cgen.proofs.LaidLemmas.{few_read}
 use Rattle.sci_cgen.proofs.SettleLemmas.{where_absent}

@@ -1,5 +1,5 @@
 -- The steps so far, and those of the inputs to come.
-use Rattle.std.proofs.Common.{◌≡◌, ◌++◌, ◌-◌, length}
+use Rattle.std.proofs.Common.{◌≡◌, ◌++◌, ◌-◌}
 use Rattle.sci_cgen_blocks.specs.Recipes.{extremes}
 use Rattle.sci_cgen_blocks.specs.Plain.{steps_of}
 use Rattle.sci_cgen_blocks.proofs.arithmetic_kinds.push_extremes.Given as goal

@@ -1,5 +1,4 @@
-use Rattle.std.proofs.Common.{arith, ◌≡◌, ◌<◌, ◌≤◌, length, sym, subst, IfOk}
-use Rattle.sci_forms.specs.Ports.{elements, port_at}
+use Rattle.std.proofs.Common.{arith, ◌≡◌, ◌<◌, length, sym, subst, IfOk}
 use Rattle.sci_forms.specs.declared.Kind.TheVariants.{Extractor}
 use Rattle.sci_cgen_blocks.specs.Recipes.{recipe_of}
 use Rattle.sci_cgen_blocks.specs.Plain.{plain_recipe}

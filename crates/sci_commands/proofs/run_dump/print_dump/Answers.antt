@@ -12,7 +12,8 @@ pub returns-in_err-end-clause-printed : goal.returns-in_err-end-clause-printed
 returns-in_err-end-clause-printed g c =
     let dump = c.dump_run.ensures.written in
     let trace = c.requires.run.trace in
-    (dump.0, dump.1, trace.0, trace.1, ran_failed (spelling dump.0) (stops trace.0) c.dump_run.result c.from_residual.result _ _ c.in_err-end.was (search rules) dump.2)
+    let err = err_from_is_err_and c.from_residual.result c.from_residual.ensures.1 in
+    (dump.0, dump.1, trace.0, trace.1, ran_failed (spelling dump.0) (stops trace.0) c.dump_run.result c.from_residual.result _ _ c.in_err-end.was err.1 dump.2)
 
 pub returns-in_err-flush-clause-printed : goal.returns-in_err-flush-clause-printed
 returns-in_err-flush-clause-printed g c =

@@ -3,7 +3,4 @@ use Rattle.sci_bank.proofs.LibraryLemmas.{kind_of-bank, Holds-full}
 use Rattle.sci_corners.proofs.evaluate.evaluate.Goals as goal
 
 pub add-requires-clause-of_kind : goal.add-requires-clause-of_kind
-add-requires-clause-of_kind g c = sym (kind_of-bank _ c.args.spec.now.kind c.requires.in_order (Holds-full _ c.args.spec.now.kind c.requires.full))
-
-pub returns-clause-in_order : goal.returns-clause-in_order
-returns-clause-in_order g c = c.out.ensures.in_order (c.add.ensures.in_order c.requires.in_order)
+add-requires-clause-of_kind g c = sym (kind_of-bank _ c.args.spec.now.kind c.well_formed-2.ensures (Holds-full _ c.args.spec.now.kind c.requires.full))

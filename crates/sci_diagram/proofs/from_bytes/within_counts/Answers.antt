@@ -12,5 +12,5 @@ too_many-requires c = omega (arith, blocks_few (diagram_view c.args.d), c.requir
 pub count_links-links-requires : goal.count_links-links-requires
 count_links-links-requires c = omega (arith, links_few (diagram_view c.args.d), c.requires.few)
 
-pub too_many-requires-then-links-gt16384 : goal.too_many-requires-then-links-gt16384
-too_many-requires-then-links-gt16384 c = omega (arith, links_few (diagram_view c.args.d), c.requires.few, c.count_links-links.ensures)
+pub too_many-requires-then-links-from : goal.too_many-requires-then-links-from
+too_many-requires-then-links-from c = omega (arith, links_few (diagram_view c.args.d), c.requires.few, c.count_links-links.ensures)

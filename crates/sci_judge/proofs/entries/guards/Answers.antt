@@ -5,7 +5,8 @@ use Rattle.sci_net.specs.declared.Feed.{Feed}
 use Rattle.sci_net.specs.Parts.{numbered}
 use Rattle.sci_reaction.specs.Schedule.{Guard}
 use Rattle.sci_rounds.specs.Rounds.{IsBranch}
-use Rattle.sci_judge.specs.Entries.{guard_of, guards_of, AreBranches}
+use Rattle.sci_judge.specs.Entries.{AreBranches}
+use Rattle.sci_reaction.specs.Kept.{guard_of, guards_of}
 use Rattle.sci_judge.proofs.Guarded.{branches_none, branches_keep, branches_more, branch_block, branch_sync}
 use Rattle.sci_judge.proofs.entries.guards.Goals.{then-has+in_ok-push, else-has, In-loop-branch}
 use Rattle.sci_judge.proofs.entries.guards.Goals as goal

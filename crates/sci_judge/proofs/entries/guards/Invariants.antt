@@ -1,5 +1,6 @@
 use Rattle.std.proofs.Common.{take}
-use Rattle.sci_judge.specs.Entries.{AreBranches, guards_of}
+use Rattle.sci_judge.specs.Entries.{AreBranches}
+use Rattle.sci_reaction.specs.Kept.{guards_of}
 use Rattle.sci_judge.proofs.entries.guards.Given as goal
 
 abbrev pub invariant-loop-branch : goal.invariant-loop-branch

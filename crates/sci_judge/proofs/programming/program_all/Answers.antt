@@ -16,7 +16,7 @@ pub program_source-requires-clause-store : goal.program_source-requires-clause-s
 program_source-requires-clause-store g c =
     let s = c.requires.store in
     subst (IsStore c.args.frame.now) (sym c.loop-source.invariant.same)
-    (record { values = s.values; cursors = s.cursors; marks = s.marks; room = (let r = s.room in let same = c.loop-source.invariant.room in omega (arith, r, same)) })
+    (record { values = s.values; cursors = s.cursors; marks = s.marks; room = (let r = s.room in let same = c.loop-source.invariant.room in omega (arith, r, same)); chosen = s.chosen })
 
 pub program_source-requires-clause-values : goal.program_source-requires-clause-values
 program_source-requires-clause-values g c =

@@ -1,4 +1,4 @@
-use Rattle.std.proofs.Common.{◌≡◌, ℕ, ◌+◌, ◌<◌, ◌++◌, List, All, length, sym, ap, subst, subst₂, ◌∙◌, ◌==◌, arith, vec_len, Vec}
+use Rattle.std.proofs.Common.{◌≡◌, ℕ, ◌+◌, ◌<◌, ◌++◌, List, All, length, sym, ap, subst, subst₂, ◌∙◌, ◌==◌, arith, vec_len, Vec, length-append}
 use Rattle.std.specs.declared.alloc.Global.{Global}
 use Rattle.sci_loop.specs.Lists.{plain}
 use Rattle.std.proofs.lemmas.List.Sorted.{IsNonDecreasingBy-from_sort}
@@ -6,8 +6,11 @@ use Rattle.sci_net.specs.Sources.{source_of}
 use Rattle.sci_rounds.proofs.Levels.{rounds_begin}
 use Rattle.sci_rounds.specs.Rounds.{IsBehindRounds}
 use Rattle.std.specs.List.{filter}
-use Rattle.sci_judge.specs.Rounds.{IsStage, AreWaiting, count_at}
-use Rattle.sci_judge.proofs.Rounding.{AreInRounds, none_in_rounds, first_stage, sorted_stage, next_behind, rounds_more, all_rounds, members_below, fewer_left, written_back, some_there, none_there}
+use Rattle.sci_judge.specs.declared.rounds.Rank.{Rank}
+use Rattle.sci_judge.proofs.Ranking.{in_round, ranked_behind, depths_more}
+use Rattle.sci_judge.specs.Rounds.{ranked, IsStage, AreWaiting, count_at}
+use Rattle.sci_judge.proofs.Rounding.{AreInRounds, none_in_rounds, first_stage, sorted_stage, next_behind, rounds_more, all_rounds, members_below, fewer_left, written_back, some_there, none_there, stage_few, ready_depth}
+use Rattle.sci_reaction.specs.Depends.{HasDepth}
 use Rattle.sci_judge.proofs.rounds.by_rounds.Goals as goal
 
 pub waiting-requires-clause-below : goal.waiting-requires-clause-below
@@ -36,12 +39,22 @@ loop-alloc-init c =
     let counts = c.in_ok-counts.counts.items in
     record {
       long = c.in_ok-counts.ensures.len;
-      stage = subst (λ (ds : List ℕ). IsStage t ds c.in_ok-ready.ready.items counts) (sym c.new-done.ensures.items)
+      stage = subst (λ (ds : List Rank). IsStage t (ranked ds) c.in_ok-ready.ready.items counts) (sym c.new-done.ensures.items)
           (first_stage t c.requires.table.well_formed counts c.in_ok-ready.ready.items c.in_ok-counts.ensures.counts
           (subst₂ (λ (xs ms : List ℕ). c.in_ok-ready.ready.items ≡ filter (λ b. count_at xs b == 0) ms) c.deref-2.ensures.value c.deref.ensures.value c.in_ok-ready.ensures));
-      behind = (0, subst (IsBehindRounds n s 0) (sym c.new-done.ensures.items) (rounds_begin n s));
-      rounds = subst (AreInRounds n s) (sym c.new-done.ensures.items) (none_in_rounds n s);
+      behind = subst (λ (ds : List Rank). IsBehindRounds n s 0 (ranked ds)) (sym c.new-done.ensures.items) (rounds_begin n s);
+      rounds = subst (λ (ds : List Rank). AreInRounds n s (ranked ds)) (sym c.new-done.ensures.items) (none_in_rounds n s);
+      depths = subst (λ (ds : List Rank). All (λ (r : Rank). HasDepth n s r.block r.depth) ds) (sym c.new-done.ensures.items) (λ k d l. absurd (omega (arith, l)));
+      few = omega arith;
     }
+
+-- fewer rounds than blocks
+pub overflow_add-depth : goal.overflow_add-depth
+overflow_add-depth c =
+    let few = stage_few c.args.table.now c.requires.table.well_formed (ranked c.loop-alloc.done.items) c.loop-alloc.ready.items c.loop-alloc.counts.items c.loop-alloc.invariant.stage in
+    let both = length-append (ranked c.loop-alloc.done.items) c.loop-alloc.ready.items in
+    let some = some_there c.is_empty.result (vec_len c.loop-alloc.ready) c.is_empty.ensures c.loop-alloc-test.true in
+    omega (arith, few, both, some, c.loop-alloc.ready.ok.0, c.loop-alloc.invariant.few, c.args.table.now.members.ok.0)
 
 pub round-requires-clause-below : goal.round-requires-clause-below
 round-requires-clause-below c =
@@ -58,43 +71,50 @@ round-requires-clause-waiting c =
 pub round-requires-clause-stage : goal.round-requires-clause-stage
 round-requires-clause-stage c =
     let t = c.args.table.now in
-    subst₂ (λ (rs xs : List ℕ). IsStage t c.loop-alloc.done.items rs xs) (sym c.deref-in-loop-alloc-2.ensures.value) (sym c.deref_mut.ensures.value)
-    (sorted_stage t c.requires.table.well_formed c.loop-alloc.done.items c.loop-alloc.ready.items c.sort_unstable.new.self.items c.loop-alloc.counts.items
+    subst₂ (λ (rs xs : List ℕ). IsStage t (ranked c.loop-alloc.done.items) rs xs) (sym c.deref-in-loop-alloc-2.ensures.value) (sym c.deref_mut.ensures.value)
+    (sorted_stage t c.requires.table.well_formed (ranked c.loop-alloc.done.items) c.loop-alloc.ready.items c.sort_unstable.new.self.items c.loop-alloc.counts.items
     c.sort_unstable.ensures.permutation c.loop-alloc.invariant.stage)
 
 pub loop-alloc-smaller : goal.loop-alloc-smaller
 loop-alloc-smaller c =
-    let done = c.loop-alloc.done.items in
+    let done = ranked c.loop-alloc.done.items in
     let sorted = c.sort_unstable.new.self.items in
-    let grown : c.round.new.done.items ≡ done ++ sorted = c.in_ok-ready-2.ensures.done ∙ ap (λ (xs : List ℕ). done ++ xs) c.deref-in-loop-alloc-2.ensures.value in
     let some = some_there c.is_empty.result (vec_len c.loop-alloc.ready) c.is_empty.ensures c.loop-alloc-test.true in
     let same = c.sort_unstable.ensures.len in
-    fewer_left c.args.table.now c.requires.table.well_formed done sorted c.in_ok-ready-2.ready.items c.round.new.done.items c.round.new.counts
-    (omega (arith, some, same, c.sort_unstable.new.self.ok.0)) grown c.in_ok-ready-2.ensures.stage
+    fewer_left c.args.table.now c.requires.table.well_formed done sorted c.in_ok-ready-2.ready.items (ranked c.round.new.done.items) c.round.new.counts
+    (omega (arith, some, same, c.sort_unstable.new.self.ok.0)) (ranked_behind c.loop-alloc.done.items c.round.new.done.items (c.loop-alloc.depth + 1) c.deref-in-loop-alloc-2.result.now sorted c.in_ok-ready-2.ensures.done c.deref-in-loop-alloc-2.ensures.value) c.in_ok-ready-2.ensures.stage
 
 pub loop-alloc-preserved : goal.loop-alloc-preserved
 loop-alloc-preserved c =
     let n = c.args.net.now in
     let s = source_of n c.args._source in
     let t = c.args.table.now in
-    let done = c.loop-alloc.done.items in
+    let done = ranked c.loop-alloc.done.items in
     let sorted = c.sort_unstable.new.self.items in
     let stage = sorted_stage t c.requires.table.well_formed done c.loop-alloc.ready.items sorted c.loop-alloc.counts.items c.sort_unstable.ensures.permutation c.loop-alloc.invariant.stage in
-    let grown : c.round.new.done.items ≡ done ++ sorted = c.in_ok-ready-2.ensures.done ∙ ap (λ (xs : List ℕ). done ++ xs) c.deref-in-loop-alloc-2.ensures.value in
+    let more = ranked_behind c.loop-alloc.done.items c.round.new.done.items (c.loop-alloc.depth + 1) c.deref-in-loop-alloc-2.result.now sorted c.in_ok-ready-2.ensures.done c.deref-in-loop-alloc-2.ensures.value in
     let behind = c.loop-alloc.invariant.behind in
+    let some = some_there c.is_empty.result (vec_len c.loop-alloc.ready) c.is_empty.ensures c.loop-alloc-test.true in
+    let same = c.sort_unstable.ensures.len in
+    let long : length (ranked c.round.new.done.items) ≡ length done + length sorted = ap length more ∙ length-append done sorted in
     record {
       long = c.loop-alloc.invariant.long;
-      stage = subst (λ (xs : List ℕ). IsStage t c.round.new.done.items c.in_ok-ready-2.ready.items xs)
+      stage = subst (λ (xs : List ℕ). IsStage t (ranked c.round.new.done.items) c.in_ok-ready-2.ready.items xs)
           (sym (written_back c.loop-alloc.counts.len c.round.new.counts c.loop-alloc.counts.items (c.round.auto.counts ∙ ap length c.deref_mut.ensures.value) c.loop-alloc.counts.ok.0))
           c.in_ok-ready-2.ensures.stage;
-      behind = (behind.0 + 1, subst (IsBehindRounds n s (behind.0 + 1)) (sym grown) (next_behind n s t c.requires.table done sorted c.loop-alloc.counts.items stage behind.0 behind.1));
-      rounds = subst (AreInRounds n s) (sym grown)
-          (rounds_more n s t c.requires.table done sorted c.loop-alloc.counts.items stage behind.0 behind.1 (IsNonDecreasingBy-from_sort (λ x. x) sorted c.sort_unstable.ensures.sorted)
+      behind = subst (IsBehindRounds n s (c.loop-alloc.depth + 1)) (sym more) (next_behind n s t c.requires.table done sorted c.loop-alloc.counts.items stage c.loop-alloc.depth behind);
+      rounds = subst (AreInRounds n s) (sym more)
+          (rounds_more n s t c.requires.table done sorted c.loop-alloc.counts.items stage c.loop-alloc.depth behind (IsNonDecreasingBy-from_sort (λ x. x) sorted c.sort_unstable.ensures.sorted)
           c.loop-alloc.invariant.rounds);
+      depths = subst (λ (rs : List Rank). All (λ (r : Rank). HasDepth n s r.block r.depth) rs)
+          (sym (c.in_ok-ready-2.ensures.done ∙ ap (λ (xs : List ℕ). c.loop-alloc.done.items ++ in_round (c.loop-alloc.depth + 1) xs) c.deref-in-loop-alloc-2.ensures.value))
+          (depths_more n s c.loop-alloc.done.items (c.loop-alloc.depth + 1) sorted c.loop-alloc.invariant.depths
+          (λ b h. ready_depth n s t c.requires.table done sorted c.loop-alloc.counts.items stage c.requires.free c.loop-alloc.depth behind b h));
+      few = omega (arith, long, some, same, c.sort_unstable.new.self.ok.0, c.loop-alloc.invariant.few);
     }
 
-pub returns : goal.returns
-returns c =
+pub returns-clause-rounds : goal.returns-clause-rounds
+returns-clause-rounds c =
     let none = none_there c.is_empty.result (vec_len c.loop-alloc.ready) c.is_empty.ensures c.loop-alloc-test.false in
-    all_rounds c.args.net.now (source_of c.args.net.now c.args._source) c.args.table.now c.loop-alloc.done.items c.loop-alloc.ready.items c.loop-alloc.counts.items c.requires.table c.requires.free
+    all_rounds c.args.net.now (source_of c.args.net.now c.args._source) c.args.table.now (ranked c.loop-alloc.done.items) c.loop-alloc.ready.items c.loop-alloc.counts.items c.requires.table c.requires.free
     c.loop-alloc.invariant.stage (omega (arith, none, c.loop-alloc.ready.ok.0)) c.loop-alloc.invariant.rounds

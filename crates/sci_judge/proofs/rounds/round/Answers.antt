@@ -1,14 +1,16 @@
-use Rattle.std.proofs.Common.{◌≡◌, ℕ, suc, ◌+◌, ◌<◌, ◌==◌, ◌++◌, ◌∷◌, [], ◌∙◌, List, All, length, take, drop, get_or, sym, ap, subst, subst₂, arith, eqb, add-one, append_assoc, append-nil, Vec}
+use Rattle.std.proofs.Common.{◌≡◌, ℕ, suc, ◌+◌, ◌<◌, ◌==◌, ◌++◌, ◌∷◌, [], ◌∙◌, List, All, length, drop, get_or, sym, ap, subst, subst₂, arith, eqb, add-one, append_assoc, append-nil, Vec}
 use Rattle.std.specs.declared.alloc.Global.{Global}
 use Rattle.std.specs.List.{IsDistinct, filter}
 use Rattle.std.proofs.Math.Seq.{drop-cons}
-use Rattle.std.proofs.lemmas.List.{length-map, take_more, take_all, drop_all}
+use Rattle.std.proofs.lemmas.List.{length-map, take_all, drop_all}
 use Rattle.sci_loop.specs.Lists.{plain, list_at}
 use Rattle.sci_loop.proofs.Adding.{list_at-plain}
 use Rattle.std.proofs.lemmas.List.Elements.{All-contains}
 use Rattle.sci_loop.specs.declared.table.DepTable.{DepTable}
 use Rattle.sci_reaction.proofs.Rows.{Contains-mid}
-use Rattle.sci_judge.specs.Rounds.{IsStage, IsReleased, count_at}
+use Rattle.sci_judge.proofs.Ranking.{in_round, ranked_push, in_round_more}
+use Rattle.sci_judge.specs.declared.rounds.Rank.{Rank}
+use Rattle.sci_judge.specs.Rounds.{ranked, IsStage, IsReleased, count_at}
 use Rattle.sci_judge.proofs.Staging.{release_some, release_within, stage_more}
 use Rattle.sci_judge.proofs.rounds.round.Goals as goal
 
@@ -23,7 +25,7 @@ listed vs i count v ws less long is same = list_at-plain vs i v (let map_long = 
 pub loop-block-init : goal.loop-block-init
 loop-block-init c = record {
   done = sym (append-nil c.args.done.now.items);
-  stage = subst (λ (xs : List ℕ). IsStage c.args._table.now c.args.done.now.items xs c.args.counts.now)
+  stage = subst (λ (xs : List ℕ). IsStage c.args._table.now (ranked c.args.done.now.items) xs c.args.counts.now)
       (sym (append-nil c.args.round.now) ∙ ap (λ (xs : List ℕ). c.args.round.now ++ xs) (sym c.new-next.ensures.items)) c.requires.stage;
 }
 
@@ -35,7 +37,7 @@ inside t done round next counts i count less below stage =
 
 pub bounds-waiting-block : goal.bounds-waiting-block
 bounds-waiting-block c =
-    let l = inside c.args._table.now c.loop-block.done.items c.args.round.now c.loop-block.next.items c.loop-block.counts c.loop-block.block-index (length c.args.counts.now) c.loop-block-test.true
+    let l = inside c.args._table.now (ranked c.loop-block.done.items) c.args.round.now c.loop-block.next.items c.loop-block.counts c.loop-block.block-index (length c.args.counts.now) c.loop-block-test.true
     c.requires.below c.loop-block.invariant.stage in
     let map_long = length-map c.args.waiting.now (λ (u : Vec ℕ Global). u.items) in
     omega (arith, l, c.requires.waiting.long, map_long)
@@ -46,7 +48,7 @@ release-requires-clause-distinct c =
     let rs = c.args.round.now in
     let t = c.args._table.now in
     let n = length c.args.counts.now in
-    let l = inside t c.loop-block.done.items rs c.loop-block.next.items c.loop-block.counts i n c.loop-block-test.true c.requires.below c.loop-block.invariant.stage in
+    let l = inside t (ranked c.loop-block.done.items) rs c.loop-block.next.items c.loop-block.counts i n c.loop-block-test.true c.requires.below c.loop-block.invariant.stage in
     subst (IsDistinct eqb)
     (listed c.args.waiting.now (get_or rs i 0) n c.index-waiting-block.result c.deref.result.now l c.requires.waiting.long c.index-waiting-block.is c.deref.ensures.value)
     (c.requires.waiting.once (get_or rs i 0))
@@ -57,7 +59,7 @@ release-requires-clause-within c =
     let rs = c.args.round.now in
     let t = c.args._table.now in
     let n = length c.args.counts.now in
-    let done = c.loop-block.done.items in
+    let done = ranked c.loop-block.done.items in
     let next = c.loop-block.next.items in
     let l = inside t done rs next c.loop-block.counts i n c.loop-block-test.true c.requires.below c.loop-block.invariant.stage in
     subst₂ (λ (ws : List ℕ) m. All (λ b. b < m) ws)
@@ -72,7 +74,7 @@ release-requires-clause-some c =
     let rs = c.args.round.now in
     let t = c.args._table.now in
     let n = length c.args.counts.now in
-    let done = c.loop-block.done.items in
+    let done = ranked c.loop-block.done.items in
     let next = c.loop-block.next.items in
     let l = inside t done rs next c.loop-block.counts i n c.loop-block-test.true c.requires.below c.loop-block.invariant.stage in
     subst (All (λ b. 0 < count_at c.loop-block.counts b))
@@ -86,7 +88,7 @@ loop-block-preserved c =
     let rs = c.args.round.now in
     let t = c.args._table.now in
     let n = length c.args.counts.now in
-    let done = c.loop-block.done.items in
+    let done = ranked c.loop-block.done.items in
     let next = c.loop-block.next.items in
     let counts = c.loop-block.counts in
     let b = get_or rs i 0 in
@@ -101,17 +103,20 @@ loop-block-preserved c =
     let queue : (drop (suc i) rs ++ next) ++ filter (λ w. count_at counts w == 1) (list_at (plain c.args.waiting.now) b) ≡ drop (i + 1) rs ++ c.release.new.ready.items =
     append_assoc (drop (suc i) rs) next (filter (λ w. count_at counts w == 1) (list_at (plain c.args.waiting.now) b))
     ∙ (ap (λ (xs : List ℕ). drop (suc i) rs ++ xs) (sym put) ∙ ap (λ j. drop j rs ++ c.release.new.ready.items) (sym (add-one i))) in
+    let rank : Rank = record { block = b; depth = c.args.depth } in
     record {
       done = c.in_ok-push.ensures.items
-          ∙ (ap (λ (xs : List ℕ). xs ++ b ∷ []) c.loop-block.invariant.done
-          ∙ (append_assoc c.args.done.now.items (take i rs) (b ∷ []) ∙ ap (λ (xs : List ℕ). c.args.done.now.items ++ xs) (sym (take_more rs i 0 c.loop-block-test.true))));
-      stage = subst₂ (λ (ds xs : List ℕ). IsStage t ds xs c.release.new.counts) (sym c.in_ok-push.ensures.items) queue more;
+          ∙ (ap (λ (xs : List Rank). xs ++ rank ∷ []) c.loop-block.invariant.done ∙ in_round_more c.args.done.now.items c.args.depth rs i c.loop-block-test.true);
+      stage = subst₂ (λ (ds xs : List ℕ). IsStage t ds xs c.release.new.counts)
+          (sym (ap (λ (rs : List Rank). ranked rs) c.in_ok-push.ensures.items ∙ ranked_push c.loop-block.done.items rank)) queue more;
     }
 
 pub returns-clause-done : goal.returns-clause-done
-returns-clause-done c = c.loop-block.invariant.done ∙ ap (λ (xs : List ℕ). c.args.done.now.items ++ xs) (take_all c.loop-block.block-index c.args.round.now c.loop-block-test.false)
+returns-clause-done c =
+    c.loop-block.invariant.done
+    ∙ ap (λ (xs : List ℕ). c.args.done.now.items ++ in_round c.args.depth xs) (take_all c.loop-block.block-index c.args.round.now c.loop-block-test.false)
 
 pub returns-clause-stage : goal.returns-clause-stage
 returns-clause-stage c =
-    subst (λ (xs : List ℕ). IsStage c.args._table.now c.loop-block.done.items (xs ++ c.loop-block.next.items) c.loop-block.counts)
+    subst (λ (xs : List ℕ). IsStage c.args._table.now (ranked c.loop-block.done.items) (xs ++ c.loop-block.next.items) c.loop-block.counts)
     (drop_all c.loop-block.block-index c.args.round.now c.loop-block-test.false) c.loop-block.invariant.stage

@@ -1,5 +1,5 @@
 use Rattle.std.proofs.Common.{ap, refl, sym, arith, ◌∙◌, true≢false}
-use Rattle.sci_forms.specs.Forms.{has_delay}
+use Rattle.sci_forms.specs.Form.{has_delay}
 use Rattle.sci_forms.specs.declared.spec.Spec.{Spec}
 use Rattle.sci_net.specs.Parts.{IsBlock, spec_of}
 use Rattle.sci_judge.proofs.Programs.{port_at}

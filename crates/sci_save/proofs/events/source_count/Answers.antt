@@ -1,6 +1,6 @@
 use Rattle.std.proofs.Common.{length, ap, sym, ◌∙◌}
 use Rattle.sci_forms.specs.declared.spec.Spec.{Spec}
-use Rattle.sci_forms.specs.Forms.{is_sync}
+use Rattle.sci_forms.specs.Form.{is_sync}
 use Rattle.sci_net.specs.Parts.{spec_of}
 use Rattle.sci_save.proofs.Sources.{not_sync, ports_length}
 use Rattle.sci_save.proofs.events.source_count.Goals as goal

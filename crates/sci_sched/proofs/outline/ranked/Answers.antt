@@ -1,7 +1,7 @@
 use Rattle.std.proofs.Common.{◌≤◌, length, get_or, subst, sym}
 use Rattle.sci_sched.specs.Answer.{loop_violation}
 use Rattle.sci_base.specs.Stops.{IsViolation}
-use Rattle.sci_sched.proofs.Outlining.{sorted_loop, sorted_order, loop_source, loop_block, loop_told, below_size, ordered_are}
+use Rattle.sci_sched.proofs.Outlining.{sorted_loop, sorted_order, loop_source, loop_block, loop_told, below_size, ordered_are, depths_source}
 use Rattle.sci_sched.proofs.outline.ranked.Goals as goal
 
 pub loop_stop-requires-clause-least : goal.loop_stop-requires-clause-least
@@ -29,8 +29,14 @@ returns-in-Loop-clause-stop c =
     loop_told n s c.in-Loop.found.items c.loop_stop.result (loop_source n s t c.requires.table.needs c.in-Loop.found.items h.0) h.1
     (subst (λ xs. IsViolation (loop_violation n s xs) c.loop_stop.result) c.deref.ensures.value c.loop_stop.ensures)
 
-pub returns-in_ok-blocks-in-Order-clause-ok : goal.returns-in_ok-blocks-in-Order-clause-ok
-returns-in_ok-blocks-in-Order-clause-ok c =
+pub returns-in_ok-ordered-in-Order-clause-ok : goal.returns-in_ok-ordered-in-Order-clause-ok
+returns-in_ok-ordered-in-Order-clause-ok c =
     let t = c.args.table.now in
     let h = sorted_order t c.in_ok-found.field-0 c.in-Order.order c.in-Order.is c.in_ok-found.ensures in
-    ordered_are c.args.net.now c.args.source t c.in_ok-blocks-in-Order.blocks.items c.requires.table h.0 c.in_ok-blocks-in-Order.ensures.exactly c.in_ok-blocks-in-Order.ensures.ordered
+    let o = c.in_ok-ordered-in-Order in
+    ordered_are c.args.net.now c.args.source t o.ordered.blocks.items c.requires.table h.0 o.ensures.exactly o.ensures.ordered
+
+pub returns-in_ok-ordered-in-Order-clause-depths : goal.returns-in_ok-ordered-in-Order-clause-depths
+returns-in_ok-ordered-in-Order-clause-depths c =
+    let o = c.in_ok-ordered-in-Order in
+    depths_source c.args.net.now c.args.source c.args.table.now o.ordered.blocks.items o.ordered.depths.items c.requires.table o.ensures.depths

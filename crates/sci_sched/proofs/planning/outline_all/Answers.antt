@@ -16,10 +16,10 @@ length_stop-requires c =
     (total_fits c.args.net.now c.well_formed-2.ensures c.in_ok-outlines.outlines.items c.in_ok-outlines.ensures.ok) in
     subst (λ m. m < 2 ^ 63) (sym c.total-size.ensures) fits
 
-pub returns-then-size-gt262144-clause-stop : goal.returns-then-size-gt262144-clause-stop
-returns-then-size-gt262144-clause-stop c =
+pub returns-then-size-gt-ENTRIES-clause-stop : goal.returns-then-size-gt-ENTRIES-clause-stop
+returns-then-size-gt-ENTRIES-clause-stop c =
     too_long c.args.net.now c.well_formed-2.ensures c.in_ok-outlines.outlines.items c.in_ok-outlines.ensures.ok c.total-size.result c.length_stop.result
-    (c.total-size.ensures ∙ ap (λ (os : List Outline). sum_by outline_size os) c.deref.ensures.value) c.if-size-gt262144.true c.length_stop.ensures
+    (c.total-size.ensures ∙ ap (λ (os : List Outline). sum_by outline_size os) c.deref.ensures.value) c.if-size-gt-ENTRIES.true c.length_stop.ensures
 
 pub returns-clause-ok : goal.returns-clause-ok
 returns-clause-ok c =
@@ -27,5 +27,5 @@ returns-clause-ok c =
     record {
       origins = c.in_ok-reach.ensures;
       outlines = c.in_ok-outlines.ensures.ok;
-      short = subst (λ m. m ≤ 262144) same c.if-size-gt262144.false;
+      short = subst (λ m. m ≤ 262144) same c.if-size-gt-ENTRIES.false;
     }

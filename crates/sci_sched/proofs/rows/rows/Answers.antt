@@ -1,7 +1,7 @@
 use Rattle.std.proofs.Common.{◌<◌, ◌+◌, ◌≡◌, List, length, Vec, subst, sym, arith}
 use Rattle.std.specs.declared.alloc.Global.{Global}
 use Rattle.sci_net.specs.Sources.{sources_of, source_of}
-use Rattle.sci_sched.specs.declared.schedule.Entry.{Entry}
+use Rattle.sci_reaction.specs.declared.entry.Entry.{Entry}
 use Rattle.sci_sched.specs.Plain.{lists_of}
 use Rattle.sci_sched.specs.Outlines.{IsOutline}
 use Rattle.sci_sched.specs.Rows.{AreRows}

@@ -1,7 +1,7 @@
 use Rattle.std.proofs.Common.{◌≡◌, take, Vec}
 use Rattle.std.specs.List.{sum_by}
 use Rattle.std.specs.declared.alloc.Global.{Global}
-use Rattle.sci_sched.specs.declared.schedule.Entry.{Entry}
+use Rattle.sci_reaction.specs.declared.entry.Entry.{Entry}
 use Rattle.sci_sched.specs.Plain.{row_of}
 use Rattle.sci_sched.specs.Size.{guards_in}
 use Rattle.sci_sched.proofs.schedule.all_guards_in.Given as goal

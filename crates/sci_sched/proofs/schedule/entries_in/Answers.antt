@@ -1,7 +1,7 @@
 use Rattle.std.proofs.Common.{ℕ, ◌<◌, ◌^◌, vec_len, Vec, subst, sym, arith}
 use Rattle.std.specs.List.{sum_by}
 use Rattle.std.specs.declared.alloc.Global.{Global}
-use Rattle.sci_sched.specs.declared.schedule.Entry.{Entry}
+use Rattle.sci_reaction.specs.declared.entry.Entry.{Entry}
 use Rattle.sci_sched.proofs.Counts.{entries_counted, part_fits}
 use Rattle.sci_sched.proofs.schedule.entries_in.Goals as goal
 

@@ -1,6 +1,6 @@
 use Rattle.std.proofs.Common.{ℕ, ◌<◌, ◌^◌, vec_len, subst, sym, arith}
 use Rattle.std.specs.List.{sum_by}
-use Rattle.sci_sched.specs.declared.schedule.Entry.{Entry}
+use Rattle.sci_reaction.specs.declared.entry.Entry.{Entry}
 use Rattle.sci_sched.proofs.Counts.{guards_counted, part_fits}
 use Rattle.sci_sched.proofs.schedule.guards_in.Goals as goal
 

@@ -1,6 +1,6 @@
 use Rattle.std.proofs.Common.{◌≡◌, take, vec_len}
 use Rattle.std.specs.List.{sum_by}
-use Rattle.sci_sched.specs.declared.schedule.Entry.{Entry}
+use Rattle.sci_reaction.specs.declared.entry.Entry.{Entry}
 use Rattle.sci_sched.proofs.schedule.guards_in.Given as goal
 
 abbrev pub invariant-loop-entry : goal.invariant-loop-entry

@@ -1,8 +1,9 @@
 use Rattle.std.proofs.Common.{rules, ◌+◌, drop, subst, List, ℕ, get_or, ap}
 use Rattle.sci_io.specs.Taken.{UnderWay}
 use Rattle.sci_io.proofs.Advance.{cut_off, next_front, same_text}
-use Rattle.sci_sched.specs.declared.schedule.Entry.{Entry}
-use Rattle.sci_sched.specs.Plain.{entry_of, row_of}
+use Rattle.sci_reaction.specs.declared.entry.Entry.{Entry}
+use Rattle.sci_sched.specs.Plain.{row_of}
+use Rattle.sci_reaction.specs.Kept.{entry_of}
 use Rattle.sci_sched.specs.Text.{entry_text, entries_text}
 use Rattle.sci_sched.proofs.Steps.{entries-drop}
 use Rattle.sci_sched.proofs.write.put_entries.Goals as goal

@@ -2,8 +2,8 @@ use Rattle.std.proofs.Common.{◌≡◌, List, [], ◌++◌, codes, vec_len, ap,
 use Rattle.std.proofs.lemmas.Bool.{eqb-true}
 use Rattle.std.proofs.lemmas.List.{nil_from_length}
 use Rattle.sci_io.proofs.Advance.{same_text}
-use Rattle.sci_sched.specs.declared.schedule.Guard.{Guard}
-use Rattle.sci_sched.specs.Plain.{guards_of}
+use Rattle.sci_reaction.specs.declared.entry.Guard.{Guard}
+use Rattle.sci_reaction.specs.Kept.{guards_of}
 use Rattle.sci_sched.specs.Text.{block_text, guards_text, entry_text}
 use Rattle.sci_sched.proofs.write.put_entry.Goals as goal
 

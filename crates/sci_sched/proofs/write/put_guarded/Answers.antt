@@ -1,6 +1,6 @@
 use Rattle.std.proofs.Common.{rules, codes, ◌++◌, ap}
 use Rattle.sci_io.proofs.Advance.{then_writes, stopped, same_text}
-use Rattle.sci_sched.specs.Plain.{guards_of}
+use Rattle.sci_reaction.specs.Kept.{guards_of}
 use Rattle.sci_sched.specs.Text.{block_text, guards_text, entry_text}
 use Rattle.sci_sched.proofs.write.put_guarded.Goals as goal
 

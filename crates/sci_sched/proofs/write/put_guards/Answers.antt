@@ -1,8 +1,8 @@
 use Rattle.std.proofs.Common.{rules, ◌+◌, drop, subst, List, ℕ, get_or}
 use Rattle.sci_io.specs.Taken.{UnderWay}
 use Rattle.sci_io.proofs.Advance.{cut_off, next_front}
-use Rattle.sci_sched.specs.declared.schedule.Guard.{Guard}
-use Rattle.sci_sched.specs.Plain.{guard_of, guards_of}
+use Rattle.sci_reaction.specs.declared.entry.Guard.{Guard}
+use Rattle.sci_reaction.specs.Kept.{guard_of, guards_of}
 use Rattle.sci_sched.specs.Text.{guard_text, guards_text}
 use Rattle.sci_sched.proofs.Steps.{guards-drop}
 use Rattle.sci_sched.proofs.write.put_guards.Goals as goal

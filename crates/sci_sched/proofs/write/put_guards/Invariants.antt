@@ -1,6 +1,6 @@
 use Rattle.std.proofs.Common.{drop}
 use Rattle.sci_io.specs.Taken.{UnderWay}
-use Rattle.sci_sched.specs.Plain.{guards_of}
+use Rattle.sci_reaction.specs.Kept.{guards_of}
 use Rattle.sci_sched.specs.Text.{guards_text}
 use Rattle.sci_sched.proofs.write.put_guards.Given as goal
 

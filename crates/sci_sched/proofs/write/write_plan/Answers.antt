@@ -5,7 +5,7 @@ use Rattle.sci_io.specs.Taken.{UnderWay}
 use Rattle.sci_io.proofs.Advance.{cut_off, next_front, same_text}
 use Rattle.sci_net.specs.declared.Source.TheVariants.{Start}
 use Rattle.sci_net.specs.Sources.{sources_of}
-use Rattle.sci_sched.specs.declared.schedule.Entry.{Entry}
+use Rattle.sci_reaction.specs.declared.entry.Entry.{Entry}
 use Rattle.sci_sched.specs.Plain.{row_of, lists_of}
 use Rattle.sci_sched.specs.Text.{row_text, plan_text}
 use Rattle.sci_sched.proofs.Steps.{plan-drop}

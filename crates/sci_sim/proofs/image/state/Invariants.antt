@@ -1,6 +1,6 @@
-use Rattle.std.proofs.Common.{◌≡◌, map, take}
+use Rattle.std.proofs.Common.{◌≡◌, take}
 use Rattle.sci_store.specs.Store.{state_of}
 use Rattle.sci_sim.proofs.image.state.Given as goal
 
 abbrev pub invariant-loop-at : goal.invariant-loop-at
-invariant-loop-at g l = l.values.items ≡ take l.at (state_of l.frame (map (λ b. (goal.Bank-dyn g (b.vtable, b.value)).meaning b.value) l.lib.banks.items) l.block)
+invariant-loop-at g l = l.values.items ≡ take l.at (state_of l.frame l.lib l.block)

@@ -1,8 +1,8 @@
-use Rattle.std.proofs.Common.{[], map}
+use Rattle.std.proofs.Common.{[]}
 use Rattle.sci_net.specs.Parts.{rows_of}
 use Rattle.sci_store.specs.Store.{state_of}
 use Rattle.sci_sim.proofs.Listed.{IsListedTo}
 use Rattle.sci_sim.proofs.image.states.Given as goal
 
 abbrev pub invariant-loop-block : goal.invariant-loop-block
-invariant-loop-block g l = IsListedTo [] (state_of l.frame (map (λ b. (goal.Bank-dyn g (b.vtable, b.value)).meaning b.value) l.lib.banks.items)) l.block (rows_of l.states.items)
+invariant-loop-block g l = IsListedTo [] (state_of l.frame l.lib) l.block (rows_of l.states.items)

@@ -1,4 +1,6 @@
-use Rattle.std.proofs.Common.{sym, subst}
+use Rattle.std.proofs.Common.{ap, sym, ◌∙◌, subst, refl}
+use Rattle.sci_places.proofs.Outputs.{outputs_law}
+use Rattle.sci_bank.proofs.LibraryLemmas.{in_order-with_bank, Holds-full}
 use Rattle.sci_reaction.specs.Equations.{AreInRange}
 use Rattle.sci_places.specs.Flat.{values_at}
 use Rattle.sci_store.proofs.Evaluating.{call_here, computed_here, room_here, fills_behind, written_here, in_range_behind, seated_after}
@@ -22,6 +24,15 @@ returns-clause-computed g c =
     c.place-place.ensures.place c.args.values.now c.requires.values c.out.new.outs c.out.ensures.in_range)
     c.out.ensures.answer
 
+pub returns-clause-others : goal.returns-clause-others
+returns-clause-others g c d inside other =
+    ap (λ vs. values_at c.args.frame.now.net vs d)
+    (written_here c.args.frame.now _ c.requires.seated c.args.block c.requires.block c.seat-seat.result c.seat-seat.ensures c.place-place.result
+    c.place-place.ensures.place c.args.values.now c.requires.values c.out.new.outs c.out.ensures.in_range)
+    ∙ outputs_law.kept c.args.frame.now.net c.args.values.now c.out.new.outs c.args.block d c.requires.whole c.requires.block inside (λ same. other (sym same))
+    (fills_behind c.args.frame.now _ c.requires.seated c.args.block c.requires.block c.seat-seat.result c.seat-seat.ensures c.place-place.result
+    c.place-place.ensures.place c.args.values.now c.requires.values c.out.new.outs c.out.ensures.in_range).enough
+
 pub returns-clause-values : goal.returns-clause-values
 returns-clause-values g c =
     subst (λ vs. AreInRange c.args.frame.now.net (values_at c.args.frame.now.net vs))
@@ -33,4 +44,5 @@ returns-clause-values g c =
 
 pub returns-clause-seated : goal.returns-clause-seated
 returns-clause-seated g c =
-    seated_after c.args.frame.now _ c.requires.seated c.args.block _ c.seat-seat.result c.seat-seat.ensures c.out.ensures.changed c.out.ensures.in_order
+    seated_after c.args.frame.now _ c.requires.seated c.args.block _ c.seat-seat.result c.seat-seat.ensures c.out.ensures.changed
+    (in_order-with_bank _ _ c.seat-seat.result.kind _ (Holds-full _ c.seat-seat.result.kind c.requires.seated.full) refl c.out.ensures.changed)

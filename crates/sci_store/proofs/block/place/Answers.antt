@@ -1,6 +1,6 @@
 use Rattle.std.proofs.Common.{◌+◌, ◌≤◌, ap, sym, subst}
 use Rattle.sci_net.specs.Net.{all_elements}
-use Rattle.sci_places.specs.declared.span.Span.{Span}
+use Rattle.sci_span.specs.declared.span.Span.{Span}
 use Rattle.sci_places.proofs.Outputs.{block_within}
 use Rattle.sci_store.specs.Frame.{Fixed}
 use Rattle.sci_store.proofs.Evaluating.{place_here}

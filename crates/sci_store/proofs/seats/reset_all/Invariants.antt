@@ -1,6 +1,5 @@
-use Rattle.std.proofs.Common.{map}
 use Rattle.sci_store.proofs.Seated.{AreResetTo}
 use Rattle.sci_store.proofs.seats.reset_all.Given as goal
 
 abbrev pub invariant-loop-number : goal.invariant-loop-number
-invariant-loop-number g l = AreResetTo l.number (map (λ b. (goal.Bank-dyn g (b.vtable, b.value)).meaning b.value) l.lib.banks.items)
+invariant-loop-number g l = AreResetTo l.number l.lib

@@ -1,8 +1,7 @@
-use Rattle.std.proofs.Common.{map}
 use Rattle.sci_net.specs.Parts.{spec_of}
 use Rattle.sci_store.proofs.Seated.{IsSeatingTo}
 use Rattle.sci_store.proofs.seats.seat_all.Given as goal
 
 abbrev pub invariant-loop-block : goal.invariant-loop-block
 invariant-loop-block g l =
-    IsSeatingTo l.net (spec_of l.net) l.block l.first_source l.seats.items (map (λ b. (goal.Bank-dyn g (b.vtable, b.value)).meaning b.value) l.lib.banks.items)
+    IsSeatingTo l.net (spec_of l.net) l.block l.first_source l.seats.items l.lib

@@ -2,6 +2,7 @@ use Rattle.std.proofs.Common.{◌≡◌, ◌<◌, ◌+◌, length, true, refl, a
 use Rattle.sci_forms.specs.declared.spec.Spec.{Spec}
 use Rattle.sci_forms.specs.Typed.{typed}
 use Rattle.sci_net.specs.Parts.{rows_of}
+use Rattle.sci_bank.proofs.LibraryLemmas.{Holds-full, in_order-with_bank}
 use Rattle.sci_store.specs.declared.seats.Seat.{Seat}
 use Rattle.sci_store.specs.Seating.{begun}
 use Rattle.sci_store.proofs.Seated.{seating_next, sources_next, sources_small, begun_is}
@@ -45,4 +46,5 @@ loop-block-preserved g c =
     let x : Seat = record { kind = s.kind; slot = c.in_ok-slot.slot; first_source = c.loop-block.first_source } in
     seating_next n specs k c.loop-block.first_source c.loop-block.seats.items _ c.push.new.self.items _ x s c.loop-block.invariant c.well_formed-2.ensures (within g here) refl
     c.in_ok-slot.ensures.added.0 refl c.in_ok-push.ensures.items c.in_ok-slot.ensures.added.1 (is_begun g here) (ap (λ (t : Spec). t.kind) (is_begun g here))
-    _ (ap (λ m. c.loop-block.first_source + m) c.source_count-first_source.ensures) c.in_ok-slot.ensures.full c.in_ok-slot.ensures.in_order
+    _ (ap (λ m. c.loop-block.first_source + m) c.source_count-first_source.ensures) c.in_ok-slot.ensures.full
+    (in_order-with_bank _ _ s.kind _ (Holds-full _ s.kind c.loop-block.invariant.full) refl c.in_ok-slot.ensures.added.1)

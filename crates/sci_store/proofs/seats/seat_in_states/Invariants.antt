@@ -1,4 +1,3 @@
-use Rattle.std.proofs.Common.{map}
 use Rattle.sci_net.specs.Parts.{rows_of}
 use Rattle.sci_store.specs.Seating.{begun}
 use Rattle.sci_store.proofs.Seated.{IsSeatingTo}
@@ -6,4 +5,4 @@ use Rattle.sci_store.proofs.seats.seat_in_states.Given as goal
 
 abbrev pub invariant-loop-block : goal.invariant-loop-block
 invariant-loop-block g l =
-    IsSeatingTo l.net (begun l.net (rows_of l.states)) l.block l.first_source l.seats.items (map (λ b. (goal.Bank-dyn g (b.vtable, b.value)).meaning b.value) l.lib.banks.items)
+    IsSeatingTo l.net (begun l.net (rows_of l.states)) l.block l.first_source l.seats.items l.lib

@@ -1,4 +1,4 @@
-use Rattle.std.proofs.Common.{◌≡◌, ℕ, ◌+◌, ◌*◌, ◌<◌, ◌≤◌, List, [], false, length, get_or, subst, sym, ap, ◌∙◌}
+use Rattle.std.proofs.Common.{◌≡◌, ℕ, ◌*◌, List, [], length, sym, ap, ◌∙◌}
 use Rattle.sci_io.proofs.Advance.{same_text, nothing_due}
 use Rattle.sci_vcd.specs.declared.signal.Change.{Change}
 use Rattle.sci_text.specs.Lines.{joined}

@@ -1,10 +1,10 @@
-use Rattle.std.proofs.Common.{◌≡◌, ℕ, ◌+◌, ◌*◌, ◌<◌, ◌≤◌, List, length, subst, sym, rules, arith}
+use Rattle.std.proofs.Common.{ℕ, ◌+◌, ◌*◌, List, length, subst, sym, rules, arith}
 use Rattle.std.specs.Prelude.{min}
 use Rattle.sci_io.specs.Taken.{UnderWay}
 use Rattle.sci_io.proofs.Advance.{begins, next_front, cut_off}
 use Rattle.sci_text.specs.Lines.{joined}
 use Rattle.sci_vcd.specs.Spelling.{change_lines}
-use Rattle.sci_vcd.specs.Writing.{changes_at, changes_within, told_behind, page_end}
+use Rattle.sci_vcd.specs.Writing.{changes_at, changes_within}
 use Rattle.sci_vcd.proofs.Paged.{page_starts, page_text, all_pages}
 use Rattle.sci_vcd.proofs.pages.put_changes.Goals as goal
 

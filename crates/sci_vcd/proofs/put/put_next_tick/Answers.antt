@@ -1,4 +1,4 @@
-use Rattle.std.proofs.Common.{sym, ℕ, ◌≡◌, arith}
+use Rattle.std.proofs.Common.{sym, ◌≡◌}
 use Rattle.sci_io.proofs.Advance.{same_text}
 use Rattle.sci_vcd.proofs.Putting.{tick_text}
 use Rattle.sci_vcd.proofs.put.put_next_tick.Goals as goal

@@ -1,4 +1,4 @@
-use Rattle.std.proofs.Common.{rules, ◌+◌, drop, subst, List, ℕ, arith}
+use Rattle.std.proofs.Common.{rules, ◌+◌, drop, subst, List, ℕ}
 use Rattle.sci_io.specs.Taken.{UnderWay}
 use Rattle.sci_io.proofs.Advance.{cut_off, next_front}
 use Rattle.sci_vcd.specs.Waveforms.{no_signal}

@@ -1,4 +1,4 @@
-use Rattle.std.proofs.Common.{rules, ◌+◌, ◌<◌, length, drop, subst, List, ℕ, ℤ, get_or, arith}
+use Rattle.std.proofs.Common.{rules, ◌+◌, ◌<◌, length, drop, subst, List, ℕ, get_or, arith}
 use Rattle.std.specs.Prelude.{pos}
 use mir.Val.{SFits}
 use mir.Syntax.{w64}

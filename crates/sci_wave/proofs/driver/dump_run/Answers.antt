@@ -1,12 +1,10 @@
-use Rattle.std.proofs.Common.{◌≡◌, ◌∙◌, ℕ, ◌+◌, ◌^◌, ◌≤◌, [], sym, ap, subst, refl, arith, rules}
+use Rattle.std.proofs.Common.{◌∙◌, [], sym, ap, subst, refl, arith}
 use Rattle.std.specs.Prelude.{None}
 use Rattle.std.proofs.lemmas.Result.{err_from_is_err_and}
 use Rattle.sci_io.proofs.Advance.{nothing_due}
-use Rattle.sci_net.specs.Parts.{Parts}
 use Rattle.sci_net.specs.Net.{IsNet}
-use Rattle.sci_net.specs.Sources.{source_of}
 use Rattle.sci_reaction.specs.Memory.{AreColumns}
-use Rattle.sci_run.specs.Run.{first_state, IsOutcome}
+use Rattle.sci_run.specs.Run.{first_state}
 use Rattle.sci_sim.specs.declared.end.RunEnd.TheVariants.{Stop as Stopped}
 use Rattle.sci_store.specs.Frame.{Fixed}
 use Rattle.sci_sim.proofs.Runs.{start_on_way, fires_now, goes_further, trace_is, no_more, not_over, finished_by}

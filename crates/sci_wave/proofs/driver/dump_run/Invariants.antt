@@ -1,4 +1,3 @@
-use Rattle.std.proofs.Common.{map}
 use Rattle.std.specs.Prelude.{None}
 use Rattle.sci_io.specs.Taken.{direct}
 use Rattle.sci_wave.proofs.Driven.{Driven}
@@ -6,5 +5,5 @@ use Rattle.sci_wave.proofs.driver.dump_run.Given as goal
 
 abbrev pub invariant-loop-reaction : goal.invariant-loop-reaction
 invariant-loop-reaction g l =
-    Driven l.fn.ready.fixed.net l.ins l.until l.limit l.fn.ready l.ready (map (λ b. (goal.Bank-dyn g (b.vtable, b.value)).meaning b.value) l.lib.banks.items)
+    Driven l.fn.ready.fixed.net l.ins l.until l.limit l.fn.ready l.ready l.lib
     (direct None 0 l.initial.trace.begun) (direct None 0 l.trace.begun) l.dump l.date (g.S.Sink.state l.fn.out) (g.S.Sink.state l.out) l._reaction

@@ -1,4 +1,4 @@
-use Rattle.std.proofs.Common.{◌≡◌, ◌∙◌, ℕ, ℤ, List, Bool, ap}
+use Rattle.std.proofs.Common.{◌∙◌, ℤ, List, ap}
 use Rattle.std.specs.Prelude.{if◌then◌else◌}
 use Rattle.sci_places.specs.Flat.{values_at}
 use Rattle.sci_vcd.specs.Writing.{Writing}

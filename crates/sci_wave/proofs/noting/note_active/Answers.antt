@@ -1,11 +1,9 @@
-use Rattle.std.proofs.Common.{◌≡◌, ◌∙◌, ◌+◌, ℕ, ℤ, List, Bool, length, get_or, refl, sym, ap, subst, arith, cond}
-use Rattle.std.specs.Prelude.{if◌then◌else◌}
+use Rattle.std.proofs.Common.{ℕ, refl, arith}
 use Rattle.std.proofs.lemmas.List.Elements.{Contains-get_or}
 use Rattle.sci_net.specs.Sources.{source_of}
 use Rattle.sci_store.specs.Marks.{mark_at}
-use Rattle.sci_vcd.specs.Writing.{Writing}
-use Rattle.sci_wave.specs.Noted.{holds_there, with_block}
-use Rattle.sci_wave.proofs.Blockwise.{whole_there, in_range_there, possible_blocks, MarkedTo, none_marked, marked_more, marked_step, active_noted}
+use Rattle.sci_wave.specs.Noted.{holds_there}
+use Rattle.sci_wave.proofs.Blockwise.{whole_there, in_range_there, possible_blocks, none_marked, marked_step, active_noted}
 use Rattle.sci_wave.proofs.noting.note_active.Goals as goal
 
 pub loop-block-init : goal.loop-block-init

@@ -1,5 +1,4 @@
-use Rattle.std.proofs.Common.{◌≡◌, ◌∙◌, ◌+◌, ℕ, ℤ, List, refl, sym, ap, subst, arith}
-use Rattle.sci_places.specs.Flat.{start_of, overwritten}
+use Rattle.std.proofs.Common.{◌∙◌, ◌+◌, ℤ, List, refl, sym, ap, subst, arith}
 use Rattle.sci_net.specs.Parts.{IsBlock}
 use Rattle.sci_vcd.specs.Writing.{Writing}
 use Rattle.sci_wave.specs.Noted.{holds_there, with_block}

@@ -1,4 +1,4 @@
-use Rattle.std.proofs.Common.{◌≡◌, ◌<◌, ◌≤◌, ◌+◌, ◌-◌, ℕ, ℤ, List, length, true, subst, sym, ap, ◌∙◌, rules, arith}
+use Rattle.std.proofs.Common.{◌≡◌, ◌<◌, ◌+◌, ◌-◌, ℕ, ℤ, length, true, subst, sym, ap, ◌∙◌, rules, arith}
 use mir.Syntax.{w64}
 use Rattle.std.proofs.lemmas.Int.{to_z-of_z}
 use Rattle.sci_base.specs.Fit.{in_range}
@@ -8,8 +8,8 @@ use Rattle.sci_net.specs.Parts.{spec_of}
 use Rattle.sci_places.specs.Flat.{start_of}
 use Rattle.sci_vcd.specs.Waveforms.{type_of}
 use Rattle.sci_vcd.specs.Writing.{Writing, with_note}
-use Rattle.sci_wave.specs.Noted.{IsOf, with_block, holds_there}
-use Rattle.sci_wave.proofs.Blockwise.{start_read, end_read, whole_there, within_signals, room_there, fits_there, nothing_noted, note_more, all_noted}
+use Rattle.sci_wave.specs.Noted.{holds_there}
+use Rattle.sci_wave.proofs.Blockwise.{start_read, end_read, within_signals, room_there, fits_there, nothing_noted, note_more, all_noted}
 use Rattle.sci_wave.proofs.noting.note_block.Goals as goal
 
 pub overflow_sub-count : goal.overflow_sub-count

@@ -1,11 +1,11 @@
 use Rattle.std.proofs.Common.{◌-◌, length, map}
-use Rattle.sci_bank.specs.Library.{kinds}
+use Rattle.sci_forms.specs.Names.{kinds}
 use Rattle.sci_library.specs.Banks.{IsBegun}
 use Rattle.sci_worked_banks.proofs.library.a_bank_for_each_kind.OwnLists.{own-1}
 use Rattle.sci_worked_banks.proofs.library.a_bank_for_each_kind.Given as goal
 
 abbrev pub invariant-loop-kind : goal.invariant-loop-kind
-invariant-loop-kind g l = IsBegun (map (λ b. (own-1.entry b.vtable).1.meaning b.value) l.lib.banks.items)
+invariant-loop-kind g l = IsBegun (map (λ b. (own-1.entry b.vtable).1.meaning b.value) l.banks.items)
 
 abbrev pub decreases-loop-kind : goal.decreases-loop-kind
-decreases-loop-kind g l = kinds - length l.lib.banks.items
+decreases-loop-kind g l = kinds - length l.banks.items

@@ -15,7 +15,7 @@ returns-then-is_equal c =
     let op = to_z-of_z w64 c.param-op.result fits_op ∙ c.param-op.ensures in
     let flag = to_z-of_z w64 c.param.result fits ∙ c.param.ensures in
     let told = rw flag at (sym c.is_equal.ensures ∙ c.if-is_equal.true) in
-    let does = rw (op, c.len.ensures.value, c.true_inputs.ensures) at c.logical.ensures in
+    let does = rw (op, c.in_count.ensures, c.true_inputs.ensures) at c.logical.ensures in
     truth_cell (out_type s) (param s 0) (param s 1) (length s.ins) f _ told (to_z-of_z w64 c.truth.result fits_truth ∙ (c.truth.ensures ∙ ap truth does))
 
 pub returns-else-is_equal : goal.returns-else-is_equal

@@ -1,14 +1,16 @@
 use Rattle.std.proofs.Common.{◌≡◌, ◌≤◌, ◌∙◌, List, length, ap, subst, sym}
-use Rattle.sci_places.specs.declared.span.Span.{Span}
-use Rattle.sci_places.specs.Layout.{Layout, BlockPlace, place_at, place_of, gathered, spans_length, AreWithin}
+use Rattle.sci_span.specs.declared.span.Span.{Span}
+use Rattle.sci_places.specs.Layout.{Layout, place_at}
+use Rattle.sci_span.specs.declared.place.Place.{Place}
+use Rattle.sci_span.specs.Values.{gathered, spans_length, AreWithin}
 use Rattle.sci_places.proofs.Placed.{place_kept}
 use Rattle.sci_places.proofs.places.Places.gather.Goals.{After-index}
 use Rattle.sci_places.proofs.places.Places.gather.Goals as goal
 
 -- what is copied are the spans of the block's place
-ins_kept : (c : After-index) → (place_at c.args.self.now c.args.block).ins ≡ (place_of c.index.result.now).ins
+ins_kept : (c : After-index) → (place_at c.args.self.now c.args.block).ins ≡ c.index.result.now.ins
 ins_kept c =
-    ap (λ (p : BlockPlace). p.ins)
+    ap (λ (p : Place). p.ins)
     (place_kept c.self.inside.blocks.items c.args.self.now c.args.block c.index.result.now (ap (λ (l : Layout). l.blocks) c.self.view_is)
     c.requires.least c.requires.most c.index.ensures)
 

@@ -1,11 +1,12 @@
 use Rattle.std.proofs.Common.{ap, sym, ◌∙◌}
-use Rattle.sci_places.specs.Layout.{Layout, BlockPlace}
+use Rattle.sci_places.specs.Layout.{Layout}
+use Rattle.sci_span.specs.declared.place.Place.{Place}
 use Rattle.sci_places.proofs.Placed.{place_kept}
 use Rattle.sci_places.proofs.places.Places.ins.Goals as goal
 
 pub returns : goal.returns
 returns c =
     c.spans.ensures
-    ∙ sym (ap (λ (p : BlockPlace). p.ins)
+    ∙ sym (ap (λ (p : Place). p.ins)
     (place_kept c.self.inside.blocks.items c.args.self.now c.args.block c.index.result.now (ap (λ (l : Layout). l.blocks) c.self.view_is)
     c.requires.least c.requires.most c.index.ensures))

@@ -1,7 +1,6 @@
-use Rattle.std.proofs.Common.{map}
 use Rattle.sci_sim.proofs.Runs.{IsOnWay}
 use Rattle.sci_sim.proofs.ready.Ready.run.Given as goal
 
 abbrev pub invariant-loop-reaction : goal.invariant-loop-reaction
 invariant-loop-reaction g l =
-    IsOnWay l.fn.ins l.fn.until l.fn.limit l.fn.self l.self (map (λ b. (goal.Bank-dyn g (b.vtable, b.value)).meaning b.value) l.lib.banks.items) (g.S.Sink.state l.fn.out) (g.S.Sink.state l.out) l._reaction
+    IsOnWay l.fn.ins l.fn.until l.fn.limit l.fn.self l.self l.lib (g.S.Sink.state l.fn.out) (g.S.Sink.state l.out) l._reaction

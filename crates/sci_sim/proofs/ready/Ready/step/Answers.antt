@@ -9,6 +9,7 @@ use Rattle.sci_sim.specs.At.{Running, AreTallied}
 use Rattle.sci_store.specs.Written.{tallied}
 use Rattle.sci_sim.specs.Reacting.{seen_in}
 use Rattle.sci_sim.proofs.Steps.{within_until, shows_taken, outcome_of, fixed_stays, stands, stops_at, is_tallied, tallied_more, tallied_is, at_tallied, leads_to, leads_to_in, goes_on, is_over, none_of, ok_as, err_as, no_ok, step_cut, step_written, ready_kept, all_seen}
+use Rattle.sci_sim.proofs.Resting.{ready_tallied}
 use Rattle.sci_sim.proofs.ready.Ready.step.Goals as goal
 
 pub react-requires-clause-date : goal.react-requires-clause-date
@@ -137,3 +138,6 @@ returns-in_err-observe-in-Some-due_end-clause-reacted g c st from date source at
 
 pub invariant_of-self : goal.invariant_of-self
 invariant_of-self g c = ready_kept _ c.observe.new.self c.in_err-observe-in-Some-due_end.ensures.kept c.self.invariant
+
+pub invariant_of-self-in-Some-due_end : goal.invariant_of-self-in-Some-due_end
+invariant_of-self-in-Some-due_end g c = ready_tallied _ c.observe.new.self (End c.in-Some-due_end.word ∷ []) c.in_ok-observe-in-Some-due_end.ensures.counted c.self.invariant

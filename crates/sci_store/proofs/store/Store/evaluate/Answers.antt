@@ -34,6 +34,8 @@ returns-in_default-clause-answer g c =
     (entered_none _ c.enter.new.self.room c.in_default.ensures.entered)
     (record {
       calls = inl refl;
+      others = λ d inside other. ap (λ (s : Standing). values_at c.args.frame.now.net s.values d) same;
+      cursors = ap (λ (s : Standing). s.cursors) same;
       marks = ap (λ (s : Standing). s.marks) same;
       lines = ap (λ (s : Standing). s.lines) same;
       sum = ap (λ (s : Standing). s.sum) same;
@@ -62,6 +64,10 @@ returns-in-Overflow-clause-answer g c =
     c.deref_mut.result.now c.compute.new.values _ (went_in g (goal.at.returns-in-Overflow-clause-answer g c).After-deref) c.in-Overflow.ensures.computed
     (record {
       calls = inr c.in-Overflow.ensures.called;
+      others = λ d inside other. ap (λ (vs : List ℤ). values_at c.args.frame.now.net vs d) (back g (goal.at.returns-in-Overflow-clause-answer g c).After-compute)
+          ∙ (c.in-Overflow.ensures.others d inside other
+          ∙ ap (λ (vs : List ℤ). values_at c.args.frame.now.net vs d) (before g (goal.at.returns-in-Overflow-clause-answer g c).After-deref_mut));
+      cursors = ap (λ (s : Standing). s.cursors) same;
       marks = ap (λ (s : Standing). s.marks) same;
       lines = ap (λ (s : Standing). s.lines) same;
       sum = ap (λ (s : Standing). s.sum) same;
@@ -74,6 +80,10 @@ returns-in-Zero-clause-answer g c =
     c.deref_mut.result.now c.compute.new.values _ (went_in g (goal.at.returns-in-Zero-clause-answer g c).After-deref) c.in-Zero.ensures.computed
     (record {
       calls = inr c.in-Zero.ensures.called;
+      others = λ d inside other. ap (λ (vs : List ℤ). values_at c.args.frame.now.net vs d) (back g (goal.at.returns-in-Zero-clause-answer g c).After-compute)
+          ∙ (c.in-Zero.ensures.others d inside other
+          ∙ ap (λ (vs : List ℤ). values_at c.args.frame.now.net vs d) (before g (goal.at.returns-in-Zero-clause-answer g c).After-deref_mut));
+      cursors = ap (λ (s : Standing). s.cursors) same;
       marks = ap (λ (s : Standing). s.marks) same;
       lines = ap (λ (s : Standing). s.lines) same;
       sum = ap (λ (s : Standing). s.sum) same;
@@ -102,5 +112,6 @@ returns-clause-answer g c =
     c.deref_mut.result.now c.compute.new.values _ (went_in g (goal.at.returns-clause-answer g c).After-deref) c.take_branch-branch.result
     c.take_branch-branch.ensures c.in-Done.ensures.called (before g (goal.at.returns-clause-answer g c).After-deref_mut) refl
     (same_standing _ _ (back g (goal.at.returns-clause-answer g c).After-compute) (ap (λ (s : Standing). s.cursors) same)
-    (ap (λ (s : Standing). set s.marks (c.args.block - 1) mark) same) refl (ap (λ (s : Standing). s.lines) same) (ap (λ (s : Standing). s.sum) same))
+    (ap (λ (s : Standing). set s.marks (c.args.block - 1) mark) same) refl (ap (λ (s : Standing). s.chosen) same) (ap (λ (s : Standing). s.lines) same)
+    (ap (λ (s : Standing). s.sum) same))
     c.in-Done.ensures.computed

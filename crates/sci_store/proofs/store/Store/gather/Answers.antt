@@ -1,6 +1,7 @@
 use Rattle.std.proofs.Common.{◌≡◌, ◌≤◌, ◌∙◌, ◌++◌, ℤ, List, length, take, drop, ap, sym, subst, arith}
-use Rattle.sci_places.specs.declared.span.Span.{Span}
-use Rattle.sci_places.specs.Layout.{AreWithin, gathered, spans_length, place_at, input_spans}
+use Rattle.sci_span.specs.declared.span.Span.{Span}
+use Rattle.sci_places.specs.Layout.{place_at, input_spans}
+use Rattle.sci_span.specs.Values.{AreWithin, gathered, spans_length}
 use Rattle.sci_places.proofs.Inputs.{inputs_law}
 use Rattle.sci_store.specs.Frame.{Fixed}
 use Rattle.sci_store.specs.Store.{Standing}

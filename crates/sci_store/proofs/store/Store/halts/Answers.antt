@@ -1,7 +1,7 @@
 use Rattle.std.proofs.Common.{ℕ, get_or, ap, sym, ◌∙◌, arith}
 use Rattle.std.proofs.lemmas.List.{get_or_default}
 use Rattle.sci_net.specs.Parts.{spec_of}
-use Rattle.sci_run.specs.Activity.{is_halt}
+use Rattle.sci_forms.specs.Form.{is_halt}
 use Rattle.sci_store.specs.Marks.{mark_at}
 use Rattle.sci_store.proofs.Writing.{block_at}
 use Rattle.sci_store.proofs.Reacting.{halts_here, never_halts}

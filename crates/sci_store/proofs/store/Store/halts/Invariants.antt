@@ -1,6 +1,6 @@
 use Rattle.std.proofs.Common.{◌≡◌, ℕ, ◌<◌, true, get_or}
 use Rattle.sci_net.specs.Parts.{spec_of}
-use Rattle.sci_run.specs.Activity.{is_halt}
+use Rattle.sci_forms.specs.Form.{is_halt}
 use Rattle.sci_store.specs.Marks.{mark_at}
 use Rattle.sci_store.proofs.store.Store.halts.Given as goal
 

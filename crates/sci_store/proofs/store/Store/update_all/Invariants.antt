@@ -1,9 +1,9 @@
-use Rattle.std.proofs.Common.{take, map}
-use Rattle.sci_store.proofs.Updating.{AreStepped}
+use Rattle.std.proofs.Common.{take}
+use Rattle.sci_store.specs.Runs.{AreStepped, called_blocks}
+use Rattle.sci_store.proofs.StateRuns.{end_behind}
 use Rattle.sci_store.proofs.store.Store.update_all.Given as goal
 
--- the marked blocks so far are stepped
-abbrev pub invariant-loop-block : goal.invariant-loop-block
-invariant-loop-block g l =
-    AreStepped l.frame (take l.block-index l.blocks) l.initial.self l.self (map (λ b. (goal.Bank-dyn g (b.vtable, b.value)).meaning b.value) l.initial.lib.banks.items)
-    (map (λ b. (goal.Bank-dyn g (b.vtable, b.value)).meaning b.value) l.lib.banks.items)
+-- the blocks of the runs so far are stepped
+abbrev pub invariant-loop-run : goal.invariant-loop-run
+invariant-loop-run g l =
+    AreStepped l.frame (called_blocks (take (end_behind 0 (take l.run-index l.row.state_runs)) l.row.state_calls)) l.initial.self l.self l.initial.lib l.lib

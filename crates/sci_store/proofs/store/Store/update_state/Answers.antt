@@ -1,6 +1,7 @@
-use Rattle.std.proofs.Common.{◌≡◌, ◌≤◌, ℤ, List, take, length, ap, sym, ◌∙◌, arith, subst}
+use Rattle.sci_bank.proofs.LibraryLemmas.{Holds-full, in_order-with_bank}
+use Rattle.std.proofs.Common.{◌≡◌, ◌≤◌, ℤ, List, take, length, refl, ap, sym, ◌∙◌, arith, subst}
 use Rattle.std.proofs.lemmas.List.{length-take-le}
-use Rattle.sci_forms.specs.Forms.{has_state}
+use Rattle.sci_forms.specs.Form.{has_state}
 use Rattle.sci_kinds.specs.Asks.{IsMask}
 use Rattle.sci_net.specs.Parts.{spec_of}
 use Rattle.sci_net.proofs.Numbered.{numbered_read}
@@ -56,4 +57,5 @@ pub returns : goal.returns
 returns g c =
     let at = (goal.at.returns g c).After-deref in
     stepped_with_state c.args.frame.now c.args.self.now c.gather-count.new.self _ _ c.args.block c.seat-seat.result c.index.result.now.mask _ c.requires.seated c.requires.block
-    c.seat-seat.ensures (mask_is g at) c.update.ensures.changed (inputs g at) c.update.ensures.full c.update.ensures.in_order c.gather-count.ensures.same c.gather-count.ensures.room
+    c.seat-seat.ensures (mask_is g at) c.update.ensures.changed (inputs g at) c.update.ensures.full
+    (in_order-with_bank _ _ c.seat-seat.result.kind _ (Holds-full _ c.seat-seat.result.kind c.requires.seated.full) refl c.update.ensures.changed) c.gather-count.ensures.same c.gather-count.ensures.room

@@ -1,4 +1,4 @@
-use Rattle.std.proofs.Common.{◌≡◌, ◌≤◌, ℕ, ℤ, List, length, subst, sym, ap, ◌∙◌, arith}
+use Rattle.std.proofs.Common.{ℤ, List, length, ap, arith}
 use Rattle.sci_vcd.proofs.Eachs.{signals_few}
 use Rattle.sci_vcd.proofs.writer.VcdOut.close_tick.Goals as goal
 

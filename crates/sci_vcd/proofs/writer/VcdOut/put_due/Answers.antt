@@ -1,5 +1,5 @@
-use Rattle.std.proofs.Common.{◌≡◌, ◌≤◌, ℕ, ℤ, List, length, subst, sym, ap, ap₂, ◌∙◌, arith}
-use Rattle.std.specs.Prelude.{Option, Some, None}
+use Rattle.std.proofs.Common.{◌≤◌, ℕ, ℤ, List, length, subst, sym, ap, ap₂, ◌∙◌}
+use Rattle.std.specs.Prelude.{Option}
 use Rattle.sci_io.proofs.Advance.{same_text}
 use Rattle.sci_vcd.specs.declared.signal.Signal.{Signal}
 use Rattle.sci_text.specs.Lines.{joined}

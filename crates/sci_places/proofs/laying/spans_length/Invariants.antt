@@ -1,6 +1,0 @@
-use Rattle.std.proofs.Common.{◌≡◌, take}
-use Rattle.sci_places.specs.Layout.{spans_length}
-use Rattle.sci_places.proofs.laying.spans_length.Given as goal
-
-abbrev pub invariant-loop-span : goal.invariant-loop-span
-invariant-loop-span l = l.count ≡ spans_length (take l.span-index l.spans)

@@ -1,0 +1,11 @@
+use Rattle.std.proofs.Common.{drop}
+use Rattle.sci_io.specs.Taken.{UnderWay}
+use Rattle.sci_store.specs.Heads.{value_lines}
+use Rattle.sci_store.specs.Paged.{paged}
+use Rattle.sci_store.proofs.lines.Lines.put_all.Given as goal
+
+-- the lines of the values so far are written
+abbrev pub invariant-loop-at : goal.invariant-loop-at
+invariant-loop-at g l =
+    UnderWay (paged (g.S.Sink.state l.initial.out) l.initial.self) (paged (g.S.Sink.state l.out) l.self) (value_lines l.heads l.values)
+    (value_lines (drop l.at l.heads) (drop l.at l.values))
