@@ -27,7 +27,7 @@ fn check_sensor(rt: &impl Abort, body: &[Stmt]) {
 }
 
 // There are three outputs, two states, five blocks, branches, and one source of events; a function for each block, one behind each reaction,
-// two for events, and one for each of two sources.
+// two for events, one for each of two sources, and one that is an event.
 #[test]
 fn a_net_has_its_program(rt: HostRuntime) -> Result<(), Fail> {
     let alloc = rt.alloc();
@@ -50,6 +50,7 @@ fn a_net_has_its_program(rt: HostRuntime) -> Result<(), Fail> {
         (b'g', 3),
         (b's', 0),
         (b's', 1),
+        (b'g', 4),
     ];
     assert_eq!(rt; program.funcs.len(), names.len());
     for at in 0..names.len() {
