@@ -127,20 +127,20 @@ def joined(*patterns):
 
 
 def page_of_mistakes(program):
-    """Each edit that docs/MISTAKES.md names is there, in a crate of its row, and so is each case and each test; of refusals the names begin so."""
-    page, scripts, tests = joined(('docs', 'MISTAKES.md')), joined(('cases', 'run'), ('cases', '*.py')), joined(('crates', 'sci_worked*', 'src', '*.rt'))
+    """Each edit that docs/MISTAKES.md names is there, in a crate of its row, and so is each case and the rows of each name; of refusals the names begin so."""
+    page, scripts, tables = joined(('docs', 'MISTAKES.md')), joined(('cases', 'run'), ('cases', '*.py')), joined(('crates', '*_table', 'stdin'))
     mistakes, limits = page.split('## Want of memory')
     wrong = []
     for row in [row for row in mistakes.splitlines() if '.edit`' in row and row.startswith('|')]:
         crates = re.findall(r'`([a-z_]+)`', row.split('|')[2])
         paths = {name: [os.path.join(TOP, 'crates', crate, 'must-fail', name) for crate in crates] for name in re.findall(r'`(\w+\.edit)`', row)}
         wrong += [name for name, places in paths.items() if not any(map(os.path.exists, places))]
-    named = re.findall(r'\b(case|test)s? ((?:`[\w-]+`(?:, | and )?)+)', mistakes)
+    named = re.findall(r'\b(case|row)s? ((?:`[\w-]+`(?:, | and )?)+)', mistakes)
     named += [('case', cell) for row in re.findall(r'^\|.*\|$', limits, re.M)[2:] for cell in row.split('|')[3:5]]
     for kind, cell in named:
         for name in set(re.findall(r'`([^`]+)`', cell)) - {'check'}:
-            ways = ('fn %s(' % name,) if kind == 'test' else ('def %s(' % name, "('%s" % name)
-            found = any(way in (tests if kind == 'test' else scripts) for way in ways) or os.path.exists(os.path.join(HERE, name, 'words'))
+            ways = ('# %s\n' % name, '# %s: ' % name) if kind == 'row' else ('def %s(' % name, "('%s" % name)
+            found = any(way in (tables if kind == 'row' else scripts) for way in ways) or os.path.exists(os.path.join(HERE, name, 'words'))
             wrong += [] if found else ['%s %s' % (kind, name)]
     return ', '.join(wrong) or ('' if len(named) > 40 else 'too few names: %d' % len(named))
 

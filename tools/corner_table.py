@@ -1,8 +1,8 @@
 #!/usr/bin/env python3
-"""Writes crates/sci_corners/stdin and stdout: rows of the arithmetic kinds at the corners of their types, and what each gives.
+"""Writes the last rows of crates/sci_bank_table, in stdin and stdout: the arithmetic kinds at the corners of their types, and what each gives.
 
-The values come from plain Python numbers, worked out here and in corner_values.py, apart from the program. Run it at the top of
-the repository.
+The values come from plain Python numbers, worked out here and in corner_values.py, apart from the program. The rows above the line
+that names this file were worked out by hand, and stay. Run it at the top of the repository.
 """
 
 from corner_values import SIGNED, TYPES, ends, meaning
@@ -13,6 +13,7 @@ NAMES = {
     "SIGNUM": "Signum", "MAXMIN": "MaxMin", "SATURATION": "Saturation", "DEADBAND": "DeadBand", "CONVERT": "Convert",
 }
 MODES = (0, 1, 2)
+LINE = "# at_the_corners: by tools/corner_table.py\n"
 ROWS = []
 
 
@@ -102,6 +103,14 @@ def rearranged(ty):
     add("EXTRACTOR", [(3, ty)], [(4, ty)], [3, 1, 1, 2], [[low, 1, high]], [high, low, low, 1])
 
 
+def rewrite(path, rows):
+    """Writes these rows below the line that names this file."""
+    with open(path) as f:
+        by_hand, line, _ = f.read().partition(LINE)
+    with open(path, "w") as f:
+        f.writelines([by_hand, line] + [row + "\n" for row in rows])
+
+
 def main():
     for ty in TYPES:
         for mode in MODES:
@@ -110,10 +119,8 @@ def main():
             fitted(ty, mode)
         plain(ty)
         rearranged(ty)
-    with open("crates/sci_corners/stdin", "w") as f:
-        f.writelines(row + "\n" for row, _ in ROWS)
-    with open("crates/sci_corners/stdout", "w") as f:
-        f.writelines(f"{row} -> {gives}\n" for row, gives in ROWS)
+    rewrite("crates/sci_bank_table/stdin", [row for row, _ in ROWS])
+    rewrite("crates/sci_bank_table/stdout", [f"{row} -> {gives}" for row, gives in ROWS])
     print(len(ROWS), "rows")
 
 

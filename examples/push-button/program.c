@@ -16,7 +16,6 @@ static int64_t v5[9];
 static int64_t v6[1];
 static int64_t v7[1];
 static int64_t t1;
-static int64_t t2;
 static int64_t n1;
 static int64_t i1;
 static int64_t d2;
@@ -46,116 +45,78 @@ static void f5(void) {
   v1[INT64_C(3)] = v2[INT64_C(2)];
 }
 static void f6(void) {
-  t2 = INT64_C(0);
-  t1 = INT64_C(0);
-  t2 = ((INT64_C(2) * t2) + (int64_t)(v1[INT64_C(0)] != INT64_C(0)));
-  t2 = ((INT64_C(2) * t2) + (int64_t)(v1[INT64_C(1)] != INT64_C(0)));
-  t2 = ((INT64_C(2) * t2) + (int64_t)(v1[INT64_C(2)] != INT64_C(0)));
-  t2 = ((INT64_C(2) * t2) + (int64_t)(v1[INT64_C(3)] != INT64_C(0)));
-  if ((int64_t)(t2 == INT64_C(0))) {
-    t1 = INT64_C(0);
+  if (v1[INT64_C(0)]) {
+    if (v1[INT64_C(1)]) {
+      if (v1[INT64_C(2)]) {
+        if (v1[INT64_C(3)]) {
+          v1[INT64_C(4)] = INT64_C(1);
+          v1[INT64_C(5)] = INT64_C(0);
+        } else {
+          v1[INT64_C(4)] = INT64_C(1);
+          v1[INT64_C(5)] = INT64_C(1);
+        }
+      } else {
+        if (v1[INT64_C(3)]) {
+          v1[INT64_C(4)] = INT64_C(1);
+          v1[INT64_C(5)] = INT64_C(0);
+        } else {
+          v1[INT64_C(4)] = INT64_C(0);
+          v1[INT64_C(5)] = INT64_C(0);
+        }
+      }
+    } else {
+      if (v1[INT64_C(2)]) {
+        if (v1[INT64_C(3)]) {
+          v1[INT64_C(4)] = INT64_C(1);
+          v1[INT64_C(5)] = INT64_C(0);
+        } else {
+          v1[INT64_C(4)] = INT64_C(0);
+          v1[INT64_C(5)] = INT64_C(0);
+        }
+      } else {
+        if (v1[INT64_C(3)]) {
+          v1[INT64_C(4)] = INT64_C(1);
+          v1[INT64_C(5)] = INT64_C(0);
+        } else {
+          v1[INT64_C(4)] = INT64_C(0);
+          v1[INT64_C(5)] = INT64_C(0);
+        }
+      }
+    }
+  } else {
+    if (v1[INT64_C(1)]) {
+      if (v1[INT64_C(2)]) {
+        if (v1[INT64_C(3)]) {
+          v1[INT64_C(4)] = INT64_C(1);
+          v1[INT64_C(5)] = INT64_C(0);
+        } else {
+          v1[INT64_C(4)] = INT64_C(0);
+          v1[INT64_C(5)] = INT64_C(0);
+        }
+      } else {
+        if (v1[INT64_C(3)]) {
+          v1[INT64_C(4)] = INT64_C(1);
+          v1[INT64_C(5)] = INT64_C(0);
+        } else {
+          v1[INT64_C(4)] = INT64_C(0);
+          v1[INT64_C(5)] = INT64_C(0);
+        }
+      }
+    } else {
+      if (v1[INT64_C(2)]) {
+        if (v1[INT64_C(3)]) {
+          v1[INT64_C(4)] = INT64_C(1);
+          v1[INT64_C(5)] = INT64_C(0);
+        } else {
+          v1[INT64_C(4)] = INT64_C(0);
+          v1[INT64_C(5)] = INT64_C(0);
+        }
+      } else {
+        v1[INT64_C(4)] = INT64_C(0);
+        v1[INT64_C(5)] = INT64_C(0);
+      }
+    }
   }
-  if ((int64_t)(t2 == INT64_C(1))) {
-    t1 = INT64_C(0);
-  }
-  if ((int64_t)(t2 == INT64_C(2))) {
-    t1 = INT64_C(0);
-  }
-  if ((int64_t)(t2 == INT64_C(3))) {
-    t1 = INT64_C(1);
-  }
-  if ((int64_t)(t2 == INT64_C(4))) {
-    t1 = INT64_C(0);
-  }
-  if ((int64_t)(t2 == INT64_C(5))) {
-    t1 = INT64_C(1);
-  }
-  if ((int64_t)(t2 == INT64_C(6))) {
-    t1 = INT64_C(0);
-  }
-  if ((int64_t)(t2 == INT64_C(7))) {
-    t1 = INT64_C(1);
-  }
-  if ((int64_t)(t2 == INT64_C(8))) {
-    t1 = INT64_C(0);
-  }
-  if ((int64_t)(t2 == INT64_C(9))) {
-    t1 = INT64_C(1);
-  }
-  if ((int64_t)(t2 == INT64_C(10))) {
-    t1 = INT64_C(0);
-  }
-  if ((int64_t)(t2 == INT64_C(11))) {
-    t1 = INT64_C(1);
-  }
-  if ((int64_t)(t2 == INT64_C(12))) {
-    t1 = INT64_C(0);
-  }
-  if ((int64_t)(t2 == INT64_C(13))) {
-    t1 = INT64_C(1);
-  }
-  if ((int64_t)(t2 == INT64_C(14))) {
-    t1 = INT64_C(1);
-  }
-  if ((int64_t)(t2 == INT64_C(15))) {
-    t1 = INT64_C(1);
-  }
-  v1[INT64_C(4)] = t1;
-  t2 = INT64_C(0);
-  t1 = INT64_C(0);
-  t2 = ((INT64_C(2) * t2) + (int64_t)(v1[INT64_C(0)] != INT64_C(0)));
-  t2 = ((INT64_C(2) * t2) + (int64_t)(v1[INT64_C(1)] != INT64_C(0)));
-  t2 = ((INT64_C(2) * t2) + (int64_t)(v1[INT64_C(2)] != INT64_C(0)));
-  t2 = ((INT64_C(2) * t2) + (int64_t)(v1[INT64_C(3)] != INT64_C(0)));
-  if ((int64_t)(t2 == INT64_C(0))) {
-    t1 = INT64_C(0);
-  }
-  if ((int64_t)(t2 == INT64_C(1))) {
-    t1 = INT64_C(0);
-  }
-  if ((int64_t)(t2 == INT64_C(2))) {
-    t1 = INT64_C(0);
-  }
-  if ((int64_t)(t2 == INT64_C(3))) {
-    t1 = INT64_C(0);
-  }
-  if ((int64_t)(t2 == INT64_C(4))) {
-    t1 = INT64_C(0);
-  }
-  if ((int64_t)(t2 == INT64_C(5))) {
-    t1 = INT64_C(0);
-  }
-  if ((int64_t)(t2 == INT64_C(6))) {
-    t1 = INT64_C(0);
-  }
-  if ((int64_t)(t2 == INT64_C(7))) {
-    t1 = INT64_C(0);
-  }
-  if ((int64_t)(t2 == INT64_C(8))) {
-    t1 = INT64_C(0);
-  }
-  if ((int64_t)(t2 == INT64_C(9))) {
-    t1 = INT64_C(0);
-  }
-  if ((int64_t)(t2 == INT64_C(10))) {
-    t1 = INT64_C(0);
-  }
-  if ((int64_t)(t2 == INT64_C(11))) {
-    t1 = INT64_C(0);
-  }
-  if ((int64_t)(t2 == INT64_C(12))) {
-    t1 = INT64_C(0);
-  }
-  if ((int64_t)(t2 == INT64_C(13))) {
-    t1 = INT64_C(0);
-  }
-  if ((int64_t)(t2 == INT64_C(14))) {
-    t1 = INT64_C(1);
-  }
-  if ((int64_t)(t2 == INT64_C(15))) {
-    t1 = INT64_C(0);
-  }
-  v1[INT64_C(5)] = t1;
 }
 static void f7(void) {
 }

@@ -1,6 +1,7 @@
 -- What a comparing sink comes to.
-use Rattle.std.proofs.Common.{◌≡◌, ℕ, zero, suc, ◌+◌, ◌≤◌, ◌<◌, ⊎_elim, List, [], ◌∷◌, ◌++◌, append_assoc, append-nil, take, drop, length, get_or, Option, Some, None, slice_get, slice_index, cond, option_to_list, refl, sym, ap, subst, ◌∙◌, arith}
-use Rattle.std.proofs.lemmas.List.{take_more, take-append-drop, length-take-le, take_all}
+use Rattle.std.proofs.Common.{◌≡◌, ℕ, zero, suc, ◌+◌, ◌-◌, ◌≤◌, ◌<◌, ⊎_elim, List, [], ◌∷◌, ◌++◌, append_assoc, append-nil, take, drop, length, get_or, Option, Some, None, slice_get, slice_index, cond, option_to_list, refl, sym, ap, subst, ◌∙◌, arith}
+use Rattle.std.proofs.lemmas.List.{take_more, take-append-drop, length-append, length-drop, length-take-le, take_all}
+use Rattle.std.proofs.Math.Seq.{take-append-add, take-append_seam, take-length}
 use Rattle.std.proofs.lemmas.Option.{none-some, same_Some, slice_get_within, get_or_from_slice_get}
 use Rattle.sci_io.specs.Taken.{TakesFront}
 use Rattle.sci_agree.specs.declared.verdict.Verdict.TheVariants.{Yes, No}
@@ -60,6 +61,58 @@ right_on c byte lines ok none within is more = record {
   failed = λ b e. absurd (none-some b (sym none ∙ e));
   sound = ok.sound;
 }
+
+-- ---- a piece that agrees
+
+-- the lines that the first bytes of a piece end, and those of one byte more
+pub lines_next : (piece : List ℕ) (i byte : ℕ) → i < length piece → byte ≡ get_or piece i byte
+    → lines_of (take i piece) + cond (is_line_feed byte) 1 0 ≡ lines_of (take (i + 1) piece)
+lines_next piece i byte within read =
+    sym (ap lines_of (one_more piece i byte within read)
+    ∙ (lines-append (take i piece) (byte ∷ []) ∙ ap (λ (n : ℕ). lines_of (take i piece) + n) (alone (cond (is_line_feed byte) 1 0))))
+  where
+    alone : (n : ℕ) → n + 0 ≡ n
+    alone n = omega arith
+
+pub few_within : (i : ℕ) (piece : List ℕ) → i ≤ length piece → lines_of (take i piece) ≤ i
+few_within i piece within = let few = lines-within (take i piece) in let long = length-take-le i piece within in omega (arith, few, long)
+
+-- what was taken, with a piece that stands there
+took_piece : (text piece : List ℕ) (at : ℕ) → at ≤ length text → (rest : List ℕ) → drop at text ≡ piece ++ rest → take (at + length piece) text ≡ take at text ++ piece
+took_piece text piece at within rest is =
+    let long : length (take at text) ≡ at = length-take-le at text within in
+    let whole : text ≡ take at text ++ (piece ++ rest) = sym (take-append-drop at text) ∙ ap (λ (l : List ℕ). take at text ++ l) is in
+    ap (λ (l : List ℕ). take (at + length piece) l) whole
+    ∙ (ap (λ (n : ℕ). take (n + length piece) (take at text ++ (piece ++ rest))) (sym long)
+    ∙ (take-append-add (take at text) (piece ++ rest) (length piece) ∙ ap (λ (l : List ℕ). take at text ++ l) (take-append_seam piece rest)))
+
+module _ (c : Compared) (piece rest : List ℕ) (ok : IsCompared c) (none : c.wrong ≡ None)
+    (begins : take (length c.text - c.at) (drop c.at c.text) ≡ piece ++ rest) where
+  is : drop c.at c.text ≡ piece ++ rest
+  is = sym (ap (λ (n : ℕ). take n (drop c.at c.text)) (sym (length-drop c.at c.text)) ∙ take-length (drop c.at c.text)) ∙ begins
+
+  pub piece_within : c.at + length piece ≤ length c.text
+  piece_within =
+      let left = length-drop c.at c.text in
+      let both = ap length is ∙ length-append piece rest in
+      let within = ok.within in omega (arith, left, both, within)
+
+  taken : take (c.at + length piece) c.text ≡ take c.at c.text ++ piece
+  taken = took_piece c.text piece c.at ok.within rest is
+
+  pub piece_on : (lines : ℕ) → lines ≡ c.lines + lines_of piece → IsCompared (record c { at = c.at + length piece; lines = lines })
+  piece_on lines more = record {
+    within = piece_within;
+    lines_are = more ∙ (ap (λ (n : ℕ). n + lines_of piece) ok.lines_are ∙ sym (ap lines_of taken ∙ lines-append (take c.at c.text) piece));
+    wrong_is = λ b e. absurd (none-some b (sym none ∙ e));
+    failed = λ b e. absurd (none-some b (sym none ∙ e));
+    sound = ok.sound;
+  }
+
+  pub piece_taken : (wrong : Option ℕ) → wrong ≡ None → take (c.at + length piece) c.text ++ option_to_list wrong ≡ (take c.at c.text ++ option_to_list c.wrong) ++ piece
+  piece_taken wrong still =
+      ap (λ (w : Option ℕ). take (c.at + length piece) c.text ++ option_to_list w) still
+      ∙ (append-nil (take (c.at + length piece) c.text) ∙ (taken ∙ ap (λ (l : List ℕ). l ++ piece) (sym (ap (λ (w : Option ℕ). take c.at c.text ++ option_to_list w) none ∙ append-nil (take c.at c.text)))))
 
 -- the first byte that doesn't
 pub wrong_at : (c : Compared) (byte faults : ℕ) → IsCompared c → ((c.at < length c.text) × (slice_index c.text c.at ≡ byte) → ⊥) → 1 ≤ faults

@@ -2,7 +2,7 @@
 ghost use Rattle.std.specs.Prelude.{◌≡◌, ◌<◌, ◌^◌, ◌↔◌, ◌+◌, ◌++◌, ◌∷◌, [], true, false, length, slice_index, if◌then◌else◌, None, Some, IsTrue};
 ghost use Rattle.sci_io.specs.Causes.{counted};
 ghost use Rattle.sci_io.specs.Taken.{TakesFront};
-ghost use Rattle.sci_agree.specs.Lines.{is_line_feed};
+ghost use Rattle.sci_agree.specs.Lines.{is_line_feed, lines_of};
 ghost use Rattle.sci_agree.specs.Verdict.{IsVerdict};
 
 use crate::verdict::Verdict;
@@ -40,6 +40,17 @@ fn lines_ended(byte: u8) -> u64
     ensures small { result < 2 }
 {
     if byte == b'\n' { 1 } else { 0 }
+}
+
+// How many lines a piece ends.
+fn lines_within(piece: &[u8]) -> u64
+    ensures { result ≡ lines_of piece.now }
+{
+    let mut lines = 0;
+    for byte in piece {
+        lines += lines_ended(*byte);
+    }
+    lines
 }
 
 impl<'a> Comparing<'a> {
@@ -93,8 +104,26 @@ impl<'a> Comparing<'a> {
         false
     }
 
-    // Takes a piece, or a front of it that ends with its first byte that doesn't agree. Whether all of it agrees.
-    fn compare(&mut self, piece: &[u8]) -> bool
+    // Takes a piece that all agrees, and nothing of one that doesn't. Whether all of it agrees.
+    fn take_whole(&mut self, piece: &[u8]) -> bool
+        requires { self.old.wrong ≡ None }
+        ensures all { result ≡ true → taken_by self.new ≡ taken_by self.old ++ piece.now }
+        ensures right { self.new.wrong ≡ None }
+        ensures none { result ≡ false → self.new ≡ self.old }
+        ensures faults { self.new.faults ≡ self.old.faults }
+        ensures text { self.new.text ≡ self.old.text }
+        ensures begun { self.new.begun ≡ self.old.begun }
+    {
+        if !self.text[self.at..].starts_with(piece) {
+            return false;
+        }
+        self.at += piece.len();
+        self.lines += lines_within(piece);
+        true
+    }
+
+    // Takes a piece byte by byte, or a front of it that ends with its first byte that doesn't agree. Whether all of it agrees.
+    fn compare_bytes(&mut self, piece: &[u8]) -> bool
         requires { self.old.wrong ≡ None }
         ensures all { result ≡ true → taken_by self.new ≡ taken_by self.old ++ piece.now }
         ensures front { result ≡ false → TakesFront (Some (taken_by self.old)) (Some (taken_by self.new)) piece.now }
@@ -109,6 +138,19 @@ impl<'a> Comparing<'a> {
             }
         }
         true
+    }
+
+    // Takes a piece, or a front of it that ends with its first byte that doesn't agree. Whether all of it agrees.
+    fn compare(&mut self, piece: &[u8]) -> bool
+        requires { self.old.wrong ≡ None }
+        ensures all { result ≡ true → taken_by self.new ≡ taken_by self.old ++ piece.now }
+        ensures front { result ≡ false → TakesFront (Some (taken_by self.old)) (Some (taken_by self.new)) piece.now }
+        ensures agrees { result ≡ true → self.new.faults ≡ self.old.faults }
+        ensures failed { result ≡ false → self.new.faults ≡ counted self.old.faults }
+        ensures text { self.new.text ≡ self.old.text }
+        ensures begun { self.new.begun ≡ self.old.begun }
+    {
+        self.take_whole(piece) || self.compare_bytes(piece)
     }
 
     // Whether everything that was given agrees, and nothing of the text is left.

@@ -598,7 +598,7 @@ module _ (n : Parts) (net : IsNet n) where
       let is = inside k l in (
         (refl, omega (arith, l, net.wired.few)),
         is_body (block_function n rows (suc k)).body (where_fits 16 (is_scheduled rows (suc k)) (body_text (spec_of n (suc k)) (places_of n (suc k)))
-            (λ q. body_fits (spec_of n (suc k)) (places_of n (suc k)) (in_bounds n net (suc k) is) cell_reads_law (is_typed (suc k) is) 13)),
+            (λ q. body_fits (spec_of n (suc k)) (places_of n (suc k)) (in_bounds n net (suc k) is) cell_reads_law (is_typed (suc k) is) 5)),
       )
 
   other_functions_fit : All IsFunction (other_functions n)

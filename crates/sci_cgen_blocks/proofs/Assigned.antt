@@ -12,9 +12,9 @@ use Rattle.c_mean.specs.Meaning.{same_name}
 use Rattle.c_steps.specs.Places.{is_scratch}
 use Rattle.c_steps.specs.Texts.{May, statement_within, block_within}
 use Rattle.c_steps.proofs.Texts.{upto_within}
-use Rattle.sci_cgen_blocks.specs.Terms.{Work, assign, assign_if, Step, change, stop_if, repeat, Recipe}
-use Rattle.sci_cgen_blocks.specs.Recipes.{recipe_of}
-use Rattle.sci_cgen_blocks.specs.Texts.{Places, values, work_statement, works_text, step_statement, steps_text, recipe_text, values_text, body_text, next_text}
+use Rattle.sci_cgen_blocks.specs.Terms.{Work, assign, assign_if, Step, change, stop_if, repeat, Recipe, Way, each, decide}
+use Rattle.sci_cgen_blocks.specs.Recipes.{way_of}
+use Rattle.sci_cgen_blocks.specs.Texts.{Places, values, work_statement, works_text, step_statement, steps_text, recipe_text, way_text, values_text, body_text, next_text}
 use Rattle.sci_cgen_blocks.proofs.Bodies.{values_are}
 use Rattle.sci_cgen_blocks.proofs.Sensing.{is_kind}
 use Rattle.sci_cgen_blocks.specs.Meant.{takes_input, body_may, next_may}
@@ -44,12 +44,15 @@ module _ (takes : Bool) (p : Places) where
   recipe_within : (e : ℕ) (x : Recipe) → block_within (may_values takes) (recipe_text p e x) ≡ true
   recipe_within e x = steps_within x.steps _ refl
 
+  way_within : (n : ℕ) (y : Way) → block_within (may_values takes) (way_text p n y) ≡ true
+  way_within n (each f) = upto_within (may_values takes) (λ e. recipe_text p e (f e)) n (λ e h. recipe_within e (f e))
+  way_within n (decide c a b) = and_from _ _ (and_from _ _ (way_within n a) (way_within n b)) refl
+
 values_within : (c : Kind) (s : Spec) (p : Places) → (c ≡ Sensor) ⊎ (c ≢ Sensor) → block_within (may_values (takes_input c)) (values_text c s p) ≡ true
 values_within c s p (inl e) = subst (λ (c : Kind). block_within (may_values (takes_input c)) (values_text c s p) ≡ true) (sym e) refl
 values_within c s p (inr n) =
     subst (λ (b : Block). block_within (may_values (takes_input c)) b ≡ true) (sym (values_are c s p n))
-    (upto_within (may_values (takes_input c)) (λ e. recipe_text p e (recipe_of c s e)) (total s.outs)
-    (λ e h. recipe_within (takes_input c) p e (recipe_of c s e)))
+    (way_within (takes_input c) p (total s.outs) (way_of c s))
 
 -- The text of the values assigns scratch and values alone, calls nothing and shows nothing; a SENSOR's alone takes input.
 pub body_within : (s : Spec) (p : Places) → block_within (body_may s) (body_text s p) ≡ true

@@ -1,5 +1,5 @@
--- The text of a block's values, where its recipes are right.
-use Rattle.std.proofs.Common.{◌≡◌, ℕ, ◌+◌, Option, Some, true, refl, sym, ap, ◌∙◌, subst, ℤ, pos, List, true≢false}
+-- The text of a block's values, where its way is right.
+use Rattle.std.proofs.Common.{◌≡◌, ℕ, zero, suc, ◌+◌, Option, Some, None, Bool, true, false, refl, sym, ap, ◌∙◌, subst, ℤ, pos, List, true≢false, if◌then◌else◌}
 use Rattle.std.specs.Prelude.{◌≢◌, unwrap_or}
 use Rattle.sci_forms.specs.declared.Kind.{Kind}
 use Rattle.sci_forms.specs.declared.Kind.TheVariants.{Sensor}
@@ -7,17 +7,19 @@ use Rattle.sci_forms.specs.declared.spec.Spec.{Spec}
 use Rattle.sci_forms.specs.Ports.{total, Fills}
 use Rattle.sci_forms.specs.Typed.{typed}
 use Rattle.sci_kinds.specs.Asks.{IsState, IsMask}
+use Rattle.sci_base.specs.declared.observation.StopWord.TheVariants as stops
 use Rattle.sci_kinds.specs.Table.{Answer, Values, NoFit, NoQuotient, cell, out}
-use Rattle.c_ast.specs.Syntax.{Block}
-use Rattle.c_mean.specs.Meaning.{World, Ran, Around, run_block}
+use Rattle.c_ast.specs.Syntax.{Block, done}
+use Rattle.c_mean.specs.Meaning.{World, Ran, then_run, is_zero, Around, run_block}
 use Rattle.c_steps.specs.Places.{get, Has, Keeps, is_scratch}
-use Rattle.c_steps.specs.Texts.{upto}
-use Rattle.sci_cgen_blocks.specs.Terms.{Scratch}
-use Rattle.sci_cgen_blocks.specs.Recipes.{recipe_of, given, fed}
+use Rattle.c_steps.proofs.Steps.{run_done, then_going, then_stops}
+use Rattle.sci_cgen_blocks.specs.Terms.{Scratch, value, Way, each, decide, Under, WayGives, WayFits}
+use Rattle.sci_cgen_blocks.specs.Recipes.{way_of, given, fed}
 use Rattle.sci_cgen_blocks.specs.Laws.{CellLaw, CellReadsLaw}
-use Rattle.sci_cgen_blocks.specs.Texts.{Places, values, states, masks, scratch_name, input_place, recipe_text, values_text, body_text}
+use Rattle.sci_cgen_blocks.specs.Texts.{Places, values, states, masks, scratch_name, input_place, expression, recipe_text, way_text, values_text, body_text}
 use Rattle.sci_cgen_blocks.specs.Meant.{Holds, IsFed, IsApart, Answers}
-use Rattle.sci_cgen_blocks.proofs.Shown.{ShowsGiven}
+use Rattle.sci_cgen_blocks.proofs.Shown.{ShowsGiven, expression_is}
+use Rattle.sci_cgen_blocks.proofs.Steps.{choice_runs}
 use Rattle.sci_cgen_blocks.proofs.Elements.{DoesAll, recipe_does, all_elements}
 
 -- ---- what is held
@@ -56,9 +58,52 @@ answers_of s p w (Values vs) r h = h
 answers_of s p w NoFit r h = h
 answers_of s p w NoQuotient r h = h
 
-pub values_are : (c : Kind) (s : Spec) (p : Places) → c ≢ Sensor → values_text c s p ≡ upto (λ e. recipe_text p e (recipe_of c s e)) (total s.outs)
+pub values_are : (c : Kind) (s : Spec) (p : Places) → c ≢ Sensor → values_text c s p ≡ way_text p (total s.outs) (way_of c s)
 values_are Sensor s p h = absurd (h refl)
 values_are _ s p h = refl
+
+-- behind a choice nothing is left to do
+done_does : (p : Places) (n : ℕ) (w : World) (a : Answer) (r : Ran) (env : Around) (k : ℕ) → DoesAll p n w a r → DoesAll p n w a (then_run r (run_block env k done))
+done_does p n w (Values vs) r env k h = record { to = h.to; is = then_going r h.to (run_block env k done) h.is ∙ run_done env k h.to; holds = h.holds }
+done_does p n w NoFit r env k h = then_stops r (run_block env k done) stops.Overflow p.number h
+done_does p n w NoQuotient r env k h = then_stops r (run_block env k done) stops.Zero p.number h
+
+module _ (env : Around) (s : Spec) (p : Places) (x : List ℤ) (m : ℕ) (u : List ℤ) (apart : IsApart s p) where
+  abbrev Does : World → Ran → Type 0
+  Does w r = DoesAll p (total s.outs) w (out s x m u) r
+
+  abbrev IsRight : Way → Type 0
+  IsRight y = WayGives (given s x m u) (total s.outs) (cell s x m u) y
+
+  abbrev DoesWay : World → Way → Type 0
+  DoesWay w y = (i : ℕ) → IsRight y → Does w (run_block env i (way_text p (total s.outs) y) w)
+
+  -- The text of a way that gives the cells does so.
+  way_does : (y : Way) (d k : ℕ) (w : World) → WayFits (fed s) (total s.outs) y d → IsRight y → Holds s p (IsFed s) x m u w → Does w (run_block env k (way_text p (total s.outs) y) w)
+  way_does (each f) d k w fits gives h =
+      all_elements env p (total s.outs) (λ e. recipe_text p e (f e)) (cell s x m u) (Holds s p (IsFed s) x m u)
+      (λ v v' i keeps. holds_on s p x m u v v' apart i keeps)
+      (λ e l k' v i. recipe_does env p (fed s) (given s x m u) e v (i.outs e l) (f e) (cell s x m u e) k' (scratch_in v) (fits e l)
+      (shows_fed s p x m u v i) (gives e l (scratch_in v))) k w h
+  way_does (decide c a b) zero k w fits gives h = absurd fits
+  way_does (decide c a b) (suc d) k w fits gives h =
+      by_value (value (given s x m u) (scratch_in w) c) refl (gives (scratch_in w)) (λ i g. way_does a d i w fits.1 g h) (λ j g. way_does b d j w fits.2 g h)
+    where
+      by_test : (i j l : ℕ) (z : ℤ) (t : Bool) → is_zero z ≡ t → Under (Some z) (IsRight a) (IsRight b) → DoesWay w a → DoesWay w b
+          → Does w (then_run (if t then run_block env j (way_text p (total s.outs) b) w else run_block env i (way_text p (total s.outs) a) w)
+          (run_block env l done))
+      by_test i j l z true e g first second =
+          done_does p (total s.outs) w (out s x m u) (run_block env j (way_text p (total s.outs) b) w) env l (second j (g.1 e))
+      by_test i j l z false e g first second =
+          done_does p (total s.outs) w (out s x m u) (run_block env i (way_text p (total s.outs) a) w) env l (first i (g.0 e))
+
+      by_value : (o : Option ℤ) → value (given s x m u) (scratch_in w) c ≡ o → Under o (IsRight a) (IsRight b) → DoesWay w a → DoesWay w b
+          → Does w (run_block env k (way_text p (total s.outs) (decide c a b)) w)
+      by_value None e g first second = absurd g
+      by_value (Some z) e g first second =
+          choice_runs (Does w) env k (expression p c) (way_text p (total s.outs) a) (way_text p (total s.outs) b) done w z
+          (expression_is p (fed s) (given s x m u) (scratch_in w) w (shows_fed s p x m u w h) 32 c fits.0 ∙ e)
+          (λ i j l. by_test i j l z (is_zero z) refl g first second)
 
 -- The text of a block's values gives what the table of kinds says.
 pub body_answers : CellLaw → CellReadsLaw → (env : Around) (s : Spec) (p : Places) (x : List ℤ) (m : ℕ) (u : List ℤ) (k : ℕ) (w : World) → typed s ≡ true
@@ -66,8 +111,5 @@ pub body_answers : CellLaw → CellReadsLaw → (env : Around) (s : Spec) (p : P
     → Answers s p w (out s x m u) (run_block env k (body_text s p) w)
 body_answers gives reads env s p x m u k w is_typed other st mk fills h apart =
     subst (λ (b : Block). Answers s p w (out s x m u) (run_block env k b w)) (sym (values_are s.kind s p other))
-    (answers_of s p w (out s x m u) (run_block env k (upto (λ e. recipe_text p e (recipe_of s.kind s e)) (total s.outs)) w)
-    (all_elements env p (total s.outs) (λ e. recipe_text p e (recipe_of s.kind s e)) (cell s x m u) (Holds s p (IsFed s) x m u)
-    (λ v v' i keeps. holds_on s p x m u v v' apart i keeps)
-    (λ e l k' v i. recipe_does env p (fed s) (given s x m u) e v (i.outs e l) (recipe_of s.kind s e) (cell s x m u e) k' (scratch_in v)
-    (reads s is_typed other e l) (shows_fed s p x m u v i) (gives s x m u is_typed other st mk fills e l (scratch_in v))) k w h))
+    (answers_of s p w (out s x m u) (run_block env k (way_text p (total s.outs) (way_of s.kind s)) w)
+    (way_does env s p x m u apart (way_of s.kind s) 8 k w (reads s is_typed other) (gives s x m u is_typed other st mk fills) h))

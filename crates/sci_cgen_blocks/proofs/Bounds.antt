@@ -17,10 +17,10 @@ use Rattle.sci_forms.specs.Typed.{typed}
 use Rattle.c_ast.specs.Syntax.{Exp, num, var, element, neg, not, bin, Block, done, next}
 use Rattle.c_ast.specs.Bounds.{Fits, IsExp, StatementFits, BlockFits, IsName}
 use Rattle.c_steps.specs.Texts.{joined, upto}
-use Rattle.sci_cgen_blocks.specs.Terms.{Term, constant, input, state, mask, scratch, both, Work, assign, assign_if, Step, change, stop_if, repeat, Recipe, Readable, TermFits, WorkFits, WorksFit, StepFits, StepsFit, RecipeFits}
-use Rattle.sci_cgen_blocks.specs.Recipes.{recipe_of, next_term, delay_term, branch_term, scratch_of, fed, from_value, inputs}
+use Rattle.sci_cgen_blocks.specs.Terms.{Term, constant, input, state, mask, scratch, both, Work, assign, assign_if, Step, change, stop_if, repeat, Recipe, Way, each, decide, Readable, TermFits, WorkFits, WorksFit, StepFits, StepsFit, RecipeFits, WayFits}
+use Rattle.sci_cgen_blocks.specs.Recipes.{way_of, next_term, delay_term, branch_term, scratch_of, fed, from_value, inputs}
 use Rattle.sci_cgen_blocks.specs.Laws.{CellReadsLaw, NextReadsLaw}
-use Rattle.sci_cgen_blocks.specs.Texts.{Places, scratch_name, input_place, expression, work_statement, works_text, step_statement, steps_text, recipe_text, sensor_text, body_text, next_text, delay_expression, branch_expression}
+use Rattle.sci_cgen_blocks.specs.Texts.{Places, scratch_name, input_place, expression, work_statement, works_text, step_statement, steps_text, recipe_text, way_text, sensor_text, body_text, next_text, delay_expression, branch_expression}
 use Rattle.sci_cgen_blocks.specs.Meant.{AreInBounds}
 use Rattle.sci_cgen_blocks.proofs.Effects.{delay_term_law, branch_term_law}
 use Rattle.sci_cgen_blocks.proofs.Bodies.{values_are}
@@ -109,6 +109,19 @@ pub upto_fits : (d : ℕ) (f : ℕ → Block) (n : ℕ) → ((e : ℕ) → e < n
 upto_fits d f zero go = tt
 upto_fits d f (suc n) go = joined_fits d (upto f n) (f n) (upto_fits d f n (λ e h. go e (omega (arith, h)))) (go n (omega arith))
 
+-- decisions nest as deep as they are one in the other
+module _ (p : Places) (r : Readable) (h : HasBounds p r) (n : ℕ) (places : p.outs + n ≤ 2 ^ 63) where
+  way_fits : (y : Way) (k d : ℕ) → WayFits r n y k → BlockFits (k + suc (suc (suc d))) (way_text p n y)
+  way_fits (each f) k d fits =
+      let deep : suc (suc (suc (k + d))) ≡ k + suc (suc (suc d)) = omega arith in
+      subst (λ (i : ℕ). BlockFits i (way_text p n (each f))) deep
+      (upto_fits (suc (suc (suc (k + d)))) _ n (λ e l. recipe_fits p r h (k + d) e (f e) (fits e l) (omega (arith, l, places))))
+  way_fits (decide c a b) zero d fits = absurd fits
+  way_fits (decide c a b) (suc k) d fits =
+      let deep : suc (k + suc (suc (suc d))) ≡ suc k + suc (suc (suc d)) = omega arith in
+      subst (λ (i : ℕ). BlockFits i (way_text p n (decide c a b))) deep
+      ((is_exp p r h c fits.0, way_fits a k d fits.1, way_fits b k d fits.2), tt)
+
 -- ---- blocks
 
 scratch_few : (c : Kind) (s : Spec) → scratch_of c s ≤ 4
@@ -174,11 +187,12 @@ module _ (s : Spec) (p : Places) (places : AreInBounds s p) where
     tt,
   ))
 
-  pub values_fit : CellReadsLaw → typed s ≡ true → s.kind ≢ Sensor → (d : ℕ) → BlockFits (suc (suc (suc d))) (body_text s p)
+  pub values_fit : CellReadsLaw → typed s ≡ true → s.kind ≢ Sensor → (d : ℕ) → BlockFits (11 + d) (body_text s p)
   values_fit reads is_typed other d =
-      subst (BlockFits (suc (suc (suc d)))) (sym (values_are s.kind s p other))
-      (upto_fits (suc (suc (suc d))) _ (total s.outs) (λ e l.
-      recipe_fits p (fed s) fed_bounds d e (recipe_of s.kind s e) (reads s is_typed other e l) (omega (arith, l, places.outs))))
+      let deep : 8 + suc (suc (suc d)) ≡ 11 + d = omega arith in
+      subst (BlockFits (11 + d)) (sym (values_are s.kind s p other))
+      (subst (λ (i : ℕ). BlockFits i (way_text p (total s.outs) (way_of s.kind s))) deep
+      (way_fits p (fed s) fed_bounds (total s.outs) places.outs (way_of s.kind s) 8 d (reads s is_typed other)))
 
   pub senses_fit : typed s ≡ true → s.kind ≡ Sensor → (d : ℕ) → BlockFits (suc (suc d)) (body_text s p)
   senses_fit is_typed kind d =
@@ -187,12 +201,13 @@ module _ (s : Spec) (p : Places) (places : AreInBounds s p) where
       subst (BlockFits (suc (suc d))) (sym (sensor_values s.kind s p kind ∙ ap (sensor_text p) c.1.0))
       (sensor_fits d (suc c.0) (omega (arith, c.1.1)) (omega (arith, one, places.outs)))
 
-  -- The text of the values is nested at most three deep.
-  pub body_fits : CellReadsLaw → typed s ≡ true → (d : ℕ) → BlockFits (suc (suc (suc d))) (body_text s p)
+  -- The text of the values is nested at most eleven deep.
+  pub body_fits : CellReadsLaw → typed s ≡ true → (d : ℕ) → BlockFits (11 + d) (body_text s p)
   body_fits reads is_typed d = by_kind (is_kind s.kind)
     where
-      by_kind : ((s.kind ≡ Sensor) ⊎ (s.kind ≢ Sensor)) → BlockFits (suc (suc (suc d))) (body_text s p)
-      by_kind (inl e) = senses_fit is_typed e (suc d)
+      by_kind : ((s.kind ≡ Sensor) ⊎ (s.kind ≢ Sensor)) → BlockFits (11 + d) (body_text s p)
+      by_kind (inl e) =
+          let deep : suc (suc (9 + d)) ≡ 11 + d = omega arith in subst (λ (i : ℕ). BlockFits i (body_text s p)) deep (senses_fit is_typed e (9 + d))
       by_kind (inr n) = values_fit reads is_typed n d
 
   pub delay_fits : TermFits (inputs s) 32 (delay_term s.kind s) → IsExp (delay_expression s p)

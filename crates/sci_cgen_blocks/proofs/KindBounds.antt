@@ -1,6 +1,8 @@
 -- The numbers of a typed block are small.
-use Rattle.std.proofs.Common.{arith, lit≤, ◌≡◌, ◌≤◌, ◌<◌, ◌≤ℤ◌, ℕ, pos, true, length, unsigned_abs, subst}
+use Rattle.std.proofs.Common.{arith, lit≤, ◌≡◌, ◌≤◌, ◌<◌, ◌^◌, ◌≤ℤ◌, ℕ, pos, true, length, unsigned_abs, subst, inl, inr}
+use Rattle.std.proofs.lemmas.Bool.{cases_lt}
 use Rattle.std.proofs.lemmas.Int.{ints}
+use Rattle.std.proofs.lemmas.Nat.{pow_below}
 use Rattle.sci_forms.specs.declared.Kind.{Kind}
 use Rattle.sci_forms.specs.declared.Kind.TheVariants.{Const, Extractor, Shift, BitSet, BitClear, ExtractBits, Select, Logic, ModuloCount}
 use Rattle.sci_forms.specs.declared.spec.Spec.{Spec}
@@ -65,3 +67,12 @@ names_element s h is e l = let a = asks_as Extractor s h is in a.4 e (omega (ari
 
 pub count_base : (s : Spec) → typed s ≡ true → s.kind ≡ ModuloCount → unsigned_abs (param s 0) ≤ 4294967296
 count_base s h is = let a = asks_as ModuloCount s h is in omega (arith, ints, a.2, a.3)
+
+small_pow : (n : ℕ) → n ≤ 8 → 2 ^ n ≤ 256
+small_pow n h = elim (cases_lt n 8) [
+  | inl l ↦ let b = pow_below n 8 l in omega (arith, b)
+  | inr r ↦ let e : n ≡ 8 = omega (arith, h, r) in rw e (omega arith)
+]
+
+pub few_rows : (s : Spec) → typed s ≡ true → s.kind ≡ Logic → 2 ^ length s.ins ≤ 256
+few_rows s h is = small_pow (length s.ins) (few_tested s h is)

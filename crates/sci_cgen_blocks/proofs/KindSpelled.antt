@@ -1,27 +1,32 @@
 -- All numbers in the terms of a typed block are spelled, and its places are small.
-use Rattle.std.proofs.Common.{arith, ◌≡◌, ◌≢◌, ◌<◌, ◌≤◌, ◌+◌, ◌^◌, ℕ, suc, inl, inr, pos, true, length, refl, ap, ◌∙◌}
+use Rattle.std.proofs.Common.{arith, ◌≡◌, ◌≢◌, ◌<◌, ◌≤◌, ◌^◌, ℕ, inl, inr, pos, true, length, refl, subst}
 use Rattle.std.proofs.lemmas.Int.{ints}
 use Rattle.std.proofs.lemmas.Bool.{cases_lt}
-use Rattle.c_ast.specs.Syntax.{Block}
-use Rattle.c_steps.specs.Texts.{joined, upto}
+use Rattle.c_steps.specs.Texts.{upto}
 use Rattle.sci_forms.specs.declared.Kind.{Kind}
-use Rattle.sci_forms.specs.declared.Kind.TheVariants.{Sensor, EvtDly, EvtVarDly, IfThEl, ESelect}
+use Rattle.sci_forms.specs.declared.Kind.TheVariants.{Sensor, Logic, EvtDly, EvtVarDly, IfThEl, ESelect}
 use Rattle.sci_forms.specs.declared.spec.Spec.{Spec}
 use Rattle.sci_forms.specs.Ports.{port_at, elements, total}
 use Rattle.sci_forms.specs.Typed.{typed}
 use Rattle.sci_forms.specs.Words.{state_len_of}
 use Rattle.sci_kinds.specs.Asks.{Asks}
 use Rattle.sci_kinds.proofs.LawProofs.{asks}
-use Rattle.sci_cgen_blocks.specs.Terms.{IsSpelled}
-use Rattle.sci_cgen_blocks.specs.Recipes.{recipe_of, next_term, delay_term, branch_term, fed, from_value}
+use Rattle.sci_cgen_blocks.specs.Terms.{IsSpelled, Way, each, WayFits}
+use Rattle.sci_cgen_blocks.specs.Recipes.{recipe_of, way_of, next_term, delay_term, branch_term, fed, from_value}
 use Rattle.sci_cgen_blocks.specs.Texts.{Places, values_text, recipe_text}
 use Rattle.sci_cgen_blocks.specs.Plain.{AreSpelled, IsRecipeSpelled, AreFew}
 use Rattle.sci_cgen_blocks.proofs.KindLaws.{cell_reads_law}
 use Rattle.sci_cgen_blocks.proofs.NextStates.{next_reads_law}
 use Rattle.sci_cgen_blocks.proofs.KindParts.{fits_spelled, recipe_spelled}
 
-pub cell_spelled : (s : Spec) → typed s ≡ true → s.kind ≢ Sensor → (e : ℕ) → e < total s.outs → IsRecipeSpelled (recipe_of s.kind s e)
-cell_spelled s h n e l = recipe_spelled (fed s) (recipe_of s.kind s e) (cell_reads_law s h n e l)
+way_of_other : (k : Kind) (s : Spec) → k ≢ Logic → way_of k s ≡ each (recipe_of k s)
+way_of_other Logic s n = absurd (n refl)
+way_of_other _ s n = refl
+
+pub cell_spelled : (s : Spec) → typed s ≡ true → s.kind ≢ Sensor → s.kind ≢ Logic → (e : ℕ) → e < total s.outs → IsRecipeSpelled (recipe_of s.kind s e)
+cell_spelled s h n other e l =
+    recipe_spelled (fed s) (recipe_of s.kind s e)
+    (subst (λ (y : Way). WayFits (fed s) (total s.outs) y 8) (way_of_other s.kind s other) (cell_reads_law s h n) e l)
 
 pub next_spelled : (s : Spec) → typed s ≡ true → (i : ℕ) → i < state_len_of s.kind s → AreSpelled (next_term s.kind s i)
 next_spelled s h i l = fits_spelled (from_value s i) 32 (next_term s.kind s i) (next_reads_law s h i l)
@@ -57,12 +62,10 @@ branch_spelled s h = branch_by_kind s.kind s (asks s h)
 
 -- ---- texts element by element
 
-pub upto_more : (f : ℕ → Block) (k : ℕ) (a b : Block) → a ≡ joined b (f k) → b ≡ upto f k → a ≡ upto f (k + 1)
-upto_more f k a b e so_far = let next : suc k ≡ k + 1 = omega arith in e ∙ ap (λ x. joined x (f k)) so_far ∙ ap (upto f) next
-
-pub values_of_other : (k : Kind) (s : Spec) (p : Places) → k ≢ Sensor → values_text k s p ≡ upto (λ e. recipe_text p e (recipe_of k s e)) (total s.outs)
-values_of_other Sensor s p n = absurd (n refl)
-values_of_other _ s p n = refl
+pub values_of_other : (k : Kind) (s : Spec) (p : Places) → k ≢ Sensor → k ≢ Logic → values_text k s p ≡ upto (λ e. recipe_text p e (recipe_of k s e)) (total s.outs)
+values_of_other Sensor s p n m = absurd (n refl)
+values_of_other Logic s p n m = absurd (m refl)
+values_of_other _ s p n m = refl
 
 -- an input's elements have places, so they are few
 pub few_elements : (s : Spec) (p : Places) → AreFew s p → (k : ℕ) → k < length s.ins → elements (port_at s.ins k) ≤ 2 ^ 20

@@ -15,6 +15,7 @@ pub mod StateKinds
 pub mod ChoiceKinds
 pub mod Effects
 pub mod SelectKinds
+pub mod TableKind
 pub mod KindLaws
 pub mod Shown
 pub mod Steps
@@ -32,3 +33,4 @@ pub mod Written
 pub mod KindParts
 pub mod WholeRules
 pub mod KindSpelled
+pub mod Tables

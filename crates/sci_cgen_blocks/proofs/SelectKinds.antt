@@ -1,35 +1,24 @@
--- SELECT and LOGIC.
-use Rattle.std.proofs.Common.{◌≡◌, ◌≢◌, ℕ, zero, suc, ◌+◌, ◌*◌, ◌/◌, ◌%◌, ◌^◌, ◌<◌, ◌≤◌, Bool, true, false, Some, refl, sym, ap, ◌∙◌, arith, ℤ, pos, List, [], ◌∷◌, ◌++◌, length, if◌then◌else◌, inl, inr, subst, cond}
-use Rattle.std.specs.Prelude.{nat_eq, not, ◌⊎◌}
+-- SELECT.
+use Rattle.std.proofs.Common.{◌≡◌, ◌≢◌, ℕ, zero, suc, ◌/◌, ◌%◌, ◌^◌, ◌<◌, ◌≤◌, Bool, true, false, Some, refl, sym, ap, ◌∙◌, arith, ℤ, pos, List, length, inl, inr, subst, cond}
+use Rattle.std.specs.Prelude.{nat_eq}
 use Rattle.std.specs.Int.{bit_at}
-use Rattle.std.proofs.lemmas.Int.{ints}
-use Rattle.std.proofs.lemmas.Bool.{cases_eq, cases_lt}
+use Rattle.std.proofs.lemmas.Bool.{cases_eq}
 use Rattle.std.proofs.lemmas.Bool.Decides.{nat_tests}
-use Rattle.std.proofs.lemmas.Nat.{pow_below, mul-add-lt}
 use Rattle.std.proofs.lemmas.Nat.Bits.{bit_at_lowest, bit_at-suc, bit_at-lt}
-use Rattle.sci_base.specs.Fit.{int_eq}
-use Rattle.sci_base.specs.Lists.{at}
-use Rattle.sci_forms.specs.declared.Kind.TheVariants.{Select, Logic}
-use Rattle.sci_forms.specs.declared.ports.Port.{Port}
+use Rattle.sci_forms.specs.declared.Kind.TheVariants.{Select}
 use Rattle.sci_forms.specs.declared.spec.Spec.{Spec}
-use Rattle.sci_forms.specs.Ports.{total, before, elements, port_at}
-use Rattle.sci_forms.specs.Words.{param, out_type, size}
-use Rattle.sci_kinds.specs.Table.{cell_of, least_set, row_to}
-use Rattle.sci_kinds.specs.declared.Cell.{Cell}
+use Rattle.sci_forms.specs.Ports.{total}
+use Rattle.sci_forms.specs.Words.{out_type, size}
+use Rattle.sci_kinds.specs.Table.{cell_of, least_set}
 use Rattle.sci_kinds.specs.declared.Cell.TheVariants.{Value}
 use Rattle.sci_kinds.specs.Asks.{Asks, IsMask}
-use Rattle.sci_kinds.proofs.Ranges.{least_set_below, row_below}
-use Rattle.sci_kinds.proofs.TypedLemmas.{Tests, scalar_one}
+use Rattle.sci_kinds.proofs.Ranges.{least_set_below}
 use Rattle.c_mean.specs.Meaning.{truth}
-use Rattle.sci_cgen_blocks.specs.Terms.{Given, value, input, mask, scratch, both, Step, Term, Scratch, with_scratch, Gives, StepsFit, IsScratch, IsSpelled, RecipeFits}
-use Rattle.sci_cgen_blocks.specs.Recipes.{given, recipe_of, bit, result, truth as truth_term, natural, selected, row_digits, row_entry}
-use Rattle.sci_cgen_blocks.proofs.Operators.{eq_is, ne_is}
-use Rattle.sci_cgen_blocks.proofs.Working.{Reaches, assign_goes, assign_if_goes, done_gives, joined_fit}
-use Rattle.std.proofs.Math.Nat.{mul_comm}
-use Rattle.c_steps.proofs.Values.{same_ints}
-use Rattle.c_ast.specs.declared.Op.TheVariants.{Add, Mul, Eq}
-use Rattle.sci_cgen_blocks.proofs.Patterns.{times, plus, bit_is, pow_at_most}
-use Rattle.sci_cgen_blocks.proofs.Reading.{Reads, both_reads, input_reads, scratch_reads, natural_reads, mask_reads, bit_reads}
+use Rattle.sci_cgen_blocks.specs.Terms.{Given, value, mask, Scratch, with_scratch, Gives, StepsFit, IsScratch, RecipeFits}
+use Rattle.sci_cgen_blocks.specs.Recipes.{given, recipe_of, bit, result, natural, selected}
+use Rattle.sci_cgen_blocks.proofs.Working.{Reaches, assign_goes, assign_if_goes, done_gives}
+use Rattle.sci_cgen_blocks.proofs.Patterns.{bit_is, pow_at_most}
+use Rattle.sci_cgen_blocks.proofs.Reading.{Reads, natural_reads, mask_reads, bit_reads}
 use Rattle.sci_cgen_blocks.proofs.Inputs.{given_input, in_size, fed_of, IsFed, element_read}
 
 -- ---- the least bit
@@ -115,137 +104,3 @@ module _ (s : Spec) (e : ℕ) (l : e < total s.outs) where
       by_count : (k : ℕ) → k ≤ length s.ins → StepsFit (fed_of Select s) (selected e k)
       by_count zero h = tt
       by_count (suc k) h = ((one, (bit_read k h).fits, element_read Select s (out_type s) a.0.ins_alike f k e h refl here), by_count k (omega (arith, h)))
-
--- ---- LOGIC
-
-small_pow : (n : ℕ) → n ≤ 8 → 2 ^ n ≤ 256
-small_pow n h = elim (cases_lt n 8) [
-  | inl l ↦ let b = pow_below n 8 l in omega (arith, b)
-  | inr r ↦ let e : n ≡ 8 = omega (arith, h, r) in rw e (omega arith)
-]
-
--- ports of one element lie one after the other
-before_scalars : (ps : List Port) → ((k : ℕ) → k < length ps → elements (port_at ps k) ≡ 1) → (k : ℕ) → k ≤ length ps → before ps k ≡ k
-before_scalars ps h zero l = omega arith
-before_scalars [] h (suc k) l = absurd (omega (arith, l))
-before_scalars (p ∷ ps) h (suc k) l =
-    let one : elements p ≡ 1 = h 0 (omega arith) in
-    let rest = before_scalars ps (λ i j. h (suc i) (omega (arith, j))) k (omega (arith, l)) in
-    added (elements p) (before ps k) one rest
-  where
-    added : (a b : ℕ) → a ≡ 1 → b ≡ k → a + b ≡ suc k
-    added a b p q = omega (arith, p, q)
-
-row_small : (f : ℕ → ℤ) (k : ℕ) → k ≤ 8 → row_to f k ≤ 255
-row_small f k h = omega (arith, row_below f k, small_pow k h)
-
-digit_truth : (b : Bool) → Some (truth (not b)) ≡ Some (pos (if b then 0 else 1))
-digit_truth true = refl
-digit_truth false = refl
-
-digit_most : (b : Bool) → (if b then 0 else 1) ≤ 1
-digit_most true = omega arith
-digit_most false = omega arith
-
-module _ (g : Given) (f : ℕ → ℤ) (v : Term) (ys : List Step) where
-  -- scratch 2 takes a digit more for each input
-  digits_go : (n k : ℕ) (s : Scratch) (c : Cell) → ((i : ℕ) → i < k + n → g.input i 0 ≡ f i) → k + n ≤ 8 → s 2 ≡ pos (row_to f k)
-      → ((s' : Scratch) → s' 2 ≡ pos (row_to f (k + n)) → Reaches g ys v s' c) → Reaches g (row_digits k n ++ ys) v s c
-  digits_go zero k s c is small h next = next s (h ∙ ap (λ (i : ℕ). pos (row_to f i)) (omega arith))
-  digits_go (suc n) k s c is small h next =
-      let row = row_small f k (omega (arith, small)) in
-      let least = digit_most (int_eq (f k) (pos 0)) in
-      let double = times {p = Some (pos 2)} refl (ap Some h) (omega (arith, row)) in
-      let digit = ne_is {y = pos 0} (ap Some (is k (omega arith))) refl ∙ digit_truth (int_eq (f k) (pos 0)) in
-      assign_goes {z = pos (row_to f (suc k))} (plus double digit (omega (arith, row, least)))
-      (digits_go n (suc k) (with_scratch 2 (pos (row_to f (suc k))) s) c (λ i l. is i (omega (arith, l))) (omega (arith, small)) refl
-      (λ s' q. next s' (q ∙ ap (λ (i : ℕ). pos (row_to f i)) (omega arith))))
-
-module _ (g : Given) (sp : Spec) (e r : ℕ) where
-  row_test : (s : Scratch) (k : ℕ) → s 2 ≡ pos r → value g s (both Eq (scratch 2) (natural k)) ≡ Some (truth (nat_eq r k))
-  row_test s k h = eq_is {y = pos k} (ap Some h) refl ∙ ap (λ (b : Bool). Some (truth b)) (same_ints r k)
-
-  -- rows behind the one that is looked for
-  rows_past : (n k : ℕ) (s : Scratch) → s 2 ≡ pos r → r < k → Reaches g (row_entry sp e k n) result s (Value (s 1))
-  rows_past zero k s h l = done_gives refl
-  rows_past (suc n) k s h l =
-      let other : nat_eq r k ≡ false = grind (arith, nat_tests) in
-      assign_if_goes false (row_test s k h ∙ ap (λ (b : Bool). Some (truth b)) other) (λ _. refl)
-      (λ s' q rest. subst (λ (z : ℤ). Reaches g (row_entry sp e (suc k) n) result s' (Value z)) q (rows_past n (suc k) s' (rest 2 refl ∙ h) (omega (arith, l))))
-
-  -- the row that is looked for is among these
-  row_found : (n k : ℕ) (s : Scratch) → s 2 ≡ pos r → k ≤ r → r < k + n → Reaches g (row_entry sp e k n) result s (Value (param sp (r * length sp.outs + e)))
-  row_found zero k s h l d = absurd (omega (arith, l, d))
-  row_found (suc n) k s h l d = elim (cases_eq r k) [
-    | inl q ↦
-        let same : nat_eq r k ≡ true = grind (arith, nat_tests) in
-        assign_if_goes true (row_test s k h ∙ ap (λ (b : Bool). Some (truth b)) same) (λ _. refl)
-        (λ s' p rest. subst (λ (z : ℤ). Reaches g (row_entry sp e (suc k) n) result s' (Value z))
-        (p ∙ ap (λ (i : ℕ). param sp (i * length sp.outs + e)) (sym q))
-        (rows_past n (suc k) s' (rest 2 refl ∙ h) (omega (arith, q))))
-    | inr q ↦
-        assign_if_goes (nat_eq r k) (row_test s k h) (λ _. refl)
-        (λ s' p rest. row_found n (suc k) s' (rest 2 refl ∙ h) (omega (arith, l, q)) (omega (arith, d)))
-  ]
-
-module _ (s : Spec) (x : List ℤ) (m : ℕ) (u : List ℤ) (e : ℕ) (t : Scratch) where
-  pub logic_gives : Asks Logic s → Tests Logic s → Gives (given s x m u) (recipe_of Logic s e) t (cell_of Logic s x m u e)
-  logic_gives a ts =
-      let r = row_to (at u) (length s.ins) in
-      let one = λ (k : ℕ) (h : k < length s.ins). scalar_one (port_at s.ins k) (ts.in_sizes k h) in
-      let is : (i : ℕ) → i < 0 + length s.ins → (given s x m u).input i 0 ≡ at u i =
-      λ i h. ap (at u) (omega (arith, before_scalars s.ins one i (omega (arith, h)))) in
-      (assign_goes {z = pos 0} refl (assign_goes {z = pos 0} refl
-      (digits_go (given s x m u) (at u) result (row_entry s e 0 (2 ^ length s.ins)) (length s.ins) 0
-      (with_scratch 1 (pos 0) (with_scratch 2 (pos 0) t)) (Value (param s (r * length s.outs + e)))
-      is (omega (arith, a.1)) refl
-      (λ s' q. row_found (given s x m u) s e r (2 ^ length s.ins) 0 s' (q ∙ ap (λ (i : ℕ). pos (row_to (at u) i)) (omega arith))
-      (omega arith) (omega (arith, row_below (at u) (length s.ins))))))).gives
-
-module _ (s : Spec) (e : ℕ) (l : e < total s.outs) where
-  pub logic_reads : Asks Logic s → Tests Logic s → IsFed Logic s → RecipeFits (fed_of Logic s) (recipe_of Logic s e)
-  logic_reads a ts f = (
-    (
-      (two, zero_read.fits),
-      (
-        (one, zero_read.fits),
-        joined_fit (fed_of Logic s) (row_digits 0 (length s.ins)) (row_entry s e 0 (2 ^ length s.ins))
-            (digits_read (length s.ins) 0 (omega arith)) (rows_read (2 ^ length s.ins) 0 (omega arith)),
-      ),
-    ),
-    one,
-  )
-    where
-      one : IsScratch (fed_of Logic s) 1
-      one = (omega arith, omega arith)
-
-      two : IsScratch (fed_of Logic s) 2
-      two = (omega arith, omega arith)
-
-      zero_read : Reads (fed_of Logic s) 32 (natural 0)
-      zero_read = natural_reads (omega arith)
-
-      digit_read : (k : ℕ) → k < length s.ins → Reads (fed_of Logic s) 32 (both Add (both Mul (natural 2) (scratch 2)) (truth_term (input k 0)))
-      digit_read k h =
-          both_reads (both_reads (natural_reads (omega arith)) (scratch_reads two.0 two.1))
-          (both_reads (input_reads ((h, omega (arith, scalar_one (port_at s.ins k) (ts.in_sizes k h))), f k h refl)) (natural_reads (omega arith)))
-
-      digits_read : (n k : ℕ) → k + n ≤ length s.ins → StepsFit (fed_of Logic s) (row_digits k n)
-      digits_read zero k h = tt
-      digits_read (suc n) k h = ((two, (digit_read k (omega (arith, h))).fits), digits_read n (suc k) (omega (arith, h)))
-
-      flag_spelled : (z : ℤ) → (z ≡ pos 0) ⊎ (z ≡ pos 1) → IsSpelled z
-      flag_spelled z (inl q) = (omega (arith, ints, q), omega (arith, ints, q))
-      flag_spelled z (inr q) = (omega (arith, ints, q), omega (arith, ints, q))
-
-      entry_spelled : (k : ℕ) → k < 2 ^ length s.ins → IsSpelled (param s (k * length s.outs + e))
-      entry_spelled k h =
-          let place = mul-add-lt k (length s.outs) e (2 ^ length s.ins) h (omega (arith, l, a.3)) in
-          flag_spelled (param s (k * length s.outs + e)) (a.5 (k * length s.outs + e) (omega (arith, place, a.4, mul_comm (length s.outs) (2 ^ length s.ins))))
-
-      test_read : (k : ℕ) → k < 2 ^ length s.ins → Reads (fed_of Logic s) 32 (both Eq (scratch 2) (natural k))
-      test_read k h = both_reads (scratch_reads two.0 two.1) (natural_reads (omega (arith, h, small_pow (length s.ins) a.1)))
-
-      rows_read : (n k : ℕ) → k + n ≤ 2 ^ length s.ins → StepsFit (fed_of Logic s) (row_entry s e k n)
-      rows_read zero k h = tt
-      rows_read (suc n) k h = ((one, (test_read k (omega (arith, h))).fits, entry_spelled k (omega (arith, h))), rows_read n (suc k) (omega (arith, h)))

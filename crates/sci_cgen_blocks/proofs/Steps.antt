@@ -18,7 +18,7 @@ use Rattle.sci_cgen_blocks.proofs.Shown.{expression_is, scratch_there, IsWorked,
 -- ---- words
 
 -- by a test's value
-choice_runs : (Q : Ran → Type 0) (env : Around) (n : ℕ) (e : Exp) (a b rest : Block) (w : World) (v : ℤ) → value_of e w ≡ Some v
+pub choice_runs : (Q : Ran → Type 0) (env : Around) (n : ℕ) (e : Exp) (a b rest : Block) (w : World) (v : ℤ) → value_of e w ≡ Some v
     → ((k l m : ℕ) → Q (then_run (if is_zero v then run_block env l b w else run_block env k a w) (run_block env m rest)))
     → Q (run_block env n (next (choice e a b) rest) w)
 choice_runs Q env n e a b rest w v is go =

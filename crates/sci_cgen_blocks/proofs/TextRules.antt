@@ -16,9 +16,9 @@ use Rattle.c_ast.specs.declared.events.Opened.TheVariants.{Branch, Turn}
 use Rattle.c_ast.specs.Syntax.{Block, done, next}
 use Rattle.c_ast.specs.Rules.{same_name, is_hit, is_guarded}
 use Rattle.c_steps.specs.Texts.{joined, upto}
-use Rattle.sci_cgen_blocks.specs.Terms.{Term, constant, input, state, mask, scratch, both, Work, assign, assign_if, changes, Step, change, stop_if, repeat, Recipe, Readable, TermFits, WorkFits, WorksFit, Spares, StepFits, StepsFit, RecipeFits}
-use Rattle.sci_cgen_blocks.specs.Recipes.{recipe_of, next_term, delay_term, branch_term, scratch_of, fed, from_value, inputs}
-use Rattle.sci_cgen_blocks.specs.Texts.{Places, values, states, scratch_name, expression, work_statement, works_text, step_statement, steps_text, recipe_text, sensor_text, body_text, next_text, delay_expression, branch_expression}
+use Rattle.sci_cgen_blocks.specs.Terms.{Term, constant, input, state, mask, scratch, both, Work, assign, assign_if, changes, Step, change, stop_if, repeat, Recipe, Way, each, decide, Readable, TermFits, WorkFits, WorksFit, Spares, StepFits, StepsFit, RecipeFits, WayFits}
+use Rattle.sci_cgen_blocks.specs.Recipes.{way_of, next_term, delay_term, branch_term, scratch_of, fed, from_value, inputs}
+use Rattle.sci_cgen_blocks.specs.Texts.{Places, values, states, scratch_name, expression, work_statement, works_text, step_statement, steps_text, recipe_text, way_text, sensor_text, body_text, next_text, delay_expression, branch_expression}
 use Rattle.sci_cgen_blocks.specs.Keeping.{Scene, ReadsWell, MayAssign, StatementKeeps, BlockKeeps, HasBlockNames, MayWork}
 use Rattle.sci_cgen_blocks.proofs.Bodies.{values_are}
 use Rattle.sci_cgen_blocks.proofs.Sensing.{sensor_values, is_kind}
@@ -98,6 +98,22 @@ upto_keeps c opens f zero go = tt
 upto_keeps c opens f (suc n) go =
     joined_keep c opens (upto f n) (f n) (upto_keeps c opens f n (λ e h. go e (omega (arith, h)))) (go n (omega arith))
 
+work_more : (c : Scene) (opens : List Opened) (k : ℕ) → MayWork c opens k → MayWork c (opens ++ Branch ∷ []) k
+work_more c opens k may = record {
+  values = branch_more c opens values may.values;
+  scratch = λ n l m. branch_more c opens (scratch_name n) (may.scratch n l m);
+}
+
+module _ (c : Scene) (p : Places) (r : Readable) (names : HasBlockNames c r.scratch) (n : ℕ) where
+  way_keeps : (y : Way) (d : ℕ) (opens : List Opened) → MayWork c opens r.scratch → WayFits r n y d → BlockKeeps c opens (way_text p n y)
+  way_keeps (each f) d opens may fits = upto_keeps c opens (λ e. recipe_text p e (f e)) n (λ e l. recipe_keeps c p r names opens e (f e) may (fits e l))
+  way_keeps (decide e a b) zero opens may fits = absurd fits
+  way_keeps (decide e a b) (suc d) opens may fits =
+      let more = work_more c opens r.scratch may in (
+        (reads_well c p r names 32 e fits.0, way_keeps a d (opens ++ Branch ∷ []) more fits.1, way_keeps b d (opens ++ Branch ∷ []) more fits.2),
+        tt,
+      )
+
 module _ (c : Scene) (s : Spec) (p : Places) (is_typed : typed s ≡ true) (names : HasBlockNames c (scratch_of s.kind s)) where
   sensor_keeps : (opens : List Opened) (z : ℤ) → s.kind ≡ Sensor → MayWork c opens (scratch_of s.kind s) → BlockKeeps c opens (sensor_text p z)
   sensor_keeps opens z kind may =
@@ -113,8 +129,8 @@ module _ (c : Scene) (s : Spec) (p : Places) (is_typed : typed s ≡ true) (name
       by_kind : ((s.kind ≡ Sensor) ⊎ (s.kind ≢ Sensor)) → BlockKeeps c opens (body_text s p)
       by_kind (inl e) = subst (BlockKeeps c opens) (sym (sensor_values s.kind s p e)) (sensor_keeps opens (param s 0) e may)
       by_kind (inr n) =
-          subst (BlockKeeps c opens) (sym (values_are s.kind s p n)) (upto_keeps c opens (λ e. recipe_text p e (recipe_of s.kind s e)) (total s.outs) (λ e l.
-          recipe_keeps c p (fed s) names opens e (recipe_of s.kind s e) may (cell_reads_law s is_typed n e l)))
+          subst (BlockKeeps c opens) (sym (values_are s.kind s p n))
+          (way_keeps c p (fed s) names (total s.outs) (way_of s.kind s) 8 opens may (cell_reads_law s is_typed n))
 
 module _ (c : Scene) (s : Spec) (p : Places) (is_typed : typed s ≡ true) (names : HasBlockNames c 0) where
   pub next_keeps : (opens : List Opened) → MayAssign c opens states → BlockKeeps c opens (next_text s p)

@@ -4,7 +4,7 @@ use Rattle.std.proofs.lemmas.List.{drop_more}
 use Rattle.c_ast.specs.declared.Stmt.{Stmt}
 use Rattle.c_ast.specs.Syntax.{Statement, Block, done, next, num, set, cell}
 use Rattle.c_ast.specs.View.{statement_of, statements_of}
-use Rattle.c_steps.specs.Texts.{joined}
+use Rattle.c_steps.specs.Texts.{joined, upto}
 use Rattle.sci_cgen_blocks.specs.Terms.{Step, Recipe}
 use Rattle.sci_cgen_blocks.specs.Texts.{Places, values, expression, step_statement, steps_text, recipe_text}
 
@@ -30,6 +30,10 @@ pub statement_done : (xs ys : List Stmt) (s : Stmt) (first : Statement) (come re
     → ys ≡ xs ++ s ∷ [] → statement_of s ≡ first → come ≡ next first rest → joined (statements_of xs) come ≡ all → joined (statements_of ys) rest ≡ all
 statement_done xs ys s first come rest all e is cut so_far =
     ap (λ b. joined b rest) (pushed xs ys s first e is) ∙ joined_assoc (statements_of xs) (next first done) rest ∙ ap (joined (statements_of xs)) (sym cut) ∙ so_far
+
+-- A text was pushed, the next of those of elements.
+pub upto_more : (f : ℕ → Block) (k : ℕ) (a b : Block) → a ≡ joined b (f k) → b ≡ upto f k → a ≡ upto f (k + 1)
+upto_more f k a b e so_far = let next : suc k ≡ k + 1 = omega arith in e ∙ ap (λ x. joined x (f k)) so_far ∙ ap (upto f) next
 
 -- ---- lists that are gone through
 

@@ -1,5 +1,5 @@
--- The recipes are right: each gives what the table of kinds says, and reads nothing but what the block has. And so are the texts made of them.
-use Rattle.std.specs.Prelude.{◌≡◌, ◌≢◌, ℕ, suc, ◌<◌, ℤ, pos, List, Some, None, true}
+-- The ways are right: each gives what the table of kinds says, and reads nothing but what the block has. And so are the texts made of them.
+use Rattle.std.specs.Prelude.{◌≡◌, ◌≢◌, ℕ, suc, ◌+◌, ◌<◌, ℤ, pos, List, Some, None, true}
 use Rattle.sci_forms.specs.declared.Kind.TheVariants.{Sensor}
 use Rattle.sci_forms.specs.declared.spec.Spec.{Spec}
 use Rattle.sci_forms.specs.Ports.{total, Fills}
@@ -16,21 +16,21 @@ use Rattle.c_ast.specs.Rules.{Scope, first_blamed}
 use Rattle.c_mean.specs.Meaning.{World, Around, run_block}
 use Rattle.c_steps.specs.Places.{HasValue, Has}
 use Rattle.c_steps.specs.Texts.{block_within}
-use Rattle.sci_cgen_blocks.specs.Terms.{Scratch, Gives, value, RecipeFits, TermFits}
-use Rattle.sci_cgen_blocks.specs.Recipes.{recipe_of, next_term, delay_term, branch_term, scratch_of, given, fed, from_value, inputs}
+use Rattle.sci_cgen_blocks.specs.Terms.{Scratch, WayGives, value, WayFits, TermFits}
+use Rattle.sci_cgen_blocks.specs.Recipes.{way_of, next_term, delay_term, branch_term, scratch_of, given, fed, from_value, inputs}
 use Rattle.sci_cgen_blocks.specs.Texts.{Places, values, states, scratch_name, body_text, next_text, delay_expression, branch_expression}
 use Rattle.sci_cgen_blocks.specs.Meant.{Holds, IsFed, IsAny, IsApart, Answers, NextIs, Senses, AreInBounds, body_may, next_may}
 use Rattle.sci_cgen_blocks.specs.Keeping.{Scene, ReadsWell, MayAssign, BlockKeeps, StandsIn, HasBlockNames, MayWork}
 
--- each element's recipe gives its cell, whatever scratch holds before
+-- the way gives each element's cell, whatever scratch holds before
 abbrev pub CellLaw : Type 0
 CellLaw =
     (s : Spec) (x : List ℤ) (m : ℕ) (u : List ℤ) → typed s ≡ true → s.kind ≢ Sensor → IsState s x → IsMask s m → Fills s.ins u
-    → (e : ℕ) → e < total s.outs → (t : Scratch) → Gives (given s x m u) (recipe_of s.kind s e) t (cell s x m u e)
+    → WayGives (given s x m u) (total s.outs) (cell s x m u) (way_of s.kind s)
 
--- it reads inputs with feedthrough and the state alone
+-- it reads inputs with feedthrough and the state alone, and makes at most eight decisions, one in the other
 abbrev pub CellReadsLaw : Type 0
-CellReadsLaw = (s : Spec) → typed s ≡ true → s.kind ≢ Sensor → (e : ℕ) → e < total s.outs → RecipeFits (fed s) (recipe_of s.kind s e)
+CellReadsLaw = (s : Spec) → typed s ≡ true → s.kind ≢ Sensor → WayFits (fed s) (total s.outs) (way_of s.kind s) 8
 
 abbrev pub NextLaw : Type 0
 NextLaw =
@@ -89,9 +89,9 @@ pub record MayLaw : Type 0 where
   pub body : (s : Spec) (p : Places) → block_within (body_may s) (body_text s p) ≡ true
   pub next : (s : Spec) (p : Places) → block_within next_may (next_text s p) ≡ true
 
--- They are within the bounds of the subset: the values nested at most three deep, the next state not at all.
+-- They are within the bounds of the subset: the values nested at most eleven deep, the next state not at all.
 pub record BoundsLaw : Type 0 where
-  pub body : (s : Spec) (p : Places) → typed s ≡ true → AreInBounds s p → (d : ℕ) → BlockFits (suc (suc (suc d))) (body_text s p)
+  pub body : (s : Spec) (p : Places) → typed s ≡ true → AreInBounds s p → (d : ℕ) → BlockFits (11 + d) (body_text s p)
   pub next : (s : Spec) (p : Places) → typed s ≡ true → AreInBounds s p → (d : ℕ) → BlockFits (suc d) (next_text s p)
   pub delay : (s : Spec) (p : Places) → typed s ≡ true → has_delay s.kind ≡ true → AreInBounds s p → IsExp (delay_expression s p)
   pub branch : (s : Spec) (p : Places) → typed s ≡ true → is_sync s.kind ≡ true → AreInBounds s p → IsExp (branch_expression s p)

@@ -1,6 +1,6 @@
 -- How each kind's values, next states, delays and branches are worked out. What a kind means stands in its table (sci_kinds); these are ways to it that
 -- C leaves nowhere undefined.
-use Rattle.std.specs.Prelude.{◌≡◌, ℕ, zero, suc, ◌+◌, ◌-◌, ◌*◌, ◌^◌, ◌<◌, ◌≤◌, true, ℤ, pos, negsuc, List, [], ◌∷◌, ◌++◌, length, nat_lt, int_lt, if◌then◌else◌, unsigned_abs}
+use Rattle.std.specs.Prelude.{◌≡◌, ℕ, zero, suc, ◌+◌, ◌-◌, ◌*◌, ◌^◌, ◌<◌, ◌≤◌, true, ℤ, pos, negsuc, List, [], ◌∷◌, ◌++◌, length, Bool, ◌&&◌, nat_lt, int_lt, if◌then◌else◌, unsigned_abs}
 use Rattle.std.specs.Int.{int_rem_euclid}
 use Rattle.sci_base.specs.declared.Ty.{Ty}
 use Rattle.sci_base.specs.declared.Ty.TheVariants.{U32}
@@ -17,7 +17,7 @@ use Rattle.sci_forms.specs.Words.{param, out_type, state_len_of}
 use Rattle.sci_kinds.specs.Table.{mode_of}
 use Rattle.c_ast.specs.declared.Op.{Op}
 use Rattle.c_ast.specs.declared.Op.TheVariants.{Add, Sub, Mul, Div, Rem, Lt, Le, Gt, Ge, Eq, Ne, And, Or}
-use Rattle.sci_cgen_blocks.specs.Terms.{Term, constant, input, state, mask, scratch, both, Work, assign, assign_if, Step, change, stop_if, repeat, Recipe, Given, Readable}
+use Rattle.sci_cgen_blocks.specs.Terms.{Term, constant, input, state, mask, scratch, both, Work, assign, assign_if, Step, change, stop_if, repeat, Recipe, Way, each, decide, Given, Readable}
 
 -- ---- words
 
@@ -153,16 +153,6 @@ abbrev pub selected : ℕ → ℕ → List Step
 selected e zero = []
 selected e (suc k) = set_if (bit mask k) (input k e) ∷ selected e k
 
--- scratch 2 becomes the number whose binary digits are the truths of inputs k to k + n - 1
-abbrev pub row_digits : ℕ → ℕ → List Step
-row_digits k zero = []
-row_digits k (suc n) = change (assign 2 (both Add (both Mul (natural 2) (scratch 2)) (truth (input k 0)))) ∷ row_digits (suc k) n
-
--- column e of the table's row with the number of scratch 2, of rows k to k + n - 1
-abbrev pub row_entry : Spec → ℕ → ℕ → ℕ → List Step
-row_entry s e k zero = []
-row_entry s e k (suc n) = set_if (both Eq (scratch 2) (natural k)) (constant (param s (k * length s.outs + e))) ∷ row_entry s e (suc k) n
-
 -- ---- one input
 
 abbrev pub relation : ℤ → Op
@@ -210,7 +200,7 @@ abbrev pub flat_from : List Port → ℕ → ℕ → Term
 flat_from [] k e = input k e
 flat_from (p ∷ ps) k e = if nat_lt e (elements p) then input k e else flat_from ps (suc k) (e - elements p)
 
--- Element e of the outputs, counted through all of them. A SENSOR's is no recipe, since it asks for its value.
+-- Element e of the outputs, counted through all of them. A SENSOR's is no recipe, since it asks for its value; a LOGIC's neither (way_of).
 abbrev pub recipe_of : Kind → Spec → ℕ → Recipe
 recipe_of Const s e = plain (constant (spread s.params e))
 recipe_of Summation s e = fitted_out (out_type s) (mode_of (param s 0)) (set (natural 0) ∷ terms s e 0 (length s.ins))
@@ -238,7 +228,7 @@ recipe_of BitClear s e = without_bit (out_type s) (unsigned_abs (param s 0)) (in
 recipe_of ExtractBits s e = bits (out_type s) (unsigned_abs (param s 0)) (unsigned_abs (param s 1)) (input 0 e)
 recipe_of Switch2 s e = worked_out (set (input 2 e) ∷ set_if (switches (param s 0) (param s 1) (input 1 0)) (input 0 e) ∷ [])
 recipe_of Select s e = worked_out (set (natural 0) ∷ selected e s.evtin)
-recipe_of Logic s e = worked_out (change (assign 2 (natural 0)) ∷ set (natural 0) ∷ row_digits 0 (length s.ins) ++ row_entry s e 0 (2 ^ length s.ins))
+recipe_of Logic s e = plain (natural 0)
 recipe_of AndLog s e = plain (both Sub (both Mul (natural 2) (both Eq mask (natural 3))) (natural 1))
 recipe_of Dollar s e = plain (state e)
 recipe_of SampHold s e = plain (input 0 e)
@@ -251,6 +241,38 @@ recipe_of EvtVarDly s e = plain (natural 0)
 recipe_of IfThEl s e = plain (natural 0)
 recipe_of ESelect s e = plain (natural 0)
 recipe_of Halt s e = plain (natural 0)
+
+-- ---- tables of truth
+
+-- entry e of row r
+abbrev pub entry : Spec → ℕ → ℕ → ℤ
+entry s r e = param s (r * length s.outs + e)
+
+-- whether two rows have the same entries from e on, n of them
+abbrev pub same_entries : Spec → ℕ → ℕ → ℕ → ℕ → Bool
+same_entries s q r e zero = true
+same_entries s q r e (suc n) = int_eq (entry s q e) (entry s r e) && same_entries s q r (suc e) n
+
+-- whether the rows from r on, n of them, are all as row q
+abbrev pub are_as : Spec → ℕ → ℕ → ℕ → Bool
+are_as s q r zero = true
+are_as s q r (suc n) = same_entries s q r 0 (length s.outs) && are_as s q (suc r) n
+
+abbrev pub row : Spec → ℕ → Way
+row s r = each (λ e. plain (constant (entry s r e)))
+
+-- The row that the truths of inputs k to k + n - 1 name among the 2^n rows from r on. Nothing is asked where these rows are all the same.
+abbrev pub decided : Spec → ℕ → ℕ → ℕ → Way
+decided s k zero r = row s r
+decided s k (suc n) r = if are_as s r r (2 ^ suc n) then row s r else decide (input k 0) (decided s (suc k) n (r + 2 ^ n)) (decided s (suc k) n r)
+
+-- ---- the ways
+
+abbrev pub way_of : Kind → Spec → Way
+way_of Logic s = decided s 0 (length s.ins) 0
+way_of c s = each (recipe_of c s)
+
+-- ---- next states, delays, branches
 
 -- Value i of the next state. The values are assigned in order, so a term may read the state from value i on alone.
 abbrev pub next_term : Kind → Spec → ℕ → Term
@@ -292,7 +314,6 @@ scratch_of LogicalOp s = if int_eq (param s 1) (pos 0) then 1 else 4
 scratch_of Shift s = if int_eq (param s 1) (pos 0) then 0 else 1
 scratch_of Switch2 s = 1
 scratch_of Select s = 1
-scratch_of Logic s = 2
 scratch_of Sensor s = 1
 scratch_of _ s = 0
 

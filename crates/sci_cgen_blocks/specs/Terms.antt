@@ -1,6 +1,6 @@
--- How a block's values are worked out: terms over what the block is given and over scratch numbers, and steps that change scratch or stop.
--- What they mean is said here without any memory. Each term is one expression of C, and each step one statement (Texts).
-use Rattle.std.specs.Prelude.{◌≡◌, ℕ, zero, suc, ◌<◌, ◌≤◌, ◌^◌, ℤ, pos, negsuc, ◌≤ℤ◌, ◌+ℤ◌, List, [], ◌∷◌, Option, Some, None, false, nat_eq, if◌then◌else◌}
+-- How a block's values are worked out: terms over what the block is given and over scratch numbers, steps that change scratch or stop, and decisions between
+-- ways. What they mean is said here without any memory. Each term is one expression of C, and each step and each decision one statement (Texts).
+use Rattle.std.specs.Prelude.{◌≡◌, ℕ, zero, suc, ◌<◌, ◌≤◌, ◌^◌, ℤ, pos, negsuc, ◌≤ℤ◌, ◌+ℤ◌, List, [], ◌∷◌, Option, Some, None, true, false, nat_eq, if◌then◌else◌}
 use Rattle.sci_kinds.specs.declared.Cell.{Cell}
 use Rattle.sci_kinds.specs.declared.Cell.TheVariants.{Value, Overflow, Zero}
 use Rattle.c_ast.specs.declared.Op.{Op}
@@ -110,6 +110,23 @@ Gives g r s (Value v) = Comes g r s v
 Gives g r s Overflow = do_steps g r.steps s ≡ stopped 0
 Gives g r s Zero = do_steps g r.steps s ≡ stopped 1
 
+-- ---- ways
+
+-- How a block's values are worked out: each element by its recipe; or one way where a test isn't 0, and another where it is.
+pub data Way : Type 0 where
+  each : (ℕ → Recipe) → Way
+  decide : Term → Way → Way → Way
+
+-- a test has a value, and the first holds where it isn't 0, the second where it is
+abbrev pub Under : Option ℤ → Type 0 → Type 0 → Type 0
+Under None p q = ⊥
+Under (Some z) p q = (is_zero z ≡ false → p) × (is_zero z ≡ true → q)
+
+-- The way gives what the cells of n elements are, whatever scratch holds before.
+abbrev pub WayGives : Given → ℕ → (ℕ → Cell) → Way → Type 0
+WayGives g n cells (each f) = (e : ℕ) → e < n → (s : Scratch) → Gives g (f e) s (cells e)
+WayGives g n cells (decide c a b) = (s : Scratch) → Under (value g s c) (WayGives g n cells a) (WayGives g n cells b)
+
 -- ---- what may be read
 
 -- a number that C spells, itself or behind a minus sign
@@ -163,3 +180,9 @@ StepsFit r (x ∷ xs) = StepFits r x × StepsFit r xs
 
 abbrev pub RecipeFits : Readable → Recipe → Type 0
 RecipeFits r c = StepsFit r c.steps × TermFits r 32 c.value
+
+-- A way of at most d decisions, one in the other.
+abbrev pub WayFits : Readable → ℕ → Way → ℕ → Type 0
+WayFits r n (each f) d = (e : ℕ) → e < n → RecipeFits r (f e)
+WayFits r n (decide c a b) zero = ⊥
+WayFits r n (decide c a b) (suc d) = TermFits r 32 c × WayFits r n a d × WayFits r n b d

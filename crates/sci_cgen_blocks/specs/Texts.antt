@@ -10,8 +10,8 @@ use Rattle.c_ast.specs.declared.Bound.TheVariants as bounds
 use Rattle.c_ast.specs.Syntax.{Exp, num, var, bin, scalar, cell, more, input as next_input, tell, stop, Statement, set, ask, choice, loop, Block, done, next}
 use Rattle.c_steps.specs.Places.{named}
 use Rattle.c_steps.specs.Texts.{number, place, upto}
-use Rattle.sci_cgen_blocks.specs.Terms.{Term, constant, input, state, mask, scratch, both, Work, assign, assign_if, Step, change, stop_if, repeat, Recipe}
-use Rattle.sci_cgen_blocks.specs.Recipes.{recipe_of, next_term, delay_term, branch_term}
+use Rattle.sci_cgen_blocks.specs.Terms.{Term, constant, input, state, mask, scratch, both, Work, assign, assign_if, Step, change, stop_if, repeat, Recipe, Way, each, decide}
+use Rattle.sci_cgen_blocks.specs.Recipes.{way_of, next_term, delay_term, branch_term}
 
 -- Where a block's places lie: its number, of each input the first place in the array of values, the first place of its outputs there, of its state in the array of
 -- states, and its mask's place in the array of masks.
@@ -72,6 +72,11 @@ steps_text p (x ∷ xs) rest = next (step_statement p x) (steps_text p xs rest)
 abbrev pub recipe_text : Places → ℕ → Recipe → Block
 recipe_text p e r = steps_text p r.steps (next (set (cell values (num (pos (p.outs + e)))) (expression p r.value)) done)
 
+-- n elements of the outputs become what the way gives
+abbrev pub way_text : Places → ℕ → Way → Block
+way_text p n (each f) = upto (λ e. recipe_text p e (f e)) n
+way_text p n (decide c a b) = next (choice (expression p c) (way_text p n a) (way_text p n b)) done
+
 -- the next value of the column, or the stop where it has none
 abbrev pub sensor_text : Places → ℤ → Block
 sensor_text p column =
@@ -80,7 +85,7 @@ sensor_text p column =
 
 abbrev pub values_text : Kind → Spec → Places → Block
 values_text Sensor s p = sensor_text p (param s 0)
-values_text c s p = upto (λ e. recipe_text p e (recipe_of c s e)) (total s.outs)
+values_text c s p = way_text p (total s.outs) (way_of c s)
 
 -- the block's values
 abbrev pub body_text : Spec → Places → Block

@@ -16,25 +16,13 @@ use crate::Layout;
 use crate::array_names::{scratch, states, values};
 use crate::kind_recipes::recipe;
 use crate::kind_terms::{branch_term, delay_term, next_term, state_len};
-use crate::spec_words::param;
+use crate::spec_words::{param, total};
+use crate::table_texts::table;
 use crate::writing::{either, expression, push_recipe};
 use c_ast::{Ask, Expr, Stmt, Target, Tell};
 use sci_base::NoMemory;
-use sci_forms::{Kind, Ports, Spec};
+use sci_forms::{Kind, Spec};
 use std::alloc::Global;
-
-/// How many elements some ports have.
-#[tactic(auto, using(crate::proofs::KindParts::total_step, crate::proofs::KindParts::total_end))]
-fn total(ports: &Ports) -> u32
-    requires { total ports.now < 2 ^ 32 }
-    ensures { result ≡ total ports.now }
-{
-    let mut count = 0;
-    for port in 0..ports.len() {
-        count += ports.port(port).elements() as u32;
-    }
-    count
-}
 
 /// The next value of a column, or the stop where it has none.
 fn sensor(alloc: Global, at: &Layout, column: i64) -> Result<Vec<Stmt>, NoMemory>
@@ -54,7 +42,7 @@ fn sensor(alloc: Global, at: &Layout, column: i64) -> Result<Vec<Stmt>, NoMemory
     Ok(vec![in alloc; more, choice]?)
 }
 
-/// Element `e` of the outputs, of a block that isn't a sensor.
+/// Element `e` of the outputs, of a block that is neither a sensor nor a table of truth.
 fn push_element(
     alloc: Global,
     out: &mut Vec<Stmt>,
@@ -65,17 +53,19 @@ fn push_element(
     requires is_typed { typed s.now ≡ true }
     requires few { AreFew s.now (plain_places at.now) }
     requires own { s.now.kind ≢ kinds.Sensor }
+    requires single { s.now.kind ≢ kinds.Logic }
     requires element { e < total s.now.outs }
     ensures { OnOk result (statements_of out.new.items ≡ joined (statements_of out.old.items) (recipe_text (plain_places at.now) e (recipe_of s.now.kind s.now e))) }
 {
     push_recipe(alloc, out, at, e, &recipe(alloc, s, e)?)
 }
 
-/// The values of a block that isn't a sensor.
+/// The values of a block that is neither a sensor nor a table of truth.
 fn elements(alloc: Global, s: &Spec, at: &Layout) -> Result<Vec<Stmt>, NoMemory>
     requires is_typed { typed s.now ≡ true }
     requires few { AreFew s.now (plain_places at.now) }
     requires own { s.now.kind ≢ kinds.Sensor }
+    requires single { s.now.kind ≢ kinds.Logic }
     ensures { IfOk result (λ v. statements_of v.items ≡ upto (λ e. recipe_text (plain_places at.now) e (recipe_of s.now.kind s.now e)) (total s.now.outs)) }
 {
     let mut out = Vec::new(alloc);
@@ -95,6 +85,8 @@ pub fn block_body(alloc: Global, s: &Spec, at: &Layout) -> Result<Vec<Stmt>, NoM
 {
     if let Kind::Sensor = s.kind {
         sensor(alloc, at, param(s, 0))
+    } else if let Kind::Logic = s.kind {
+        table(alloc, s, at)
     } else {
         elements(alloc, s, at)
     }

@@ -14,7 +14,7 @@ use crate::arithmetic_kinds::{
     summation,
 };
 use crate::bit_kinds::{bit_clear, bit_set, extract_bits, shift};
-use crate::logical_kinds::{and_of_both, logic, logical_operation, related, select, switched};
+use crate::logical_kinds::{and_of_both, logical_operation, related, select, switched};
 use crate::recipe_parts::{Recipe, Term, both, natural, plain};
 use crate::spec_words::{inputs, param, spread};
 use c_ast::Op;
@@ -85,12 +85,16 @@ pub(crate) fn recipe(alloc: Global, s: &Spec, e: u32) -> Result<Recipe, NoMemory
         Kind::ExtractBits => extract_bits(alloc, s, e),
         Kind::Switch2 => switched(alloc, s, e),
         Kind::Select => select(alloc, s, e),
-        Kind::Logic => logic(alloc, s, e),
         Kind::AndLog => and_of_both(alloc),
         Kind::Dollar => Ok(plain(alloc, Term::State(e))),
         Kind::Register | Kind::ModuloCount => Ok(plain(alloc, Term::State(0))),
         Kind::GatedDelay => gated(alloc, e),
-        Kind::Sensor | Kind::EvtDly | Kind::EvtVarDly | Kind::IfThEl | Kind::ESelect | Kind::Halt =>
-            Ok(plain(alloc, natural(0))),
+        Kind::Logic
+        | Kind::Sensor
+        | Kind::EvtDly
+        | Kind::EvtVarDly
+        | Kind::IfThEl
+        | Kind::ESelect
+        | Kind::Halt => Ok(plain(alloc, natural(0))),
     }
 }

@@ -265,7 +265,6 @@ pub fn scratch_of(s: &Spec) -> u32
         | Kind::Sensor => 1,
         Kind::LogicalOp => if is_equal(param(s, 1), 0) { 1 } else { 4 },
         Kind::Shift => if is_equal(param(s, 1), 0) { 0 } else { 1 },
-        Kind::Logic => 2,
         Kind::Const
         | Kind::Signum
         | Kind::Mux
@@ -275,6 +274,7 @@ pub fn scratch_of(s: &Spec) -> u32
         | Kind::BitSet
         | Kind::BitClear
         | Kind::ExtractBits
+        | Kind::Logic
         | Kind::AndLog
         | Kind::Dollar
         | Kind::SampHold

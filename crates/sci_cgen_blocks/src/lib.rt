@@ -16,6 +16,7 @@ mod logical_kinds;
 mod product_terms;
 mod recipe_parts;
 mod spec_words;
+mod table_texts;
 pub mod writing;
 
 pub use block_layout::Layout;
@@ -25,13 +26,13 @@ pub use laws::{
     bounds_law, branch_law, delay_law, may_law, next_state_law, rules_law, sensor_law, values_law,
 };
 
-/// The recipe of each element of a block's outputs gives what the table of kinds says: its value,
-/// or the stop of an overflow or of a zero divisor.
+/// The way of a block's values gives each element of its outputs what the table of kinds says: its
+/// value, or the stop of an overflow or of a zero divisor.
 pub fn cell_law()
     ensures { CellLaw }
 {}
 
-/// It reads inputs with feedthrough and the state alone.
+/// It reads inputs with feedthrough and the state alone, and its decisions nest at most eight deep.
 pub fn cell_reads_law()
     ensures { CellReadsLaw }
 {}

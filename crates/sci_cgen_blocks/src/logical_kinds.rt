@@ -4,14 +4,14 @@ ghost use Rattle.sci_forms.specs.Words.{param as param_of};
 ghost use Rattle.sci_forms.specs.declared.Kind.TheVariants as kinds;
 ghost use Rattle.c_ast.specs.declared.Op.TheVariants as ops;
 ghost use Rattle.sci_cgen_blocks.specs.Terms.{constant, input, mask, scratch, both, assign, change};
-ghost use Rattle.sci_cgen_blocks.specs.Recipes.{natural as natural_term, plain as plain_of, result as first_scratch, pattern as pattern_term, truth as truth_term, set_if as set_if_of, bit as bit_term, counted, changed, logical as logical_term, logical_truths as truths_recipe, logical_bits as bits_recipe, selected as selected_steps, row_digits, row_entry, relation as relation_by_code, switches as switches_term, recipe_of};
+ghost use Rattle.sci_cgen_blocks.specs.Recipes.{natural as natural_term, plain as plain_of, result as first_scratch, pattern as pattern_term, truth as truth_term, set_if as set_if_of, bit as bit_term, counted, changed, logical as logical_term, logical_truths as truths_recipe, logical_bits as bits_recipe, selected as selected_steps, relation as relation_by_code, switches as switches_term, recipe_of};
 ghost use Rattle.sci_cgen_blocks.specs.Plain.{term_of, work_of, works_of, step_of, steps_of, plain_recipe};
 
 use crate::fit_terms::{bit, pattern, wrapped};
 use crate::recipe_parts::{
     Recipe, Step, Term, Work, both, natural, plain, set, set_if, worked, worked_out,
 };
-use crate::spec_words::{inputs, out_type, param, power};
+use crate::spec_words::{inputs, out_type, param};
 use c_ast::Op;
 use sci_base::{NoMemory, Ty};
 use sci_forms::Spec;
@@ -224,67 +224,6 @@ pub(crate) fn select(alloc: Global, s: &Spec, e: u32) -> Result<Recipe, NoMemory
 {
     let mut steps = vec![in alloc; set(natural(0))]?;
     push_selected(alloc, &mut steps, s.evtin, e)?;
-    Ok(worked_out(steps))
-}
-
-/// The truth of an input is the next binary digit of the number in scratch 2.
-fn digit(alloc: Global, port: u32) -> Result<Step, NoMemory>
-    ensures { IfOk result (λ x. step_of x ≡ change (assign 2 (both ops.Add (both ops.Mul (natural_term 2) (scratch 2)) (truth_term (input port 0))))) }
-{
-    let doubled = both(alloc, Op::Mul, natural(2), Term::Scratch(2))?;
-    let digit = truth(alloc, Term::Input(port, 0))?;
-    let number = both(alloc, Op::Add, doubled, digit)?;
-    Ok(Step::Change(Work::Assign(2, number)))
-}
-
-/// Scratch 2 becomes the number whose binary digits are the truths of the inputs.
-fn push_digits(alloc: Global, steps: &mut Vec<Step>, n: u32) -> Result<(), NoMemory>
-    ensures { OnOk result (steps_of steps.new.items ≡ steps_of steps.old.items ++ row_digits 0 n) }
-{
-    for port in 0..n {
-        steps.push(digit(alloc, port)?)?;
-    }
-    Ok(())
-}
-
-/// Column `e` of a row, where the row's number is in scratch 2.
-fn entry(alloc: Global, s: &Spec, row: u64, e: u32) -> Result<Step, NoMemory>
-    requires row { row ≤ 256 }
-    requires outs { length s.now.outs ≤ 8 }
-    ensures { IfOk result (λ x. step_of x ≡ set_if_of (both ops.Eq (scratch 2) (natural_term row)) (constant (param_of s.now (row * length s.now.outs + e)))) }
-{
-    let is_row = both(alloc, Op::Eq, Term::Scratch(2), natural(row))?;
-    let entry = param(s, row as usize * s.outs.len() + e as usize);
-    Ok(set_if(is_row, Term::Constant(entry)))
-}
-
-/// Column `e` of the row whose number is in scratch 2, of a table with so many rows.
-fn push_entries(
-    alloc: Global,
-    steps: &mut Vec<Step>,
-    s: &Spec,
-    rows: u64,
-    e: u32,
-) -> Result<(), NoMemory>
-    requires rows { rows ≤ 256 }
-    requires outs { length s.now.outs ≤ 8 }
-    ensures { OnOk result (steps_of steps.new.items ≡ steps_of steps.old.items ++ row_entry s.now e 0 rows) }
-{
-    for row in 0..rows {
-        steps.push(entry(alloc, s, row, e)?)?;
-    }
-    Ok(())
-}
-
-/// The table's row that the truths of the inputs name.
-pub(crate) fn logic(alloc: Global, s: &Spec, e: u32) -> Result<Recipe, NoMemory>
-    requires ins { length s.now.ins ≤ 8 }
-    requires outs { length s.now.outs ≤ 8 }
-    ensures { IfOk result (λ r. plain_recipe r ≡ recipe_of kinds.Logic s.now e) }
-{
-    let mut steps = vec![in alloc; Step::Change(Work::Assign(2, natural(0))), set(natural(0))]?;
-    push_digits(alloc, &mut steps, inputs(s))?;
-    push_entries(alloc, &mut steps, s, power(inputs(s)), e)?;
     Ok(worked_out(steps))
 }
 

@@ -3,12 +3,13 @@ ghost use Rattle.std.specs.Prelude.{◌≡◌, ◌<◌, ◌≤◌, ◌^◌, pos,
 ghost use Rattle.sci_base.specs.Fit.{span as type_span, int_eq};
 ghost use Rattle.sci_base.specs.Lists.{spread as spread_over};
 ghost use Rattle.sci_forms.specs.Words.{param as param_of, out_type as type_of_output};
+ghost use Rattle.sci_forms.specs.Ports.{total};
 ghost use Rattle.sci_kinds.specs.Table.{mode_of as mode_by_code};
 
 use sci_base::bits::two_to;
 use sci_base::{Ints, Mode, Ty};
-use sci_forms::Spec;
 use sci_forms::values::is_equal;
+use sci_forms::{Ports, Spec};
 
 /// Parameter `k`, counted from 0.
 pub(crate) fn param(spec: &Spec, k: usize) -> i64
@@ -81,4 +82,17 @@ pub(crate) fn power(k: u32) -> u64
     ensures small { result ≤ 4294967296 }
 {
     two_to(k)
+}
+
+/// How many elements some ports have.
+#[tactic(auto, using(crate::proofs::KindParts::total_step, crate::proofs::KindParts::total_end))]
+pub(crate) fn total(ports: &Ports) -> u32
+    requires { total ports.now < 2 ^ 32 }
+    ensures { result ≡ total ports.now }
+{
+    let mut count = 0;
+    for port in 0..ports.len() {
+        count += ports.port(port).elements() as u32;
+    }
+    count
 }

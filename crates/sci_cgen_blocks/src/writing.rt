@@ -162,7 +162,7 @@ fn push_steps(
 }
 
 /// An element of the outputs becomes what a term is.
-fn assigned(alloc: Global, at: &Layout, e: u32, value: &Term) -> Result<Stmt, NoMemory>
+pub(crate) fn assigned(alloc: Global, at: &Layout, e: u32, value: &Term) -> Result<Stmt, NoMemory>
     requires { AreSpelled (term_of value.now) }
     ensures { IfOk result (λ s. statement_of s ≡ assign (cell values_name (num (pos (at.now.outs + e)))) (expression_text (plain_places at.now) (term_of value.now))) }
 {

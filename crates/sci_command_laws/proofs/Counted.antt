@@ -1,14 +1,7 @@
 -- The sum of what the banks have counted is that of all active blocks.
-use Rattle.std.proofs.Common.{◌≡◌, ◌≤◌, ℕ, suc, ◌+◌, ◌*◌, ◌==◌, ◌&&◌, List, [], ◌∷◌, length, drop, get_or, Bool, true, false, if◌then◌else◌, refl, ap, subst, arith}
-use Rattle.std.specs.Prelude.{nat_lt}
-use Rattle.std.specs.List.{sum_by}
-use Rattle.std.proofs.Math.ListN.{drop_of_length-le}
-use Rattle.std.proofs.lemmas.Bool.{and_parts, eqb-true, lt-ltb, le-ltb}
-use Rattle.std.proofs.lemmas.Bool.Decides.{nat_tests}
-use Rattle.std.proofs.lemmas.List.Sums.{sum_by-drop_more}
+use Rattle.std.proofs.Common.{◌≡◌, ◌≤◌, ℕ, suc, ◌+◌, ◌*◌, ◌==◌, List, [], ◌∷◌, length, Bool, true, false, if◌then◌else◌, arith}
 use Rattle.sci_base.specs.declared.observation.Obs.{Obs}
 use Rattle.sci_forms.specs.declared.Kind.{Kind}
-use Rattle.sci_forms.specs.declared.Kind.TheVariants.{Const, Summation, GainBlk, Product, AbsValue, Signum, MaxMin, Saturation, DeadBand, Convert, Mux, Demux, Extractor, LogicalOp, RelationalOp, Shift, BitSet, BitClear, ExtractBits, Switch2, Select, Logic, AndLog, Dollar, SampHold, Register, ModuloCount, GatedDelay, Sensor, EvtDly, EvtVarDly, IfThEl, ESelect, Halt}
 use Rattle.sci_forms.specs.declared.spec.Spec.{Spec}
 use Rattle.sci_forms.specs.Names.{number_of}
 use Rattle.sci_net.specs.Parts.{Parts}
@@ -18,55 +11,12 @@ use Rattle.sci_run.specs.Counts.{activations_from, activations_of_kind, all_acti
 use Rattle.sci_run.specs.Run.{State, first_state, Reachable}
 use Rattle.sci_run.specs.Finish.{Ending, Finish, ended, stopped, stopped_at_start}
 use Rattle.sci_run.proofs.Ranges.{fired_within, activations_within}
-use Rattle.sci_bank.specs.Bank.{Meaning, no_bank}
-use Rattle.sci_bank.specs.Library.{place_of, bank_of, IsFull, total_outs}
+use Rattle.sci_bank.specs.Bank.{Meaning}
+use Rattle.sci_bank.specs.Library.{bank_of, IsFull, total_outs}
 use Rattle.sci_sim.specs.Steps.{IsFiring, start, event}
+use Rattle.sci_sim.proofs.Totals.{together, sum_least, sum_most}
 use Rattle.sci_commands.specs.Counts.{CountsStopped}
 use Rattle.sci_command_laws.specs.Counted.{AreStoppedWithin, CountsAddUp, StoppedCountsAddUp}
-
--- ---- the kinds by number
-
-abbrev all_kinds : List Kind
-all_kinds =
-    Const ∷ Summation ∷ GainBlk ∷ Product ∷ AbsValue ∷ Signum ∷ MaxMin ∷ Saturation ∷ DeadBand ∷ Convert ∷ Mux ∷ Demux ∷ Extractor ∷ LogicalOp ∷ RelationalOp ∷ Shift ∷ BitSet ∷ BitClear ∷ ExtractBits
-    ∷ Switch2 ∷ Select ∷ Logic ∷ AndLog ∷ Dollar ∷ SampHold ∷ Register ∷ ModuloCount ∷ GatedDelay ∷ Sensor ∷ EvtDly ∷ EvtVarDly ∷ IfThEl ∷ ESelect ∷ Halt ∷ []
-
--- their numbers are these, one after the other
-abbrev are_numbered : ℕ → List Kind → Bool
-are_numbered b [] = true
-are_numbered b (k ∷ ks) = (number_of k == b) && are_numbered (b + 1) ks
-
-some_number : (k : Kind) → 1 ≤ number_of k
-some_number Const = omega arith
-some_number _ = omega arith
-
-most_number : (k : Kind) → number_of k ≤ 34
-most_number Const = omega arith
-most_number _ = omega arith
-
--- ---- sums of activations by tests
-
-parts : (p q r : Spec → Bool) → ((s : Spec) (x : ℕ) → (if p s then x else 0) ≡ (if q s then x else 0) + (if r s then x else 0)) → (b : ℕ) (ss : List Spec) (activations : ℕ → ℕ)
-    → activations_from p b ss activations ≡ activations_from q b ss activations + activations_from r b ss activations
-parts p q r one b [] activations = refl
-parts p q r one b (s ∷ ss) activations =
-    let first = one s (activations b) in
-    let rest = parts p q r one (b + 1) ss activations in
-    omega (arith, first, rest)
-
-none : (p : Spec → Bool) → ((s : Spec) → p s ≡ false) → (b : ℕ) (ss : List Spec) (activations : ℕ → ℕ) → activations_from p b ss activations ≡ 0
-none p never b [] activations = refl
-none p never b (s ∷ ss) activations =
-    let first : (if p s then activations b else 0) ≡ 0 = ap (λ (t : Bool). if t then activations b else 0) (never s) in
-    let rest = none p never (b + 1) ss activations in
-    omega (arith, first, rest)
-
-all : (p : Spec → Bool) → ((s : Spec) → p s ≡ true) → (b : ℕ) (ss : List Spec) (activations : ℕ → ℕ) → activations_from p b ss activations ≡ activations_from (λ s. true) b ss activations
-all p always b [] activations = refl
-all p always b (s ∷ ss) activations =
-    let first : (if p s then activations b else 0) ≡ activations b = ap (λ (t : Bool). if t then activations b else 0) (always s) in
-    let rest = all p always (b + 1) ss activations in
-    omega (arith, first, rest)
 
 within : (p : Spec → Bool) (b : ℕ) (ss : List Spec) (activations : ℕ → ℕ) → ((c : ℕ) → activations c ≤ 1000001) → activations_from p b ss activations ≤ 1000001 * length ss
 within p b [] activations each = omega arith
@@ -78,79 +28,6 @@ within p b (s ∷ ss) activations each =
         → (if t then activations b else 0) + activations_from p (b + 1) ss activations ≤ 1000001 * suc (length ss)
     by_test true rest = let first = each b in omega (arith, first, rest)
     by_test false rest = omega (arith, rest)
-
--- a number behind i is the next one or behind that
-behind : (i m k x : ℕ) → m ≡ i + 1 → (if nat_lt i k then x else 0) ≡ (if k == m then x else 0) + (if nat_lt (i + 1) k then x else 0)
-behind i m k x e = grind (arith, nat_tests)
-
--- of two numbers for each block together
-together : (p : Spec → Bool) (b : ℕ) (ss : List Spec) (f g : ℕ → ℕ) → activations_from p b ss (λ c. f c + g c) ≡ activations_from p b ss f + activations_from p b ss g
-together p b [] f g = refl
-together p b (s ∷ ss) f g =
-    let rest = together p (b + 1) ss f g in
-    by_test (p s) rest
-  where
-    by_test : (t : Bool) → activations_from p (b + 1) ss (λ c. f c + g c) ≡ activations_from p (b + 1) ss f + activations_from p (b + 1) ss g
-        → (if t then f b + g b else 0) + activations_from p (b + 1) ss (λ c. f c + g c)
-        ≡ ((if t then f b else 0) + activations_from p (b + 1) ss f) + ((if t then g b else 0) + activations_from p (b + 1) ss g)
-    by_test true rest = omega (arith, rest)
-    by_test false rest = omega (arith, rest)
-
--- ---- the banks from one on
-
-module _ (n : Parts) (acts : ℕ → ℕ) (banks : List Meaning) (full : IsFull banks) where
-  -- those of a kind
-  abbrev of_kind : Kind → ℕ
-  of_kind k = activations_from (λ s. number_of s.kind == number_of k) 1 n.specs acts
-
-  -- those of the kinds behind the first i
-  abbrev behind_first : ℕ → ℕ
-  behind_first i = activations_from (λ s. nat_lt i (number_of s.kind)) 1 n.specs acts
-
-  none_behind : (i : ℕ) → i ≡ 34 → behind_first i ≡ 0
-  none_behind i last = none (λ s. nat_lt i (number_of s.kind)) (λ s. le-ltb i (number_of s.kind) (let most = most_number s.kind in omega (arith, most, last))) 1 n.specs acts
-
-  split : (i : ℕ) (k : Kind) → number_of k ≡ i + 1 → behind_first i ≡ of_kind k + behind_first (i + 1)
-  split i k number =
-      parts (λ s. nat_lt i (number_of s.kind)) (λ s. number_of s.kind == number_of k) (λ s. nat_lt (i + 1) (number_of s.kind)) (λ s x. behind i (number_of k) (number_of s.kind) x number) 1 n.specs acts
-
-  all_kinds_are : behind_first 0 ≡ activations_from (λ s. true) 1 n.specs acts
-  all_kinds_are = all (λ s. nat_lt 0 (number_of s.kind)) (λ s. lt-ltb 0 (number_of s.kind) (let some = some_number s.kind in omega (arith, some))) 1 n.specs acts
-
-  least_from : ((k : Kind) → of_kind k ≤ (bank_of banks k).outs) → (i : ℕ) (ks : List Kind) → are_numbered (i + 1) ks ≡ true → i + length ks ≡ 34
-      → behind_first i ≤ sum_by (λ (b : Meaning). b.outs) (drop i banks)
-  least_from counts i [] numbered all_there = let past = none_behind i (omega (arith, all_there)) in omega (arith, past)
-  least_from counts i (k ∷ ks) numbered all_there =
-      let here = and_parts (number_of k == i + 1) (are_numbered (i + 1 + 1) ks) numbered in
-      let number : number_of k ≡ i + 1 = eqb-true (number_of k) (i + 1) here.0 in
-      let place : place_of k ≡ i = omega (arith, number) in
-      let one : of_kind k ≤ (get_or banks i no_bank).outs = subst (λ (j : ℕ). of_kind k ≤ (get_or banks j no_bank).outs) place (counts k) in
-      let rest = least_from counts (i + 1) ks here.1 (omega (arith, all_there)) in
-      let both = sum_by-drop_more (λ (b : Meaning). b.outs) banks i no_bank (omega (arith, full, all_there)) in
-      let parted = split i k number in
-      omega (arith, one, rest, both, parted)
-
-  most_from : ((k : Kind) → (bank_of banks k).outs ≤ of_kind k) → (i : ℕ) (ks : List Kind) → are_numbered (i + 1) ks ≡ true → i + length ks ≡ 34
-      → sum_by (λ (b : Meaning). b.outs) (drop i banks) ≤ behind_first i
-  most_from counts i [] numbered all_there =
-      let past : drop i banks ≡ [] = drop_of_length-le banks (omega (arith, full, all_there)) in
-      let nothing = ap (sum_by (λ (b : Meaning). b.outs)) past in
-      omega (arith, nothing)
-  most_from counts i (k ∷ ks) numbered all_there =
-      let here = and_parts (number_of k == i + 1) (are_numbered (i + 1 + 1) ks) numbered in
-      let number : number_of k ≡ i + 1 = eqb-true (number_of k) (i + 1) here.0 in
-      let place : place_of k ≡ i = omega (arith, number) in
-      let one : (get_or banks i no_bank).outs ≤ of_kind k = subst (λ (j : ℕ). (get_or banks j no_bank).outs ≤ of_kind k) place (counts k) in
-      let rest = most_from counts (i + 1) ks here.1 (omega (arith, all_there)) in
-      let both = sum_by-drop_more (λ (b : Meaning). b.outs) banks i no_bank (omega (arith, full, all_there)) in
-      let parted = split i k number in
-      omega (arith, one, rest, both, parted)
-
-  sum_least : ((k : Kind) → of_kind k ≤ (bank_of banks k).outs) → activations_from (λ s. true) 1 n.specs acts ≤ sum_by (λ (b : Meaning). b.outs) banks
-  sum_least counts = let least = least_from counts 0 all_kinds refl refl in omega (arith, least, all_kinds_are)
-
-  sum_most : ((k : Kind) → (bank_of banks k).outs ≤ of_kind k) → sum_by (λ (b : Meaning). b.outs) banks ≤ activations_from (λ s. true) 1 n.specs acts
-  sum_most counts = let most = most_from counts 0 all_kinds refl refl in omega (arith, most, all_kinds_are)
 
 -- ---- of a run that is over
 
@@ -187,7 +64,7 @@ module _ (n : Parts) (i : Columns) (until limit : ℕ) (net : IsNet n) (small : 
 
   total_within : (banks : List Meaning) → IsFull banks → (h : CountsStopped n i until limit banks) → AreStoppedWithin n h.source h.from banks
   total_within banks full h = record {
-    least = let least = sum_least n h.from.activations banks full h.least in let few = few_from h.fires in omega (arith, least, few);
+    least = let least = sum_least n h.from.activations banks full (λ k. let count = h.least k in omega (arith, count)) in let few = few_from h.fires in omega (arith, least, few);
     most = λ possible may.
         let one : ℕ → ℕ = λ b. if possible b then 1 else 0 in
         let both = λ (k : Kind). together (λ s. number_of s.kind == number_of k) 1 n.specs h.from.activations one in

@@ -6,3 +6,4 @@ pub mod Values
 pub mod Few
 pub mod Standing
 pub mod Items
+pub mod Placing

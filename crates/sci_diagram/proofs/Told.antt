@@ -1,6 +1,6 @@
 -- How a stop is handed on that wants memory only to tell a violation.
-use Rattle.std.proofs.Common.{◌≡◌, Result, Ok, Err, refl, sym, ap, ◌∙◌}
-use Rattle.sci_base.specs.Plain.{Violation, violation_of}
+use Rattle.std.proofs.Common.{◌≡◌, Result, Err, refl, sym, ap, ◌∙◌}
+use Rattle.sci_base.specs.Plain.{Violation}
 use Rattle.sci_base.specs.Outcome.{◌>>=◌}
 use Rattle.sci_base.specs.declared.stop.Stop.{Stop}
 use Rattle.sci_base.specs.declared.stop.Stop.TheVariants.{Refused, Memory}

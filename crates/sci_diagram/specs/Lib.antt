@@ -1,5 +1,6 @@
 pub mod Objects
 pub mod Tree
+pub mod Names
 pub mod Numbers
 pub mod Weight
 pub mod Telling

@@ -202,12 +202,15 @@ abbrev pub block_of : Inner → List ℕ → List ℕ → Data → Bool → Outc
 block_of inner at gui model false = read_fields (role_of gui) at model >>= λ f. Ok (block gui f)
 block_of inner at gui model true = read_fields Super at model >>= λ f. inside inner at (get (codes "rpar") model) >>= λ os. Ok (superblock gui f os)
 
+-- a block by its name and model
+abbrev pub modelled : Inner → List ℕ → List ℕ → Data → Outcome Object
+modelled inner at gui model = is_super at (field sim_name (codes "sim") model) >>= block_of inner at gui model
+
 unfoldable pub read_block : Inner → List ℕ → Data → Outcome Object
 read_block inner at d = do
   gui ← required at (pos 3) (field as_str (codes "gui") d)
   model ← required at (pos 4) (field whole_object (codes "model") d)
-  super ← is_super at (field sim_name (codes "sim") model)
-  block_of inner at gui model super
+  modelled inner at gui model
 
 abbrev pub sort_of : List ℕ → Option Sort
 sort_of s = if bytes_eq s (codes "Block") then Some Sort.Block else (if bytes_eq s (codes "Link") then Some Sort.Link else (if bytes_eq s (codes "Text") then Some Sort.Text else (if bytes_eq s (codes "Deleted") then Some Sort.Deleted else None)))

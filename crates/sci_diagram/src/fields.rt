@@ -1,70 +1,77 @@
-ghost use Rattle.std.specs.Prelude.{◌≡◌, Ok, IfOk, IfErr, string_bytes, ◌<◌, ◌^◌};
+ghost use Rattle.std.specs.Prelude.{◌≡◌, ◌≤◌, Ok, IfOk, IfErr, pos, string_bytes, ◌<◌, ◌^◌};
 ghost use Rattle.std.specs.List.{list_all};
 ghost use Rattle.serde_json.specs.Find.{as_str};
 ghost use Rattle.sci_json.specs.View.{view};
 ghost use Rattle.sci_json.specs.Field.{field, as_ints};
+ghost use Rattle.sci_diagram.specs.Names.{name_of};
 ghost use Rattle.sci_diagram.specs.Tree.{missing, wrong, too_deep, required, optional, small_list, is_small};
 ghost use Rattle.sci_base.specs.Stops.{IsViolation, Stops};
 ghost use Rattle.sci_diagram.specs.Count.{too_many};
 
+use crate::table::Fields;
 use sci_base::{Rule, Stop};
 use sci_json::FieldStop;
-use sci_json::document::Value;
 use std::alloc::Global;
 
 /// The refusal of a field that must be there.
-pub(crate) fn missing(alloc: Global, at: &[u32], code: i64) -> Stop
-    ensures { IsViolation (missing at.now code) result }
+pub(crate) fn missing(alloc: Global, at: &[u32], code: u32) -> Stop
+    ensures { IsViolation (missing at.now (pos code)) result }
 {
-    Stop::by(alloc, Rule::MissingField, at, &[code])
+    Stop::by(alloc, Rule::MissingField, at, &[i64::from(code)])
 }
 
 /// The refusal of a field that has not its form.
-pub(crate) fn wrong(alloc: Global, at: &[u32], code: i64) -> Stop
-    ensures { IsViolation (wrong at.now code) result }
+pub(crate) fn wrong(alloc: Global, at: &[u32], code: u32) -> Stop
+    ensures { IsViolation (wrong at.now (pos code)) result }
 {
-    Stop::by(alloc, Rule::WrongField, at, &[code])
+    Stop::by(alloc, Rule::WrongField, at, &[i64::from(code)])
 }
 
 #[inline(always)]
 pub(crate) fn required_text(
     alloc: Global,
-    v: &Value<'_, '_>,
-    name: &str,
-    code: i64,
+    v: &Fields<'_, '_, '_>,
+    code: u32,
     at: &[u32],
 ) -> Result<String, Stop>
+    requires first { 1 ≤ code }
+    requires last { code ≤ 21 }
     ensures ok { IfOk result
-        (λ s. required at.now code (field as_str name.now (view v.now)) ≡ Ok (string_bytes s)) }
+        (λ s. required at.now (pos code) (field as_str (name_of code) (view v.now)) ≡ Ok (string_bytes s)) }
     ensures stop { IfErr result
-        (λ e. Stops (required at.now code (field as_str name.now (view v.now))) e) }
+        (λ e. Stops (required at.now (pos code) (field as_str (name_of code) (view v.now))) e) }
 {
-    match sci_json::text(alloc, v, name) {
-        Ok(s) => Ok(s),
-        Err(FieldStop::Missing) => Err(missing(alloc, at, code)),
-        Err(FieldStop::Wrong) => Err(wrong(alloc, at, code)),
-        Err(FieldStop::Memory) => Err(Stop::Memory),
+    match v.get(code) {
+        None => Err(missing(alloc, at, code)),
+        Some(found) => match sci_json::text_of(alloc, found) {
+            Ok(s) => Ok(s),
+            Err(FieldStop::Memory) => Err(Stop::Memory),
+            Err(_) => Err(wrong(alloc, at, code)),
+        },
     }
 }
 
 #[inline(always)]
 pub(crate) fn optional_ints(
     alloc: Global,
-    v: &Value<'_, '_>,
-    name: &str,
-    code: i64,
+    v: &Fields<'_, '_, '_>,
+    code: u32,
     at: &[u32],
 ) -> Result<Vec<i64>, Stop>
+    requires first { 1 ≤ code }
+    requires last { code ≤ 21 }
     ensures ok { IfOk result
-        (λ xs. optional at.now code (field as_ints name.now (view v.now)) ≡ Ok xs.items) }
+        (λ xs. optional at.now (pos code) (field as_ints (name_of code) (view v.now)) ≡ Ok xs.items) }
     ensures stop { IfErr result
-        (λ e. Stops (optional at.now code (field as_ints name.now (view v.now))) e) }
+        (λ e. Stops (optional at.now (pos code) (field as_ints (name_of code) (view v.now))) e) }
 {
-    match sci_json::ints(alloc, v, name) {
-        Ok(xs) => Ok(xs),
-        Err(FieldStop::Missing) => Ok(Vec::new(alloc)),
-        Err(FieldStop::Wrong) => Err(wrong(alloc, at, code)),
-        Err(FieldStop::Memory) => Err(Stop::Memory),
+    match v.get(code) {
+        None => Ok(Vec::new(alloc)),
+        Some(found) => match sci_json::ints_of(alloc, found) {
+            Ok(xs) => Ok(xs),
+            Err(FieldStop::Memory) => Err(Stop::Memory),
+            Err(_) => Err(wrong(alloc, at, code)),
+        },
     }
 }
 
@@ -77,15 +84,16 @@ pub(crate) fn is_small(n: i64) -> bool
 #[inline(always)]
 pub(crate) fn small_ints(
     alloc: Global,
-    v: &Value<'_, '_>,
-    name: &str,
-    code: i64,
+    v: &Fields<'_, '_, '_>,
+    code: u32,
     at: &[u32],
 ) -> Result<Vec<i64>, Stop>
-    ensures ok { IfOk result (λ xs. small_list at.now code name.now (view v.now) ≡ Ok xs.items) }
-    ensures stop { IfErr result (λ e. Stops (small_list at.now code name.now (view v.now)) e) }
+    requires first { 1 ≤ code }
+    requires last { code ≤ 21 }
+    ensures ok { IfOk result (λ xs. small_list at.now (pos code) (name_of code) (view v.now) ≡ Ok xs.items) }
+    ensures stop { IfErr result (λ e. Stops (small_list at.now (pos code) (name_of code) (view v.now)) e) }
 {
-    let xs = optional_ints(alloc, v, name, code, at)?;
+    let xs = optional_ints(alloc, v, code, at)?;
     if !all_small(xs.as_slice()) {
         return Err(wrong(alloc, at, code));
     }

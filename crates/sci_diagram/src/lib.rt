@@ -5,6 +5,7 @@ mod counts;
 mod diagram;
 mod fields;
 mod from_bytes;
+mod keys;
 mod laws;
 mod links;
 mod model;
@@ -12,6 +13,7 @@ mod numbers;
 mod pass_through;
 mod places;
 mod sorts;
+mod table;
 mod walk;
 
 pub use counts::{count_blocks, count_links};

@@ -1,16 +1,19 @@
-ghost use Rattle.std.specs.Prelude.{◌≡◌, ◌^◌, ◌<◌, Ok, IfOk, IfErr, codes, option_map};
+ghost use Rattle.std.specs.Prelude.{◌≡◌, ◌≤◌, ◌^◌, ◌<◌, Ok, IfOk, IfErr, pos, codes, option_map};
 ghost use Rattle.serde_json.specs.Find.{get};
 ghost use Rattle.sci_base.specs.Plain.{dep_of, fields_of};
 ghost use Rattle.sci_json.specs.View.{view};
 ghost use Rattle.sci_json.specs.Field.{field, as_dep};
+ghost use Rattle.sci_diagram.specs.Names.{name_of};
 ghost use Rattle.sci_diagram.specs.Tree.{is_super_name, sim_name, is_super, list_where, inner_there, dep_at, count_of, read_fields};
 ghost use Rattle.sci_base.specs.Stops.{Stops};
 ghost use Rattle.sci_diagram.specs.Telling.{Tells};
 ghost use Rattle.sci_diagram.specs.Weight.{weight};
 
 use crate::fields::{missing, optional_ints, small_ints, wrong};
+use crate::keys;
 use crate::numbers::small_count;
 use crate::sorts::Role;
+use crate::table::Fields;
 use sci_base::{BlockFields, Dep, Stop};
 use sci_json::FieldStop;
 use sci_json::document::Value;
@@ -33,16 +36,16 @@ fn sim_name<'a>(v: &Value<'_, 'a>) -> Option<&'a str>
 
 /// Whether the block is a superblock.
 #[tactic(auto, using(crate::proofs::Told::tells_violation))]
-pub(crate) fn is_super(alloc: Global, model: &Value<'_, '_>, at: &[u32]) -> Result<bool, Stop>
+pub(crate) fn is_super(alloc: Global, model: &Fields<'_, '_, '_>, at: &[u32]) -> Result<bool, Stop>
     ensures ok { IfOk result
         (λ b. is_super at.now (field sim_name (codes "sim") (view model.now)) ≡ Ok b) }
     ensures stop { IfErr result
         (λ e. Tells (is_super at.now (field sim_name (codes "sim") (view model.now))) e) }
 {
-    match model.get("sim") {
+    match model.get(keys::SIM) {
         None => Ok(false),
-        Some(found) => match sim_name(&found) {
-            None => Err(wrong(alloc, at, 5)),
+        Some(found) => match sim_name(found) {
+            None => Err(wrong(alloc, at, keys::SIM)),
             Some(name) => Ok(is_super_name(name)),
         },
     }
@@ -52,18 +55,19 @@ pub(crate) fn is_super(alloc: Global, model: &Value<'_, '_>, at: &[u32]) -> Resu
 fn ints_where(
     alloc: Global,
     looked_at: bool,
-    v: &Value<'_, '_>,
-    name: &str,
-    code: i64,
+    v: &Fields<'_, '_, '_>,
+    code: u32,
     at: &[u32],
 ) -> Result<Vec<i64>, Stop>
+    requires first { 1 ≤ code }
+    requires last { code ≤ 21 }
     ensures ok { IfOk result
-        (λ xs. list_where looked_at at.now code name.now (view v.now) ≡ Ok xs.items) }
+        (λ xs. list_where looked_at at.now (pos code) (name_of code) (view v.now) ≡ Ok xs.items) }
     ensures stop { IfErr result
-        (λ e. Stops (list_where looked_at at.now code name.now (view v.now)) e) }
+        (λ e. Stops (list_where looked_at at.now (pos code) (name_of code) (view v.now)) e) }
 {
     if looked_at {
-        optional_ints(alloc, v, name, code, at)
+        optional_ints(alloc, v, code, at)
     } else {
         Ok(Vec::new(alloc))
     }
@@ -71,13 +75,18 @@ fn ints_where(
 
 #[inline(always)]
 #[tactic(auto, using(crate::proofs::Told::tells_violation))]
-fn inner_there(alloc: Global, role: Role, model: &Value<'_, '_>, at: &[u32]) -> Result<(), Stop>
+fn inner_there(
+    alloc: Global,
+    role: Role,
+    model: &Fields<'_, '_, '_>,
+    at: &[u32],
+) -> Result<(), Stop>
     ensures ok { IfOk result (λ u. inner_there role at.now (view model.now) ≡ Ok u) }
     ensures stop { IfErr result (λ e. Tells (inner_there role at.now (view model.now)) e) }
 {
     match role {
-        Role::Super => match model.get("rpar") {
-            None => Err(missing(alloc, at, 15)),
+        Role::Super => match model.get(keys::RPAR) {
+            None => Err(missing(alloc, at, keys::RPAR)),
             Some(_) => Ok(()),
         },
         _ => Ok(()),
@@ -85,29 +94,34 @@ fn inner_there(alloc: Global, role: Role, model: &Value<'_, '_>, at: &[u32]) -> 
 }
 
 #[inline(always)]
-fn dep_ut(alloc: Global, model: &Value<'_, '_>, at: &[u32]) -> Result<Option<Dep>, Stop>
+fn dep_ut(alloc: Global, model: &Fields<'_, '_, '_>, at: &[u32]) -> Result<Option<Dep>, Stop>
     ensures ok { IfOk result
         (λ o. dep_at at.now (field as_dep (codes "dep_ut") (view model.now)) ≡ Ok (dep_of o)) }
     ensures stop { IfErr result
         (λ e. Stops (dep_at at.now (field as_dep (codes "dep_ut") (view model.now))) e) }
 {
-    match sci_json::dep(alloc, model, "dep_ut") {
-        Ok(dep) => Ok(dep),
-        Err(FieldStop::Memory) => Err(Stop::Memory),
-        Err(_) => Err(wrong(alloc, at, 18)),
+    match model.get(keys::DEP_UT) {
+        None => Ok(None),
+        Some(found) => match sci_json::dep_of(alloc, found) {
+            Ok(dep) => Ok(Some(dep)),
+            Err(FieldStop::Memory) => Err(Stop::Memory),
+            Err(_) => Err(wrong(alloc, at, keys::DEP_UT)),
+        },
     }
 }
 
 #[inline(always)]
 #[tactic(auto, using(crate::proofs::Told::tells_violation))]
-fn count(alloc: Global, v: &Value<'_, '_>, name: &str, code: i64, at: &[u32]) -> Result<u32, Stop>
+fn count(alloc: Global, v: &Fields<'_, '_, '_>, code: u32, at: &[u32]) -> Result<u32, Stop>
+    requires first { 1 ≤ code }
+    requires last { code ≤ 21 }
     requires light { weight (view v.now) < 2 ^ 32 }
-    ensures ok { IfOk result (λ n. count_of at.now code name.now (view v.now) ≡ Ok n) }
-    ensures stop { IfErr result (λ e. Tells (count_of at.now code name.now (view v.now)) e) }
+    ensures ok { IfOk result (λ n. count_of at.now (pos code) (name_of code) (view v.now) ≡ Ok n) }
+    ensures stop { IfErr result (λ e. Tells (count_of at.now (pos code) (name_of code) (view v.now)) e) }
 {
-    match v.get(name) {
+    match v.get(code) {
         None => Ok(0),
-        Some(found) => match small_count(&found) {
+        Some(found) => match small_count(found) {
             None => Err(wrong(alloc, at, code)),
             Some(n) => Ok(n),
         },
@@ -119,7 +133,7 @@ fn count(alloc: Global, v: &Value<'_, '_>, name: &str, code: i64, at: &[u32]) ->
 pub(crate) fn read_fields(
     alloc: Global,
     role: Role,
-    model: &Value<'_, '_>,
+    model: &Fields<'_, '_, '_>,
     at: &[u32],
 ) -> Result<BlockFields, Stop>
     requires light { weight (view model.now) < 2 ^ 32 }
@@ -127,18 +141,18 @@ pub(crate) fn read_fields(
         (λ f. read_fields role at.now (view model.now) ≡ Ok (fields_of f)) }
     ensures stop { IfErr result (λ e. Stops (read_fields role at.now (view model.now)) e) }
 {
-    let ins = small_ints(alloc, model, "in", 6, at)?;
-    let in2 = small_ints(alloc, model, "in2", 7, at)?;
-    let intyp = small_ints(alloc, model, "intyp", 8, at)?;
-    let outs = small_ints(alloc, model, "out", 9, at)?;
-    let out2 = small_ints(alloc, model, "out2", 10, at)?;
-    let outtyp = small_ints(alloc, model, "outtyp", 11, at)?;
-    let evtin = count(alloc, model, "evtin", 12, at)?;
-    let evtout = count(alloc, model, "evtout", 13, at)?;
-    let dstate = ints_where(alloc, role.keeps_state(), model, "dstate", 14, at)?;
+    let ins = small_ints(alloc, model, keys::IN, at)?;
+    let in2 = small_ints(alloc, model, keys::IN2, at)?;
+    let intyp = small_ints(alloc, model, keys::INTYP, at)?;
+    let outs = small_ints(alloc, model, keys::OUT, at)?;
+    let out2 = small_ints(alloc, model, keys::OUT2, at)?;
+    let outtyp = small_ints(alloc, model, keys::OUTTYP, at)?;
+    let evtin = count(alloc, model, keys::EVTIN, at)?;
+    let evtout = count(alloc, model, keys::EVTOUT, at)?;
+    let dstate = ints_where(alloc, role.keeps_state(), model, keys::DSTATE, at)?;
     inner_there(alloc, role, model, at)?;
-    let ipar = ints_where(alloc, role.keeps_ipar(), model, "ipar", 16, at)?;
-    let firing = ints_where(alloc, role.keeps_state(), model, "firing", 17, at)?;
+    let ipar = ints_where(alloc, role.keeps_ipar(), model, keys::IPAR, at)?;
+    let firing = ints_where(alloc, role.keeps_state(), model, keys::FIRING, at)?;
     let dep = dep_ut(alloc, model, at)?;
     Ok(BlockFields {
         ins,

@@ -4,7 +4,9 @@ ghost use Rattle.sci_json.specs.View.{view};
 ghost use Rattle.sci_diagram.specs.Telling.{Tells};
 ghost use Rattle.sci_diagram.specs.Tree.{sort_of, as_sort, read_sort};
 
-use crate::fields::{missing, required_text, wrong};
+use crate::fields::{missing, wrong};
+use crate::keys;
+use crate::table::Fields;
 use sci_base::Stop;
 use sci_json::document::Value;
 use std::alloc::Global;
@@ -82,17 +84,17 @@ fn as_sort(v: &Value<'_, '_>) -> Option<Sort>
 }
 
 #[tactic(auto, using(crate::proofs::Told::tells_violation), unfolding(crate::specs::Tree::read_sort))]
-pub(crate) fn read_sort(alloc: Global, v: &Value<'_, '_>, at: &[u32]) -> Result<Sort, Stop>
+pub(crate) fn read_sort(alloc: Global, v: &Fields<'_, '_, '_>, at: &[u32]) -> Result<Sort, Stop>
     ensures ok { IfOk result (λ s. read_sort at.now (view v.now) ≡ Ok s) }
     ensures stop { IfErr result (λ e. Tells (read_sort at.now (view v.now)) e) }
 {
     if !v.is_object() {
-        return Err(wrong(alloc, at, 2));
+        return Err(wrong(alloc, at, keys::OBJ));
     }
-    match v.get("obj") {
-        None => Err(missing(alloc, at, 2)),
-        Some(found) => match as_sort(&found) {
-            None => Err(wrong(alloc, at, 2)),
+    match v.get(keys::OBJ) {
+        None => Err(missing(alloc, at, keys::OBJ)),
+        Some(found) => match as_sort(found) {
+            None => Err(wrong(alloc, at, keys::OBJ)),
             Some(sort) => Ok(sort),
         },
     }

@@ -1,18 +1,20 @@
-ghost use Rattle.std.specs.Prelude.{◌≡◌, ◌^◌, ◌<◌, ◌≤◌, Ok, IfOk, IfErr, pos, codes, map, Some, None, if◌then◌else◌};
+ghost use Rattle.std.specs.Prelude.{◌≡◌, ◌^◌, ◌<◌, ◌≤◌, Ok, IfOk, IfErr, pos, codes, map, Some, None, string_bytes, if◌then◌else◌};
 ghost use Rattle.sci_json.specs.View.{view, items_view};
 ghost use Rattle.sci_json.specs.Field.{field};
 ghost use Rattle.sci_diagram.specs.Objects.{objects_of, object_view, block_view, diagram_view};
-ghost use Rattle.sci_diagram.specs.Tree.{required, whole_object, read_block, read_object, walk, list_of, diagram_at};
+ghost use Rattle.sci_diagram.specs.Tree.{modelled, required, whole_object, read_block, read_object, walk, list_of, diagram_at};
 ghost use Rattle.sci_base.specs.Stops.{Stops};
 ghost use Rattle.sci_diagram.specs.Telling.{Tells};
 ghost use Rattle.sci_diagram.specs.Weight.{weight, items_weight};
 
 use crate::diagram::{BlockObj, Diagram, Obj};
 use crate::fields::{missing, required_text, too_deep, wrong};
+use crate::keys;
 use crate::links::read_link;
 use crate::model::{is_super, read_fields};
 use crate::places::child;
 use crate::sorts::{Role, Sort, read_sort};
+use crate::table::{Fields, look_up, nothing};
 use sci_base::Stop;
 use sci_json::FieldStop;
 use sci_json::document::{Items, Value};
@@ -66,8 +68,23 @@ fn read_objs(
 
 /// One object.
 #[cycle(walk)]
-#[tactic(auto, using(sci_base::proofs::Stopping::stops_then, crate::proofs::Told::told_then), unfolding(crate::specs::Tree::read_object))]
 fn read_obj(alloc: Global, v: &Value<'_, '_>, at: &[u32], left: u32) -> Result<Obj, Stop>
+    requires light { weight (view v.now) < 2 ^ 32 }
+    requires levels { left ≤ 16 }
+    ensures ok { IfOk result
+        (λ o. read_object (diagram_at left) at.now (view v.now) ≡ Ok (object_view o)) }
+    ensures stop { IfErr result
+        (λ e. Stops (read_object (diagram_at left) at.now (view v.now)) e) }
+{
+    let mut found = nothing();
+    look_up(v, &mut found);
+    obj_of(alloc, &Fields::of(&*v, &found), at, left)
+}
+
+/// An object by its fields.
+#[cycle(walk)]
+#[tactic(auto, using(sci_base::proofs::Stopping::stops_then, crate::proofs::Told::told_then), unfolding(crate::specs::Tree::read_object))]
+fn obj_of(alloc: Global, v: &Fields<'_, '_, '_>, at: &[u32], left: u32) -> Result<Obj, Stop>
     requires light { weight (view v.now) < 2 ^ 32 }
     requires levels { left ≤ 16 }
     ensures ok { IfOk result
@@ -86,7 +103,12 @@ fn read_obj(alloc: Global, v: &Value<'_, '_>, at: &[u32], left: u32) -> Result<O
 /// A block, with what is inside a superblock.
 #[cycle(walk)]
 #[tactic(auto, using(sci_base::proofs::Stopping::stops_then, crate::proofs::Told::told_then), unfolding(crate::specs::Tree::read_block))]
-fn read_block(alloc: Global, v: &Value<'_, '_>, at: &[u32], left: u32) -> Result<BlockObj, Stop>
+fn read_block(
+    alloc: Global,
+    v: &Fields<'_, '_, '_>,
+    at: &[u32],
+    left: u32,
+) -> Result<BlockObj, Stop>
     requires light { weight (view v.now) < 2 ^ 32 }
     requires levels { left ≤ 16 }
     ensures ok { IfOk result
@@ -94,21 +116,43 @@ fn read_block(alloc: Global, v: &Value<'_, '_>, at: &[u32], left: u32) -> Result
     ensures stop { IfErr result
         (λ e. Stops (read_block (diagram_at left) at.now (view v.now)) e) }
 {
-    let gui = required_text(alloc, v, "gui", 3, at)?;
-    let model = model_of(alloc, v, at)?;
-    if is_super(alloc, &model, at)? {
-        let fields = read_fields(alloc, Role::Super, &model, at)?;
-        let Some(rpar) = model.get("rpar") else {
-            return Err(missing(alloc, at, 15));
+    let gui = required_text(alloc, v, keys::GUI, at)?;
+    let value = model_of(alloc, v, at)?;
+    let mut found = nothing();
+    look_up(value, &mut found);
+    block_of(alloc, gui, &Fields::of(&*value, &found), at, left)
+}
+
+/// A block of this name by the fields of its model.
+#[cycle(walk)]
+#[tactic(auto, using(sci_base::proofs::Stopping::stops_then, crate::proofs::Told::told_then))]
+fn block_of(
+    alloc: Global,
+    gui: String,
+    model: &Fields<'_, '_, '_>,
+    at: &[u32],
+    left: u32,
+) -> Result<BlockObj, Stop>
+    requires light { weight (view model.now) < 2 ^ 32 }
+    requires levels { left ≤ 16 }
+    ensures ok { IfOk result
+        (λ b. modelled (diagram_at left) at.now (string_bytes gui) (view model.now) ≡ Ok (block_view b)) }
+    ensures stop { IfErr result
+        (λ e. Stops (modelled (diagram_at left) at.now (string_bytes gui) (view model.now)) e) }
+{
+    if is_super(alloc, model, at)? {
+        let fields = read_fields(alloc, Role::Super, model, at)?;
+        let Some(rpar) = model.get(keys::RPAR) else {
+            return Err(missing(alloc, at, keys::RPAR));
         };
-        let inner = Box::new(alloc, read_diagram(alloc, &rpar, at, left)?)?;
+        let inner = Box::new(alloc, read_diagram(alloc, rpar, at, left)?)?;
         Ok(BlockObj {
             gui,
             fields,
             inner: Some(inner),
         })
     } else {
-        let fields = read_fields(alloc, Role::of(gui.as_str()), &model, at)?;
+        let fields = read_fields(alloc, Role::of(gui.as_str()), model, at)?;
         Ok(BlockObj {
             gui,
             fields,
@@ -123,29 +167,33 @@ fn list_of<'t, 'a>(alloc: Global, v: &Value<'t, 'a>, at: &[u32]) -> Result<Items
     ensures stop { IfErr result (λ e. Tells (list_of at.now (view v.now)) e) }
 {
     if !v.is_object() {
-        return Err(wrong(alloc, at, 1));
+        return Err(wrong(alloc, at, keys::OBJS));
     }
     match sci_json::list(v, "objs") {
         Ok(items) => Ok(items),
-        Err(FieldStop::Missing) => Err(missing(alloc, at, 1)),
-        Err(FieldStop::Wrong) => Err(wrong(alloc, at, 1)),
+        Err(FieldStop::Missing) => Err(missing(alloc, at, keys::OBJS)),
+        Err(FieldStop::Wrong) => Err(wrong(alloc, at, keys::OBJS)),
         Err(FieldStop::Memory) => Err(Stop::Memory),
     }
 }
 
 #[tactic(auto, using(crate::proofs::Told::tells_violation))]
-fn model_of<'t, 'a>(alloc: Global, v: &Value<'t, 'a>, at: &[u32]) -> Result<Value<'t, 'a>, Stop>
+fn model_of<'v, 't, 'a>(
+    alloc: Global,
+    v: &Fields<'v, 't, 'a>,
+    at: &[u32],
+) -> Result<&'v Value<'t, 'a>, Stop>
     ensures ok { IfOk result
-        (λ m. required at.now (pos 4) (field whole_object (codes "model") (view v.now)) ≡ Ok (view m)) }
+        (λ m. required at.now (pos 4) (field whole_object (codes "model") (view v.now)) ≡ Ok (view m.now)) }
     ensures stop { IfErr result
         (λ e. Tells (required at.now (pos 4) (field whole_object (codes "model") (view v.now))) e) }
 {
-    match v.get("model") {
-        None => Err(missing(alloc, at, 4)),
-        Some(found) => if is_object(&found) {
+    match v.get(keys::MODEL) {
+        None => Err(missing(alloc, at, keys::MODEL)),
+        Some(found) => if is_object(found) {
             Ok(found)
         } else {
-            Err(wrong(alloc, at, 4))
+            Err(wrong(alloc, at, keys::MODEL))
         },
     }
 }

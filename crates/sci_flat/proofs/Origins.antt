@@ -9,7 +9,7 @@ use Rattle.sci_flat.specs.declared.reach.origins.Before.TheVariants.{Nothing, On
 use Rattle.sci_flat.specs.Chain.{Step, Chain, stay, onward, AllWithin}
 use Rattle.sci_flat.specs.Lists.{list_at}
 use Rattle.sci_flat.specs.Successors.{from_at, to_at}
-use Rattle.sci_flat.specs.Origins.{stepped, before, above, AreBefores, AreAbove, AreRooted, AreAlike, AreOrigins, Climb, here, up, shared}
+use Rattle.sci_flat.specs.Origins.{stepped, before, above, AreBefores, AreAbove, AreRooted, AreSettled, AreAlike, AreOrigins, Climb, here, up, shared}
 use Rattle.sci_flat.proofs.ReachFilling.{Steps, from_within, step_at, place_of}
 
 -- ---- one step after another
@@ -128,26 +128,54 @@ module _ (es : Steps) (sources : List ℕ) where
       let more = o.alike m low.0 in
       (o.within m low.0, λ s has. (λ x. (more s has).0 ((low.1 s has).0 x), λ x. (low.1 s has).1 ((more s has).1 x)))
 
-  pub origins_set : (ports : ℕ) (os new : List ℕ) (q r : ℕ) → AreOrigins es sources ports os → q < ports → Climb os q r → new ≡ set os q r → AreOrigins es sources ports new
-  origins_set ports os new q r o l c e =
-      let to = climb_alike ports os q r o l c in
-      rw e (record {
-        long = length-set os q r ∙ o.long;
-        within = λ p h. elim (eqb_tells p q) [
-          | inl t ↦ subst (λ (x : ℕ). x < ports) (sym (ap (λ (x : ℕ). get_or (set os q r) x 0) t.1 ∙ get_or-set_same os q r 0 (omega (arith, l, o.long)))) to.0
-          | inr t ↦ subst (λ (x : ℕ). x < ports) (sym (get_or-set_other os q p r 0 t.1)) (o.within p h)
+  alike_both : (q p r : ℕ) → AreAlike es sources q p → AreAlike es sources q r → AreAlike es sources p r
+  alike_both q p r a b = λ s has. (λ x. (b s has).0 ((a s has).1 x), λ x. (a s has).0 ((b s has).1 x))
+
+  pub settled_origins : (ports : ℕ) (old new : List ℕ) (q r : ℕ) → AreOrigins es sources ports old → q < ports → Climb old q r → AreSettled q r old new → AreOrigins es sources ports new
+  settled_origins ports old new q r o l c s =
+      let to = climb_alike ports old q r o l c in
+      record {
+        long = s.long ∙ o.long;
+        within = λ p h. elim (s.each p (omega (arith, h, o.long))) [
+          | inl e ↦ subst (λ (x : ℕ). x < ports) (sym e) (o.within p h)
+          | inr t ↦ subst (λ (x : ℕ). x < ports) (sym t.0) to.0
         ];
-        alike = λ p h. elim (eqb_tells p q) [
-          | inl t ↦ subst (AreAlike es sources p) (sym (ap (λ (x : ℕ). get_or (set os q r) x 0) t.1 ∙ get_or-set_same os q r 0 (omega (arith, l, o.long)))) (subst (λ (x : ℕ). AreAlike es sources x r) (sym t.1) to.1)
-          | inr t ↦ subst (AreAlike es sources p) (sym (get_or-set_other os q p r 0 t.1)) (o.alike p h)
+        alike = λ p h. elim (s.each p (omega (arith, h, o.long))) [
+          | inl e ↦ subst (AreAlike es sources p) (sym e) (o.alike p h)
+          | inr t ↦ subst (AreAlike es sources p) (sym t.0) (alike_both q p r (climb_alike ports old q p o l t.1).1 to.1)
         ];
-      })
+      }
 
   pub origins_below : (ports : ℕ) (os : List ℕ) → AreOrigins es sources ports os → All (λ p. p < length os) os
   origins_below ports os o k d l =
       let low = o.within k (omega (arith, l, o.long)) in
       let P : ℕ → Type 0 = λ x. x < length os in
       subst P (get_or_default os k 0 d l) (omega (arith, low, o.long))
+
+-- ---- the way to an origin
+
+pub climb_inside : (os : List ℕ) (q r : ℕ) → All (λ p. p < length os) os → q < length os → Climb os q r → r < length os
+climb_inside os q r w l here = l
+climb_inside os q r w l (up {r = m} c) = w m 0 (climb_inside os q m w l c)
+
+pub settled_none : (q r : ℕ) (os : List ℕ) → AreSettled q r os os
+settled_none q r os = record { long = refl; each = λ p l. inl refl }
+
+pub settled_more : (q r at : ℕ) (old now new : List ℕ) → at < length old → Climb old q at → new ≡ set now at r → AreSettled q r old now → AreSettled q r old new
+settled_more q r at old now new l c e s = rw e (record {
+  long = length-set now at r ∙ s.long;
+  each = λ p h. elim (eqb_tells p at) [
+    | inl t ↦ inr (ap (λ (x : ℕ). get_or (set now at r) x 0) t.1 ∙ get_or-set_same now at r 0 (omega (arith, l, s.long)), subst (Climb old q) (sym t.1) c)
+    | inr t ↦ elim (s.each p h) [
+      | inl g ↦ inl (get_or-set_other now at p r 0 t.1 ∙ g)
+      | inr g ↦ inr (get_or-set_other now at p r 0 t.1 ∙ g.0, g.1)
+    ]
+  ];
+})
+
+-- what is read on the way is on the way, or is its end
+pub settled_next : (q r at : ℕ) (old now : List ℕ) → at < length old → Climb old q at → Climb old q r → AreSettled q r old now → Climb old q (get_or now at 0)
+settled_next q r at old now l c to s = elim (s.each at l) [ inl e ↦ subst (Climb old q) (sym e) (up c) | inr t ↦ subst (Climb old q) (sym t.0) to ]
 
 -- ---- sources
 

@@ -52,6 +52,11 @@ pub data Climb (origins : List ℕ) (q : ℕ) : ℕ → Type 0 where
   here : Climb origins q q
   up : {r : ℕ} → Climb origins q r → Climb origins q (slice_index origins r)
 
+-- each is as before, or is this origin and stands where a climb from q leads
+pub record AreSettled (q origin : ℕ) (old new : List ℕ) : Type 0 where
+  pub long : length new ≡ length old
+  pub each : (p : ℕ) → p < length old → (slice_index new p ≡ slice_index old p) ⊎ ((slice_index new p ≡ origin) × Climb old q p)
+
 -- the list of each port is that of its origin
 abbrev pub shared : List (List ℕ) → List ℕ → List (List ℕ)
 shared lists origins = map (list_at lists) origins

@@ -1,5 +1,5 @@
 -- Looking into the data of a JSON value is looking into the value.
-use Rattle.std.proofs.Common.{◌≡◌, ℕ, suc, ◌≤◌, max, List, Bool, true, false, cond, Option, Some, None, is_some, option_map, option_and_then, MatchOption, bytes_eq, true≢false, refl, sym, ap, ◌∙◌, subst, arith}
+use Rattle.std.proofs.Common.{◌≡◌, ℕ, suc, ◌≤◌, max, List, Bool, true, false, cond, [], ◌∷◌, Option, Some, None, is_some, option_map, option_and_then, MatchOption, bytes_eq, true≢false, refl, sym, ap, ◌∙◌, subst, arith}
 use Rattle.std.proofs.lemmas.Slice.Eq.{bytes_eq-Decides}
 use Rattle.std.specs.Prelude.{IsSome, IfSome, IfNone, unwrap_or}
 use Rattle.json.specs.Token.{Token}
@@ -13,8 +13,8 @@ use Rattle.serde_json.specs.Data.{Data, null, number, array, object, no_items, i
 use Rattle.serde_json.specs.Find.{get, get_member, as_str, as_number, as_bool, as_array, as_object}
 use Rattle.serde_json.specs.Read.{number_of, of_json, of_items, of_members, max_depth}
 use Rattle.serde_json.proofs.Views.{get_member-put, get_member-put_other}
-use Rattle.sci_json.specs.View.{data_of, view, items_of, items_view, NextItem}
-use Rattle.sci_json.proofs.Standing.{then_some, map_some, some_or, standing, view_is, reading, items_standing, items_view_is, items_reading}
+use Rattle.sci_json.specs.View.{data_of, view, items_of, items_view, NextItem, Named, in_order, members_of, members_view, NextMember, put_all}
+use Rattle.sci_json.proofs.Standing.{then_some, map_some, some_or, standing, view_is, reading, items_standing, items_view_is, items_reading, members_standing, members_view_is, members_reading}
 
 -- ---- one value
 
@@ -184,3 +184,55 @@ item_found old h (Some ts) new next stays =
     let here = standing ts f.0 first.0 f.3 (omega (arith, r.2)) first.1 in
     let more = items_standing new f.1 rest.0 f.4 (omega (arith, r.2)) rest.1 in
     (ap is_some more, ap is_some here, subst (λ ds. NextItem ds (Some (view ts)) (items_view new)) rest.2 (ap Some (view_is ts _ here), items_view_is new _ more))
+
+-- ---- the members one after another
+
+first_then : (k : List ℕ) (d : Data) (fields : Members) (o : Option (List Named)) → option_map (λ ds. put_all ds (put k d fields)) o ≡ option_map (λ ds. put_all ds fields) (option_map (λ rest. (k, d) ∷ rest) o)
+first_then k d fields None = refl
+first_then k d fields (Some ds) = refl
+
+put_first : (k : List ℕ) (ms : json.Members) (fields : Members) → ((fs : Members) → of_members ms fs ≡ option_map (λ ds. put_all ds fs) (in_order ms)) → (o : Option Data)
+    → option_and_then (λ d. of_members ms (put k d fields)) o ≡ option_map (λ ds. put_all ds fields) (option_and_then (λ d. option_map (λ rest. (k, d) ∷ rest) (in_order ms)) o)
+put_first k ms fields again None = refl
+put_first k ms fields again (Some d) = again (put k d fields) ∙ first_then k d fields (in_order ms)
+
+-- to put the members in as they are read is to put them in when all are read
+put_in_order : (ms : json.Members) (fields : Members) → of_members ms fields ≡ option_map (λ ds. put_all ds fields) (in_order ms)
+put_in_order json.no_members fields = refl
+put_in_order (json.member k j ms) fields = put_first k ms fields (put_in_order ms) (of_json j)
+
+-- the members, and where they stand
+pub members_found : (ts : List Token) → IsSome (data_of ts) → (o : Option (List Token))
+    → ((j : Json) → BeginsWith ts j → MatchOption o (find.as_object j ≡ None) (λ rest. (ms : json.Members) × (j ≡ json.object ms) × InMembers rest ms))
+    → MatchOption o (None ≡ as_object (view ts)) (λ rest. IsSome (members_of rest) × (Some (put_all (members_view rest) no_members) ≡ as_object (view ts)))
+members_found ts h None found =
+    let r = reading ts h in
+    ap (option_and_then (λ ms. of_members ms no_members)) (sym (found r.0 r.1)) ∙ fields_of r.0 ∙ ap (option_and_then as_object) r.3
+members_found ts h (Some rest) found =
+    let r = reading ts h in
+    let f = found r.0 r.1 in
+    let whole : of_json (json.object f.0) ≡ Some (view ts) = ap of_json (sym f.1) ∙ r.3 in
+    let fields = map_some object (of_members f.0 no_members) (view ts) whole in
+    let ds = map_some (λ ds. put_all ds no_members) (in_order f.0) fields.0 (sym (put_in_order f.0 no_members) ∙ fields.1) in
+    let low : members_depth f.0 ≤ max_depth = let deep : depth r.0 ≡ suc (members_depth f.0) = ap depth f.1 in omega (arith, r.2) in
+    let read = members_standing rest f.0 ds.0 f.2 low ds.1 in
+    (ap is_some read, ap (λ l. Some (put_all l no_members)) (members_view_is rest ds.0 read) ∙ ap Some ds.2 ∙ ap as_object fields.2)
+
+-- ---- the next member
+
+pub member_found : {S : Type 0} (r : Option (S × List Token)) (name : S → List ℕ) (old : List Token) → IsSome (members_of old) → (new : List Token) → find.NextMember old (option_map (λ m. (name m.0, m.1)) r) new → IfNone r (new ≡ old)
+    → IsSome (members_of new) × IfSome r (λ m. IsSome (data_of m.1)) × NextMember (members_view old) (option_map (λ m. (name m.0, view m.1)) r) (members_view new)
+member_found None name old h new next stays =
+    let r = members_reading old h in
+    let over : members_view old ≡ [] = Some_inj _ _ (sym r.3 ∙ ap in_order (next r.0 r.1)) in
+    (subst (λ ts. IsSome (members_of ts)) (sym stays) h, tt, rw (stays, over) (refl, refl))
+member_found (Some (s, ts)) name old h new next stays =
+    let r = members_reading old h in
+    let f = next r.0 r.1 in
+    let all : in_order (json.member (name s) f.0 f.1) ≡ Some (members_view old) = ap in_order (sym f.2) ∙ r.3 in
+    let first = then_some (λ d. option_map (λ rest. (name s, d) ∷ rest) (in_order f.1)) (of_json f.0) (members_view old) all in
+    let rest = map_some (λ rest. (name s, first.0) ∷ rest) (in_order f.1) (members_view old) first.2 in
+    let deep : members_depth r.0 ≡ max (depth f.0) (members_depth f.1) = ap members_depth f.2 in
+    let here = standing ts f.0 first.0 f.3 (omega (arith, r.2)) first.1 in
+    let more = members_standing new f.1 rest.0 f.4 (omega (arith, r.2)) rest.1 in
+    (ap is_some more, ap is_some here, subst (λ ds. NextMember ds (Some (name s, view ts)) (members_view new)) rest.2 (ap (λ d. Some (name s, d)) (view_is ts _ here), members_view_is new _ more))

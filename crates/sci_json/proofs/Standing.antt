@@ -1,19 +1,19 @@
 -- A value that stands somewhere in a text, read at the depth that a whole text may have.
-use Rattle.std.proofs.Common.{◌≡◌, ℕ, suc, ◌≤◌, List, ◌∷◌, ◌++◌, length, Option, Some, None, option_map, option_and_then, refl, sym, ap, ◌∙◌, subst, arith, append_assoc}
+use Rattle.std.proofs.Common.{◌≡◌, ℕ, suc, ◌≤◌, List, [], ◌∷◌, ◌++◌, length, Option, Some, None, option_map, option_and_then, refl, sym, ap, ◌∙◌, subst, arith, append_assoc}
 use Rattle.std.specs.Prelude.{IsSome, unwrap_or}
 use Rattle.json.specs.Token.{Token}
 use Rattle.json.specs.Json as json
-use Rattle.json.specs.Json.{Json, after_end_array, parse_map}
-use Rattle.json.specs.Find.{BeginsWith, InItems}
-use Rattle.json.specs.Tree.{json_tokens, items_tokens, depth, items_depth}
-use Rattle.json.proofs.Grammar.{closed_array}
+use Rattle.json.specs.Json.{Json, after_end_array, read_key, parse_map}
+use Rattle.json.specs.Find.{BeginsWith, InItems, InMembers}
+use Rattle.json.specs.Tree.{json_tokens, items_tokens, members_tokens, depth, items_depth, members_depth}
+use Rattle.json.proofs.Grammar.{closed_array, read_key_is, members_no_key}
 use Rattle.json.proofs.Nesting.{value-depth}
-use Rattle.json.proofs.Found.{Some_inj, items_close, items_go_on}
+use Rattle.json.proofs.Found.{not_found, Some_inj, items_close, items_go_on, members_close, members_go_on}
 use Rattle.json.proofs.Printed.Trees.{value-json_tokens}
 use Rattle.json.proofs.Unique.Spelling.{value-json_tokens_back}
 use Rattle.serde_json.specs.Data.{Data, null, Items, no_items}
 use Rattle.serde_json.specs.Read.{of_json, of_items, max_depth}
-use Rattle.sci_json.specs.View.{data_of, view, items_of, items_view}
+use Rattle.sci_json.specs.View.{data_of, view, items_of, items_view, Named, in_order, members_of, members_view}
 
 -- ---- what may be absent
 
@@ -110,3 +110,80 @@ items_reading ts h =
 pub items_view_is : (ts : List Token) (ds : Items) → items_of ts ≡ Some ds → items_view ts ≡ ds
 unfolding items_view
 items_view_is ts ds e = ap (λ o. unwrap_or o no_items) e
+
+-- ---- the members of an object
+
+abbrev SpelledMembers : List Token → json.Members → Type 0
+SpelledMembers ts ms = (r : List Token) × (ts ≡ members_tokens ms ++ r)
+
+unkeyed : (ts : List Token) (ms : json.Members) → read_key ts ≡ None → InMembers ts ms → ⊥
+unkeyed ts ms e (d, n, r, is) = not_found (ms, r) (sym (members_no_key (json.value d) n ts e) ∙ is)
+
+at_end : (r : List Token) (ms : json.Members) → InMembers (Token.end_object ∷ r) ms → ms ≡ json.no_members
+at_end r ms h = members_close Token.end_object r ms (λ k. k) h
+
+no_member : (ts : List Token) (o : Option (Option (List ℕ) × List Token)) → read_key ts ≡ o → InMembers ts json.no_members → SpelledMembers ts json.no_members
+no_member ts None e h = absurd (unkeyed ts json.no_members e h)
+no_member ts (Some (None, r)) e h = (r, read_key_is ts None r e)
+no_member ts (Some (Some k, s)) e h =
+    let f = members_go_on k s json.no_members (subst (λ x. InMembers x json.no_members) (read_key_is ts (Some k) s e) h) in
+    let apart : json.no_members ≡ json.member k f.1 f.3 = f.5 in
+    absurd (cc)
+
+more_members : (name : List ℕ) (j : Json) (ms : json.Members) → ((ts : List Token) → InMembers ts ms → SpelledMembers ts ms) → (ts : List Token) (o : Option (Option (List ℕ) × List Token)) → read_key ts ≡ o
+    → InMembers ts (json.member name j ms) → SpelledMembers ts (json.member name j ms)
+more_members name j ms rest ts None e h = absurd (unkeyed ts (json.member name j ms) e h)
+more_members name j ms rest ts (Some (None, r)) e h =
+    let over : json.member name j ms ≡ json.no_members = at_end r (json.member name j ms) (subst (λ x. InMembers x (json.member name j ms)) (read_key_is ts None r e) h) in
+    absurd (cc)
+more_members name j ms rest ts (Some (Some k, s)) e h =
+    let begins = read_key_is ts (Some k) s e in
+    let f = members_go_on k s (json.member name j ms) (subst (λ x. InMembers x (json.member name j ms)) begins h) in
+    let named : name ≡ k = cc (f.5) in
+    let first : j ≡ f.1 = cc (f.5) in
+    let others : f.3 ≡ ms = cc (f.5) in
+    let more = rest f.2 (subst (InMembers f.2) others f.6) in
+    let front : s ≡ json_tokens j ++ f.2 = value-json_tokens_back f.0 s f.2 f.1 f.4 ∙ ap (λ i. json_tokens i ++ f.2) (sym first) in
+    let whole : s ≡ (json_tokens j ++ members_tokens ms) ++ more.0 = front ∙ ap (λ l. json_tokens j ++ l) more.1 ∙ sym (append_assoc (json_tokens j) (members_tokens ms) more.0) in
+    (more.0, begins ∙ ap (λ q. Token.key q ∷ s) (sym named) ∙ ap (λ l. Token.key name ∷ l) whole)
+
+spelled_members : (ms : json.Members) (ts : List Token) → InMembers ts ms → SpelledMembers ts ms
+spelled_members json.no_members ts h = no_member ts (read_key ts) refl h
+spelled_members (json.member k j ms) ts h = more_members k j ms (spelled_members ms) ts (read_key ts) refl h
+
+inside_object : (o : Option (json.Members × List Token)) (ms : json.Members) (r : List Token) → parse_map json.object o ≡ Some (json.object ms, r) → o ≡ Some (ms, r)
+inside_object None ms r e = absurd (cc)
+inside_object (Some (ks, s)) ms r e =
+    let both = Some_inj _ _ e in
+    let kind : json.object ks ≡ json.object ms = ap (λ p. p.0) both in
+    let first : ks ≡ ms = cc in
+    let left : s ≡ r = ap (λ p. p.1) both in
+    ap (λ k. Some (k, s)) first ∙ ap (λ l. Some (ms, l)) left
+
+members_at : (d : ℕ) (ts : List Token) (ms : json.Members) → InMembers ts ms → members_depth ms ≤ d → (r : List Token) × (json.members (json.value d) (length ts) ts ≡ Some (ms, r))
+unfolding json.value
+members_at d ts ms h low =
+    let s = spelled_members ms ts h in
+    let whole : json.value (suc d) (Token.begin_object ∷ ts) ≡ Some (json.object ms, s.0) =
+    ap (λ l. json.value (suc d) (Token.begin_object ∷ l)) s.1 ∙ value-json_tokens (json.object ms) (suc d) s.0 (omega arith) in
+    (s.0, inside_object (json.members (json.value d) (length ts) ts) ms s.0 whole)
+
+members_within : (ts r : List Token) (ms : json.Members) → json.members (json.value max_depth) (length ts) ts ≡ Some (ms, r) → members_depth ms ≤ max_depth
+unfolding json.value
+members_within ts r ms is =
+    let whole : json.value (suc max_depth) (Token.begin_object ∷ ts) ≡ Some (json.object ms, r) = ap (parse_map json.object) is in
+    let low = value-depth (suc max_depth) (Token.begin_object ∷ ts) r (json.object ms) whole in
+    omega arith
+
+pub members_standing : (ts : List Token) (ms : json.Members) (ds : List Named) → InMembers ts ms → members_depth ms ≤ max_depth → in_order ms ≡ Some ds → members_of ts ≡ Some ds
+members_standing ts ms ds h low is = ap (option_and_then (λ p. in_order p.0)) (members_at max_depth ts ms h low).1 ∙ is
+
+pub members_reading : (ts : List Token) → IsSome (members_of ts) → (ms : json.Members) × InMembers ts ms × (members_depth ms ≤ max_depth) × (in_order ms ≡ Some (members_view ts))
+unfolding members_view
+members_reading ts h =
+    let s = then_some (λ p. in_order p.0) (json.members (json.value max_depth) (length ts) ts) (members_view ts) (some_or (members_of ts) [] h) in
+    (s.0.0, (max_depth, length ts, s.0.1, s.1), members_within ts s.0.1 s.0.0 s.1, s.2)
+
+pub members_view_is : (ts : List Token) (ds : List Named) → members_of ts ≡ Some ds → members_view ts ≡ ds
+unfolding members_view
+members_view_is ts ds e = ap (λ o. unwrap_or o []) e

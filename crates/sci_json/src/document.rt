@@ -12,7 +12,7 @@ ghost use Rattle.sci_json.specs.View.{view};
 use json::{Node, Scratch, Tape};
 use std::alloc::Global;
 use std::marker::Model;
-pub use value::{Items, Value};
+pub use value::{Items, Members, Value};
 
 /// Why a text was not read.
 #[derive(Clone, Copy, Debug, PartialEq, Eq, Drop)]

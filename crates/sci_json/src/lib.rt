@@ -51,12 +51,20 @@ pub fn text(alloc: Global, v: &Value<'_, '_>, name: &str) -> Result<String, Fiel
 {
     match v.get(name) {
         None => Err(FieldStop::Missing),
-        Some(found) => match found.as_str() {
-            None => Err(FieldStop::Wrong),
-            Some(s) => match String::from_str(alloc, s) {
-                Ok(copy) => Ok(copy),
-                Err(_) => Err(FieldStop::Memory),
-            },
+        Some(found) => text_of(alloc, &found),
+    }
+}
+
+/// The text that a value is, in a copy. Wrong where it is no text.
+pub fn text_of(alloc: Global, found: &Value<'_, '_>) -> Result<String, FieldStop>
+    ensures ok { IfOk result (λ s. formed (as_str (view found.now)) ≡ holds (string_bytes s)) }
+    ensures stop { IfErr result (λ e. StopsAt (formed (as_str (view found.now))) e) }
+{
+    match found.as_str() {
+        None => Err(FieldStop::Wrong),
+        Some(s) => match String::from_str(alloc, s) {
+            Ok(copy) => Ok(copy),
+            Err(_) => Err(FieldStop::Memory),
         },
     }
 }
@@ -74,7 +82,9 @@ pub fn ints(alloc: Global, v: &Value<'_, '_>, name: &str) -> Result<Vec<i64>, Fi
     }
 }
 
-fn ints_of(alloc: Global, found: &Value<'_, '_>) -> Result<Vec<i64>, FieldStop>
+/// The list of whole numbers, those that fit an `i64`, that a value is; a single one stands for the list of it. Wrong where it is
+/// neither.
+pub fn ints_of(alloc: Global, found: &Value<'_, '_>) -> Result<Vec<i64>, FieldStop>
     ensures ok { IfOk result (λ xs. formed (as_ints (view found.now)) ≡ holds xs.items) }
     ensures stop { IfErr result (λ e. StopsAt (formed (as_ints (view found.now))) e) }
 {
@@ -152,7 +162,8 @@ pub fn dep(alloc: Global, v: &Value<'_, '_>, name: &str) -> Result<Option<Dep>, 
     }
 }
 
-fn dep_of(alloc: Global, found: &Value<'_, '_>) -> Result<Dep, FieldStop>
+/// What a value says of a block, as `dep` has it. Wrong where it isn't such a list of two entries.
+pub fn dep_of(alloc: Global, found: &Value<'_, '_>) -> Result<Dep, FieldStop>
     ensures ok { IfOk result (λ d. formed (as_dep (view found.now)) ≡ holds (dependence_of d)) }
     ensures stop { IfErr result (λ e. DepStops (formed (as_dep (view found.now))) e) }
 {

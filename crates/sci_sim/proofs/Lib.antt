@@ -16,3 +16,4 @@ pub mod Begun
 pub mod Saved
 pub mod Listed
 pub mod Restoring
+pub mod Totals

@@ -7,3 +7,4 @@ pub mod Laws
 pub mod Rest
 pub mod Restored
 pub mod Saving
+pub mod Totals

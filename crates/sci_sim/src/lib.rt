@@ -13,5 +13,5 @@ mod restore;
 mod rows;
 
 pub use end::{RunEnd, Step};
-pub use laws::{a_step_may_be_done, what_is_restored_is_saved};
+pub use laws::{a_step_may_be_done, the_banks_add_up, what_is_restored_is_saved};
 pub use ready::Ready;

@@ -1,15 +1,16 @@
 -- Lines that wait before a sink, and the pieces of a line.
-use Rattle.std.proofs.Common.{◌≡◌, ℕ, ◌+◌, ◌<◌, ◌≤◌, pos, get_or, ap₂, Bool, false, ◌||◌, ℤ, List, [], ◌∷◌, ◌++◌, take, drop, length, refl, sym, ap, subst, ◌∙◌, append_assoc, arith, Ok, Err, codes}
+use Rattle.std.proofs.Common.{◌≡◌, ℕ, ◌+◌, ◌<◌, ◌≤◌, pos, get_or, ap₂, Bool, true, false, is_ok, ◌||◌, ℤ, List, [], ◌∷◌, ◌++◌, take, drop, length, refl, sym, ap, subst, ◌∙◌, append_assoc, arith, Ok, Err, codes}
 use Rattle.std.specs.Prelude.{Result, OnOk, OnErr}
 use Rattle.std.specs.Fmt.{decimal, signed_decimal}
-use Rattle.std.proofs.lemmas.List.{append-nil, take-append-drop, take-append-le, length-take-le, drop_more}
+use Rattle.std.proofs.Math.ListN.{drop_of_length-le}
+use Rattle.std.proofs.lemmas.List.{append-nil, length-append, take-append-drop, take-append-le, length-take-le, drop_more}
 use Rattle.std.proofs.Math.Seq.{take-append_seam, take-append-add}
 use Rattle.sci_base.specs.declared.observation.Obs.TheVariants.{Event}
 use Rattle.sci_io.specs.Taken.{SinkState, is_some_text, Writes, UnderWay}
 use Rattle.sci_io.proofs.Advance.{begins, next_front, cut_off, finished, stays, due_is, front_is, or-nil, begun-append}
 use Rattle.sci_trace.specs.Lines.{line}
 use Rattle.sci_store.specs.Heads.{Named, start_text, value_of, value_lines}
-use Rattle.sci_store.specs.Paged.{paged}
+use Rattle.sci_store.specs.Paged.{paged, IsKeptBack}
 
 -- ---- the line of a value
 
@@ -160,3 +161,54 @@ pub lines_next : (hs : List (List ℕ)) (vs : List ℤ) (k : ℕ) (h : List ℕ)
     → value_lines (drop k hs) (drop k vs) ≡ (h ++ (signed_decimal (get_or vs k (pos 0)) ++ codes "\n")) ++ value_lines (drop (k + 1) hs) (drop (k + 1) vs)
 lines_next hs vs k h l m is =
     ap₂ value_lines (drop_more hs k h l ∙ ap (λ (x : List ℕ). x ∷ drop (k + 1) hs) (sym is)) (drop_more vs k (pos 0) m)
+
+-- behind the last of them there is none
+pub lines_over : (hs : List (List ℕ)) (vs : List ℤ) (k : ℕ) → length hs ≤ k → value_lines (drop k hs) (drop k vs) ≡ []
+lines_over hs vs k h = ap (λ (x : List (List ℕ)). value_lines x (drop k vs)) (drop_of_length-le hs h)
+
+-- ---- lines that all wait
+
+-- of a text all but this rest waits behind the bytes that waited before, and nothing was given on
+pub record WaitSoFar (old new : SinkState) (bytes bytes' text rest : List ℕ) : Type 0 where
+  pub sink : new ≡ old
+  pub waits : bytes' ++ rest ≡ bytes ++ text
+
+-- so there is room for one line more
+room_left : (bytes bytes' text rest : List ℕ) → length bytes + length text ≤ 4050 → bytes' ++ rest ≡ bytes ++ text → length bytes' ≤ 4050
+room_left bytes bytes' text rest room same =
+    let front = length-append bytes' rest in
+    let all = length-append bytes text in
+    let long = ap (λ (l : List ℕ). length l) same in
+    omega (arith, front, all, long, room)
+
+pub wait_next : {T E : Type 0} {old mid new : SinkState} {bytes bytes' bytes'' text : List ℕ} (piece rest : List ℕ) (r : Result T E) → length bytes + length text ≤ 4050
+    → WaitSoFar old mid bytes bytes' text (piece ++ rest) → (length bytes' ≤ 4050 → IsKeptBack mid new bytes' bytes'' piece r) → WaitSoFar old new bytes bytes'' text rest
+wait_next {bytes = bytes} {bytes' = bytes'} {text = text} piece rest r room w kept =
+    let next = kept (room_left bytes bytes' text (piece ++ rest) room w.waits) in
+    record {
+      sink = next.sink ∙ w.sink;
+      waits = ap (λ (l : List ℕ). l ++ rest) next.waits ∙ (append_assoc bytes' piece rest ∙ w.waits);
+    }
+
+-- and it can't fail
+pub wait_fails : {T E : Type 0} {old mid new : SinkState} {bytes bytes' bytes'' text : List ℕ} (piece rest : List ℕ) (r : Result T E) (e : E) → r ≡ Err e
+    → length bytes + length text ≤ 4050 → WaitSoFar old mid bytes bytes' text (piece ++ rest) → (length bytes' ≤ 4050 → IsKeptBack mid new bytes' bytes'' piece r) → ⊥
+wait_fails {bytes = bytes} {bytes' = bytes'} {text = text} piece rest r e is room w kept =
+    let next = kept (room_left bytes bytes' text (piece ++ rest) room w.waits) in
+    let no : false ≡ true = subst (λ q. is_ok q ≡ true) is next.fine in
+    cc no
+
+pub wait_all : {T E : Type 0} {old new : SinkState} {bytes bytes' text : List ℕ} (rest : List ℕ) (x : T) → rest ≡ [] → WaitSoFar old new bytes bytes' text rest
+    → IsKeptBack {T = T} {E = E} old new bytes bytes' text (Ok x)
+wait_all {bytes' = bytes'} rest x none w = record {
+  fine = refl;
+  sink = w.sink;
+  waits = sym (append-nil bytes') ∙ (ap (λ (l : List ℕ). bytes' ++ l) (sym none) ∙ w.waits);
+}
+
+-- there was room for a line
+pub had_room : (text bytes : List ℕ) (len : ℕ) → take len text ≡ bytes → (length text ≡ 4096) × (len ≤ 4096) → length bytes ≤ 4050 → 4050 < len → ⊥
+had_room text bytes len is whole room full =
+    let long = length-take-le len text (omega (arith, whole.0, whole.1)) in
+    let same = ap (λ (l : List ℕ). length l) is in
+    omega (arith, long, same, room, full)

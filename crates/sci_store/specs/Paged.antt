@@ -1,7 +1,13 @@
 -- Bytes that wait before a sink.
-use Rattle.std.specs.Prelude.{ℕ, ◌||◌, ◌++◌, List}
+use Rattle.std.specs.Prelude.{◌≡◌, ℕ, ◌||◌, ◌++◌, List, Result, IsOk}
 use Rattle.sci_io.specs.Taken.{SinkState, is_some_text}
 
 -- a sink before which these bytes wait
 abbrev pub paged : SinkState → List ℕ → SinkState
 paged s bytes = record { taken = s.taken; held = s.held ++ bytes; faults = s.faults; begun = s.begun || is_some_text bytes }
+
+-- A call that puts this text behind the bytes that wait, where there is room for it: it can't fail, the sink is as before, and the text waits too.
+pub record IsKeptBack {T E : Type 0} (old new : SinkState) (bytes bytes' text : List ℕ) (result : Result T E) : Type 0 where
+  pub fine : IsOk result
+  pub sink : new ≡ old
+  pub waits : bytes' ≡ bytes ++ text

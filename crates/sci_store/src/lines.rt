@@ -1,11 +1,11 @@
 // Lines of a reaction that wait before a sink: that of its start or event, and those of its values.
-ghost use Rattle.std.specs.Prelude.{◌≡◌, ◌≤◌, ◌++◌, [], codes, length, take, IfOk, OnErr};
+ghost use Rattle.std.specs.Prelude.{◌≡◌, ◌+◌, ◌≤◌, ◌++◌, [], codes, length, take, IfOk, OnErr};
 ghost use Rattle.std.specs.Fmt.{signed_decimal};
 ghost use Rattle.sci_io.specs.Taken.{Writes};
 ghost use Rattle.sci_trace.specs.Lines.{line};
 ghost use Rattle.sci_base.specs.declared.observation.Obs.TheVariants.{Start, Event};
 ghost use Rattle.sci_store.specs.Heads.{value_lines};
-ghost use Rattle.sci_store.specs.Paged.{paged};
+ghost use Rattle.sci_store.specs.Paged.{paged, IsKeptBack};
 ghost use Rattle.sci_store.specs.Written.{IsHeader};
 
 use crate::digit_table::DigitTable;
@@ -134,6 +134,7 @@ impl Lines {
     fn put<S: Sink>(&mut self, head: &Head, value: i64, out: &mut S) -> Result<(), Failed>
         ensures written { Writes (paged (S.state out.old) self.old) (paged (S.state out.new) self.new) (head.now ++ (signed_decimal value ++ codes "\n")) result }
         ensures emptied { OnErr result (self.new ≡ []) }
+        ensures waits { length self.old ≤ 4050 → IsKeptBack (S.state out.old) (S.state out.new) self.old self.new (head.now ++ (signed_decimal value ++ codes "\n")) result }
     {
         if self.len > ONE_MORE {
             self.give(out)?;
@@ -142,7 +143,8 @@ impl Lines {
         Ok(())
     }
 
-    /// Writes the lines of values, each behind its start; where there is no room for one, what waits is given to the sink first.
+    /// Writes the lines of values, each behind its start; where there is no room for one, what waits is given to the sink first. Where there is room
+    /// for all of them, at most 4,050 bytes with what waits already, nothing is given on.
     #[inline(always)]
     pub fn put_all<S: Sink>(
         &mut self,
@@ -153,6 +155,7 @@ impl Lines {
         requires { length heads.now ≡ length values.now }
         ensures written { Writes (paged (S.state out.old) self.old) (paged (S.state out.new) self.new) (value_lines heads.now values.now) result }
         ensures emptied { OnErr result (self.new ≡ []) }
+        ensures waits { length self.old + length (value_lines heads.now values.now) ≤ 4050 → IsKeptBack (S.state out.old) (S.state out.new) self.old self.new (value_lines heads.now values.now) result }
     {
         for at in 0..values.len() {
             self.put(&heads[at], values[at], out)?;

@@ -245,7 +245,7 @@ impl Store {
         stop_at(lib.out_run(run.kind, calls, places, &mut self.values)?)
     }
 
-    /// Gives the active blocks of a row their values; or the block that has none, with the word that says why.
+    /// Gives the active blocks of a row their values; or the block that has none, with the word that says why. Also then all values are in range.
     pub fn pass<B: Bank>(
         &mut self,
         frame: &Frame,
@@ -262,6 +262,7 @@ impl Store {
         requires memory { (m : Memory) × ShowsMemory frame.now self.old lib.old m × IsMemory frame.now.net m }
         ensures passed { (s : Source) (m : Memory) → IsLoopFree frame.now.net s → IsRowOf frame.now s row.now → ShowsMemory frame.now self.old lib.old m → IsMemory frame.now.net m → IsPassed frame.now inputs.now s m self.old self.new lib.old lib.new result }
         ensures sound { IsSoundBehind frame.now self.new lib.new }
+        ensures values { AreInRange frame.now.net (values_at frame.now.net self.new.values) }
         ensures kept { KeepsBegun frame.now row.now self.new }
         ensures lines { self.new.lines ≡ self.old.lines }
         ensures sum { self.new.sum ≡ self.old.sum }

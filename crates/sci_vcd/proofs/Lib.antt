@@ -15,4 +15,5 @@ pub mod Putting
 pub mod Paged
 pub mod OfNet
 pub mod Kept
+pub mod Outset
 pub mod Told

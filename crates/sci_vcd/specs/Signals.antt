@@ -3,7 +3,7 @@ use Rattle.std.specs.Prelude.{◌≡◌, ℕ, zero, suc, ◌+◌, ◌-◌, ◌�
 use Rattle.sci_base.specs.declared.Ty.{Ty}
 use Rattle.sci_forms.specs.declared.ports.Port.{Port}
 use Rattle.sci_forms.specs.declared.spec.Spec.{Spec}
-use Rattle.sci_forms.specs.Ports.{elements, type_of}
+use Rattle.sci_forms.specs.Ports.{elements, type_of, total}
 use Rattle.sci_net.specs.Parts.{Parts}
 use Rattle.sci_net.specs.Net.{all_elements}
 use Rattle.sci_vcd.specs.declared.signal.Signal.{Signal}
@@ -38,6 +38,11 @@ before_block n b = all_elements (take (b - 1) n.specs)
 -- the number of element e of block b, where the elements of all its outputs are counted from 1
 abbrev pub number_of : Parts → ℕ → ℕ → ℕ
 number_of n b e = before_block n b + e
+
+-- how many signals stand before each of these blocks, and behind all of them, where so many stand before the first
+abbrev pub starts_from : ℕ → List Spec → List ℕ
+starts_from k [] = k ∷ []
+starts_from k (s ∷ ss) = k ∷ starts_from (k + total s.outs) ss
 
 -- how many signals stand before each block, and at the end how many there are
 pub record AreStarts (n : Parts) (starts : List ℕ) : Type 0 where

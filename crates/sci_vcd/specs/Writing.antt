@@ -1,5 +1,5 @@
 -- Writing a dump tick by tick, from values that are noted on the way.
-use Rattle.std.specs.Prelude.{◌≡◌, ℕ, ◌+◌, ◌-◌, ◌*◌, ◌/◌, min, ◌<◌, ◌≤◌, ℤ, pos, List, [], ◌∷◌, ◌++◌, take, drop, length, slice_set, slice_index_or, Option, Some, None, Bool, true, false, nat_lt, if◌then◌else◌}
+use Rattle.std.specs.Prelude.{◌≡◌, ℕ, ◌+◌, ◌-◌, ◌*◌, ◌/◌, min, ◌<◌, ◌≤◌, ℤ, pos, List, [], ◌∷◌, ◌++◌, take, drop, length, slice_set, slice_index_or, replicate, Option, Some, None, Bool, true, false, nat_lt, if◌then◌else◌}
 use Rattle.sci_base.specs.Fit.{in_range, int_eq}
 use Rattle.sci_net.specs.Parts.{Parts}
 use Rattle.sci_vcd.specs.declared.signal.Signal.{Signal}
@@ -8,7 +8,7 @@ use Rattle.sci_vcd.specs.Waveforms.{Waveforms, type_of, first_of, value_at, AreS
 use Rattle.sci_text.specs.Lines.{joined}
 use Rattle.sci_vcd.specs.Spelling.{head_part, change_lines, spelling}
 use Rattle.sci_vcd.specs.Machine.{value_now, last_change, change_by}
-use Rattle.sci_vcd.specs.Signals.{signals_of, AreStarts}
+use Rattle.sci_vcd.specs.Signals.{signals_of, starts_from, AreStarts}
 
 -- The signals; by block how many of them stand before it; the values that were written last, and those that are noted; and the tick that was
 -- closed last, where there was one.
@@ -48,6 +48,12 @@ settled old new a b = take a old ++ (take (b - a) (drop a new) ++ drop b old)
 pub record IsKept (o : Writing) (marked : List Bool) : Type 0 where
   pub writing : IsWriting o
   pub marks : AreMarked o.written o.noted marked
+
+-- what is kept of a net before its first tick: each of its signals has the value 0, as written and as noted
+abbrev pub unwritten : Parts → Writing
+unwritten n =
+    let zeros = replicate (length (signals_of n)) (pos 0) in
+    record { signals = signals_of n; starts = starts_from 0 n.specs; written = zeros; noted = zeros; closed = None }
 
 -- nothing was written yet of the signals of this net, and each value is noted as 0
 pub record IsOutset (n : Parts) (o : Writing) : Type 0 where

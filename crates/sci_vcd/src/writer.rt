@@ -1,10 +1,10 @@
 // Writing a dump as a net runs.
 
-ghost use Rattle.std.specs.Prelude.{◌≡◌, ◌≤◌, ◌+◌, ◌-◌, ◌^◌, true, length, slice_index_or, IfOk, OnOk};
+ghost use Rattle.std.specs.Prelude.{◌≡◌, ◌≤◌, ◌+◌, ◌-◌, ◌^◌, true, length, slice_index_or, IfOk, OnOk, OnErr};
 ghost use Rattle.sci_base.specs.Fit.{in_range};
 ghost use Rattle.sci_io.specs.Taken.{Writes};
 ghost use Rattle.sci_vcd.specs.Waveforms.{type_of};
-ghost use Rattle.sci_vcd.specs.Writing.{IsWriting, IsOutset, MayClose, with_note, closed_at, tick_text};
+ghost use Rattle.sci_vcd.specs.Writing.{IsWriting, IsOutset, unwritten, MayClose, with_note, closed_at, tick_text};
 
 use crate::Signal;
 use crate::net_signals::net_signals;
@@ -39,9 +39,10 @@ impl Model for VcdOut {
 }
 
 impl VcdOut {
-    /// Of the signals of a net, before the first tick. It takes all memory.
+    /// Of the signals of a net, before the first tick: what it keeps then follows from the net alone. It takes all memory.
     pub fn new(alloc: Global, net: &Net) -> Result<VcdOut, NoMemory>
-        ensures { IfOk result (λ o. IsOutset net.now o) }
+        ensures first { IfOk result (λ o. o ≡ unwritten net.now) }
+        ensures outset { IfOk result (λ o. IsOutset net.now o) }
     {
         net.well_formed();
         let found = net_signals(alloc, net)?;
@@ -110,12 +111,14 @@ impl VcdOut {
     }
 
     /// Writes what is due for a tick. The first is 0: all that stands before the changes, and the first values. A later one has the signals whose
-    /// noted value isn't the one that was written last. Ticks rise, up to 2^62. After a failure of the sink it is of no more use.
+    /// noted value isn't the one that was written last. Ticks rise, up to 2^62. Where the sink fails, a front of the text was given on, and nothing is
+    /// closed: what was noted and written stays, so that the same tick is due still.
     pub fn close_tick<S: Sink>(&mut self, date: u64, out: &mut S) -> Result<(), Failed>
         requires rises { MayClose self.old.closed date }
         requires early { date ≤ 2 ^ 62 }
         ensures written { Writes (S.state out.old) (S.state out.new) (tick_text self.old date) result }
         ensures closed { OnOk result (self.new ≡ closed_at self.old date) }
+        ensures kept { OnErr result (self.new ≡ self.old) }
     {
         self.put_due(date, out)?;
         settle(&mut self.written, &self.noted, &mut self.marked);

@@ -1,19 +1,18 @@
 -- A run has a dump.
-use Rattle.std.proofs.Common.{◌≡◌, ℕ, zero, suc, ◌+◌, ◌-◌, ◌≤◌, List, [], ◌∷◌, take, length, get_or, refl, arith}
+use Rattle.std.proofs.Common.{[], refl, arith}
 use Rattle.std.specs.Prelude.{None}
-use Rattle.sci_forms.specs.declared.spec.Spec.{Spec}
-use Rattle.sci_forms.specs.Ports.{total}
 use Rattle.sci_net.specs.declared.Source.TheVariants.{Start}
 use Rattle.sci_net.specs.Parts.{Parts}
-use Rattle.sci_net.specs.Net.{IsNet, all_elements}
+use Rattle.sci_net.specs.Net.{IsNet}
 use Rattle.sci_reaction.specs.Memory.{first_memory}
 use Rattle.sci_reaction.proofs.Next.{first_in_range}
 use Rattle.sci_run.specs.Run.{first_state, ReactionOutcome, Leads, StopsWith, IsOutcome}
 use Rattle.sci_run.proofs.Traces.{some_trace}
 use Rattle.sci_vcd.specs.Waveforms.{Waveforms}
-use Rattle.sci_vcd.specs.Signals.{signals_of, AreStarts}
+use Rattle.sci_vcd.specs.Signals.{signals_of, starts_from}
 use Rattle.sci_vcd.specs.Writing.{Writing, IsWriting, told_at}
 use Rattle.sci_vcd.proofs.OfNet.{net_signals}
+use Rattle.sci_vcd.proofs.Outset.{starts_are}
 use Rattle.sci_wave.specs.History.{start, stopped_at_start}
 use Rattle.sci_wave.specs.RunDump.{IsRunDump}
 use Rattle.sci_wave.specs.Laws.{SomeRunDump}
@@ -23,44 +22,21 @@ use Rattle.sci_wave.proofs.Completed.{all_held, all_held_at, all_held_fit, compl
 
 -- ---- before the run
 
--- how many elements stand before each of these blocks, and behind all of them, where so many stand before the first
-starts_from : ℕ → List Spec → List ℕ
-starts_from k [] = k ∷ []
-starts_from k (s ∷ ss) = k ∷ starts_from (k + total s.outs) ss
-
-starts_length : (k : ℕ) (ss : List Spec) → length (starts_from k ss) ≡ length ss + 1
-unfolding starts_from
-starts_length k [] = refl
-starts_length k (s ∷ ss) = let rest = starts_length (k + total s.outs) ss in omega (arith, rest)
-
-starts_at : (k : ℕ) (ss : List Spec) (j : ℕ) → j ≤ length ss → get_or (starts_from k ss) j 0 ≡ k + all_elements (take j ss)
-unfolding starts_from
-starts_at k [] zero h = omega arith
-starts_at k [] (suc j) h = absurd (omega (arith, h))
-starts_at k (s ∷ ss) zero h = omega arith
-starts_at k (s ∷ ss) (suc j) h = let rest = starts_at (k + total s.outs) ss j (omega (arith, h)) in omega (arith, rest)
-
 -- nothing is written, and what all outputs hold is noted
 at_outset : Parts → Writing
 at_outset n = let vs = all_held n (first_memory n) in record { signals = signals_of n; starts = starts_from 0 n.specs; written = vs; noted = vs; closed = None }
-
-outset_starts : (n : Parts) → AreStarts n (starts_from 0 n.specs)
-outset_starts n = record {
-  long = starts_length 0 n.specs;
-  each = λ b least most. let is = starts_at 0 n.specs (b - 1) (omega (arith, least, most)) in omega (arith, is);
-}
 
 outset_writing : (n : Parts) → IsNet n → IsWriting (at_outset n)
 unfolding at_outset
 outset_writing n net =
     let fit = all_held_fit n (first_memory n) net (first_in_range n net) in
-    let long = starts_length 0 n.specs in
+    let long = (starts_are n).long in
     let few = net.wired.few in
     record { signals = (net_signals n net).0; some = omega (arith, long); few = omega (arith, long, few); written = fit.one_each; noted = fit }
 
 outset_followed : (n : Parts) → IsNet n → IsFollowed n [] (first_state n) None (at_outset n)
 unfolding at_outset
-outset_followed n net = followed_outset n (at_outset n) (record { signals = refl; starts = outset_starts n }) refl (all_held_at n (first_memory n) (first_in_range n net))
+outset_followed n net = followed_outset n (at_outset n) (record { signals = refl; starts = starts_are n }) refl (all_held_at n (first_memory n) (first_in_range n net))
 
 -- ---- the run
 

@@ -127,6 +127,8 @@ fn walk<B: Bank>(rt: &impl Abort, alloc: Global, banks: Vec<B>) -> Result<(), No
         Err(_) => panic!(rt; "not written"),
     }
     reads(rt, &ready, 2, 3, 11, 5);
+    // four blocks at each of three ticks
+    assert_eq!(rt; lib.outs(), 12);
     assert_eq!(rt;
         out.taken(),
         "start\nevent 0 1 1\nval 2 1 1 5\nval 4 1 1 0\nevent 1 1 1\nval 2 1 1 -1\nval 5 1 1 0\nevent 2 1 1\nval 2 1 1 0\nval 5 1 1 1\nend events\n".as_bytes()

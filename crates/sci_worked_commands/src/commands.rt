@@ -160,6 +160,16 @@ fn a_clock_runs(rt: HostRuntime) -> Result<(), Fail> {
 }
 
 #[test]
+fn a_counter_runs(rt: HostRuntime) -> Result<(), Fail> {
+    let alloc = rt.alloc();
+    let done = run_line(alloc, "simulate d i 100 3", each_fault::COUNTER, "[]", NONE)?;
+    assert_eq!(rt; done.status, 0);
+    // two blocks at start, and three at each of three ticks
+    assert_eq!(rt; done.outs, 11);
+    Ok(())
+}
+
+#[test]
 fn what_is_no_run_is_told(rt: HostRuntime) -> Result<(), Fail> {
     let alloc = rt.alloc();
     let missing = run_line(alloc, "simulate d j 8 10", CLOCK, "[]", NONE)?;

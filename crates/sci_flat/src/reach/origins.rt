@@ -1,7 +1,7 @@
 // Ports that the same sources reach: where a port is reached by one step alone, what reaches it is what reaches the port before it.
 ghost use Rattle.std.specs.Prelude.{◌≡◌, ◌<◌, ◌≤◌, ◌^◌, All, IfOk, length};
 ghost use Rattle.sci_flat.specs.Chain.{AllWithin};
-ghost use Rattle.sci_flat.specs.Origins.{stepped, above, AreBefores, AreAbove, AreRooted, AreOrigins, Climb};
+ghost use Rattle.sci_flat.specs.Origins.{stepped, above, AreBefores, AreAbove, AreRooted, AreSettled, AreOrigins, Climb};
 
 use sci_base::NoMemory;
 use std::alloc::Global;
@@ -91,6 +91,24 @@ fn last_origin(origins: &[u32], port: u32) -> u32
     at
 }
 
+/// Makes a port the origin of all that are on the way to it from another, so that no later climb goes that way again.
+fn settle(origins: &mut Vec<u32>, port: u32, origin: u32)
+    requires port { port < length origins.old.items }
+    requires within { All (λ p. p < length origins.old.items) origins.old.items }
+    requires climb { Climb origins.old.items port origin }
+    ensures { AreSettled port origin origins.old.items origins.new.items }
+{
+    let mut at = port;
+    for _turn in 0..origins.len() {
+        if at == origin {
+            return;
+        }
+        let next = origins[at as usize];
+        origins[at as usize] = origin;
+        at = next;
+    }
+}
+
 /// By port, one that the same sources reach: of a target the first on the way of single steps to it.
 pub fn find_origins(
     alloc: Global,
@@ -109,7 +127,7 @@ pub fn find_origins(
     root_sources(&mut origins, sources);
     for target in targets {
         let origin = last_origin(&origins, *target);
-        origins[*target as usize] = origin;
+        settle(&mut origins, *target, origin);
     }
     Ok(origins)
 }

@@ -1,7 +1,8 @@
 // The values of a text, and the items of its arrays.
 ghost use Rattle.std.specs.Prelude.{◌≡◌, ◌<◌, length, Some, None, is_some, option_map, option_and_then, OnSome, IsSome};
 ghost use Rattle.serde_json.specs.Find.{get, as_str, as_number, as_bool, as_array, as_object, as_i64};
-ghost use Rattle.sci_json.specs.View.{view, items_view, data_of, NextItem};
+ghost use Rattle.serde_json.specs.Data.{no_members};
+ghost use Rattle.sci_json.specs.View.{view, items_view, data_of, NextItem, members_view, put_all, NextMember};
 
 use crate::document::number::whole_number;
 use json::Element;
@@ -92,6 +93,18 @@ impl<'t, 'a> Value<'t, 'a> {
             None => None,
         }
     }
+
+    /// The members, where this is an object. Of members with one name the last counts.
+    #[inline]
+    pub fn members(&self) -> Option<Members<'t, 'a>>
+        ensures { option_map (λ ms. put_all (members_view ms) no_members) result
+            ≡ as_object (view self.now) }
+    {
+        match self.element.members() {
+            Some(members) => Some(Members { members }),
+            None => None,
+        }
+    }
 }
 
 /// The items of an array from one of them on.
@@ -124,6 +137,41 @@ impl<'t, 'a> Items<'t, 'a> {
     {
         match self.items.next() {
             Some(element) => Some(Value { element }),
+            None => None,
+        }
+    }
+}
+
+/// The members of an object from one of them on, in the order of the text.
+#[derive(Drop)]
+pub struct Members<'t, 'a> {
+    members: json::Members<'t, 'a>,
+}
+
+impl<'t, 'a> Model for Members<'t, 'a> {
+    ghost use Rattle.std.specs.Prelude.{List, IsSome};
+    ghost use Rattle.json.specs.Token.{Token, tokens_code};
+    ghost use Rattle.sci_json.specs.View.{members_of};
+
+    ghost Value = { List Token };
+
+    ghost coded = { tokens_code };
+
+    ghost view = { λ m. m.members };
+
+    ghost invariant = { λ m. IsSome (members_of m.members) };
+}
+
+impl<'t, 'a> Members<'t, 'a> {
+    /// The name and the value of the next member, which is taken. None at the end.
+    #[inline]
+    pub fn next(&mut self) -> Option<(&'a str, Value<'t, 'a>)>
+        ensures value { NextMember (members_view self.old)
+            (option_map (λ m. (m.0.now, view m.1)) result) (members_view self.new) }
+        ensures shorter { OnSome result (length self.new < length self.old) }
+    {
+        match self.members.next() {
+            Some((name, element)) => Some((name, Value { element })),
             None => None,
         }
     }

@@ -5,8 +5,7 @@ use Rattle.c_ast.specs.Syntax.{done, next, num, set, cell}
 use Rattle.sci_cgen_blocks.specs.Recipes.{next_term}
 use Rattle.sci_cgen_blocks.specs.Texts.{states, expression}
 use Rattle.sci_cgen_blocks.specs.Plain.{plain_places}
-use Rattle.sci_cgen_blocks.proofs.Written.{pushed}
-use Rattle.sci_cgen_blocks.proofs.KindSpelled.{upto_more}
+use Rattle.sci_cgen_blocks.proofs.Written.{pushed, upto_more}
 use Rattle.sci_cgen_blocks.proofs.block_texts.block_next.Goals as goal
 
 pub loop-i-preserved : goal.loop-i-preserved

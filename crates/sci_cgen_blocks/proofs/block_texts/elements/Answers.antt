@@ -4,7 +4,7 @@ use Rattle.c_steps.specs.Texts.{upto}
 use Rattle.sci_cgen_blocks.specs.Recipes.{recipe_of}
 use Rattle.sci_cgen_blocks.specs.Texts.{recipe_text}
 use Rattle.sci_cgen_blocks.specs.Plain.{plain_places}
-use Rattle.sci_cgen_blocks.proofs.KindSpelled.{upto_more}
+use Rattle.sci_cgen_blocks.proofs.Written.{upto_more}
 use Rattle.sci_cgen_blocks.proofs.block_texts.elements.Goals as goal
 
 pub loop-e-preserved : goal.loop-e-preserved

@@ -46,7 +46,7 @@ returns-clause-looks g c =
       prepared = record {
         run = ready_to_run old new c.args.file.now c.args.inputs_file.now files _ ready c.args.until c.args.limit c.in_ok-files.ensures.looked c.in_ok-ready.ensures.start c.requires.until c.requires.limit;
         free = subst AreLoopFree (sym c.in_ok-ready.ensures.start.net) (passed_free old new c.args.file.now c.args.inputs_file.now files c.in_ok-files.ensures.looked);
-        outset = subst (λ (n : Parts). IsOutset n c.in_ok-dump.dump) (sym c.in_ok-ready.ensures.start.net) c.in_ok-dump.ensures;
+        outset = subst (λ (n : Parts). IsOutset n c.in_ok-dump.dump) (sym c.in_ok-ready.ensures.start.net) c.in_ok-dump.ensures.outset;
       };
       lacks = λ may. absurd may;
     }

@@ -1,8 +1,11 @@
-use Rattle.std.proofs.Common.{◌≡◌, rules, arith, map, codes, pos, Ok, ap, sym, ◌∙◌, ◌+◌, length}
+use Rattle.std.proofs.Common.{◌≡◌, rules, arith, map, codes, pos, Ok, ap, sym, subst, ◌∙◌, ◌+◌, length, string_bytes}
+use Rattle.std.specs.Prelude.{IfOk, IfErr}
 use Rattle.sci_json.specs.View.{view, items_view}
-use Rattle.serde_json.specs.Find.{get}
-use Rattle.sci_diagram.specs.Objects.{object_view}
-use Rattle.sci_diagram.specs.Tree.{diagram_at}
+use Rattle.serde_json.specs.Find.{get, as_str}
+use Rattle.sci_json.specs.Field.{field}
+use Rattle.sci_base.specs.Stops.{Stops}
+use Rattle.sci_diagram.specs.Objects.{object_view, block_view}
+use Rattle.sci_diagram.specs.Tree.{required, whole_object, modelled, read_block, read_object, diagram_at}
 use Rattle.sci_diagram.specs.Weight.{weight, items_weight}
 use Rattle.sci_diagram.proofs.Items.{taken, none_left}
 use Rattle.sci_base.proofs.Stopping.{stops_then, stops_violation}
@@ -11,21 +14,47 @@ use Rattle.sci_diagram.proofs.Light.{at_most, get_light, positive}
 use Rattle.sci_diagram.proofs.Walking.{last_level, one_level, model_light, objs_light, place, rest_end, rest_more, rest_stops, fewer, diagram_rolls}
 use Rattle.sci_diagram.proofs.walk.+walk.Goals as goal
 
-pub read_block-read_fields-requires : goal.read_block-read_fields-requires
-read_block-read_fields-requires t c =
-    let light = model_light c.args.at.now (pos 4) (codes "model") (view c.args.v.now) (view c.in_ok-model.model) c.in_ok-model.ensures.ok in
-    omega (arith, light)
+pub read_obj-obj_of-requires : goal.read_obj-obj_of-requires
+read_obj-obj_of-requires t c =
+    let same = ap (λ ts. weight (view ts)) c.of.ensures in
+    (omega arith, (omega (arith, same), omega arith))
 
-pub read_block-read_diagram-requires : goal.read_block-read_diagram-requires
-read_block-read_diagram-requires t c =
-    let light = model_light c.args.at.now (pos 4) (codes "model") (view c.args.v.now) (view c.in_ok-model.model) c.in_ok-model.ensures.ok in
-    let inside = at_most (λ e. weight e + 1) (weight (view c.in_ok-model.model)) (get (codes "rpar") (view c.in_ok-model.model)) (view c.in-Some.rpar) (get_light (codes "rpar") (view c.in_ok-model.model)) (sym c.in-Some.ensures) in
-    (omega arith, (omega (arith, light, inside), omega arith))
+pub read_obj-returns-clause-ok : goal.read_obj-returns-clause-ok
+read_obj-returns-clause-ok t c = subst (λ ts. IfOk c.obj_of.result (λ o. read_object (diagram_at c.args.left) c.args.at.now (view ts) ≡ Ok (object_view o))) c.of.ensures c.obj_of.ensures.ok
 
-pub read_block-read_fields-requires-else-branch : goal.read_block-read_fields-requires-else-branch
-read_block-read_fields-requires-else-branch t c =
-    let light = model_light c.args.at.now (pos 4) (codes "model") (view c.args.v.now) (view c.in_ok-model.model) c.in_ok-model.ensures.ok in
-    omega (arith, light)
+pub read_obj-returns-clause-stop : goal.read_obj-returns-clause-stop
+read_obj-returns-clause-stop t c = subst (λ ts. IfErr c.obj_of.result (λ e. Stops (read_object (diagram_at c.args.left) c.args.at.now (view ts)) e)) c.of.ensures c.obj_of.ensures.stop
+
+pub read_block-block_of-requires : goal.read_block-block_of-requires
+read_block-block_of-requires t c =
+    let light = model_light c.args.at.now (pos 4) (codes "model") (view c.args.v.now) (view c.in_ok-value.value.now) c.in_ok-value.ensures.ok in
+    let same = ap (λ ts. weight (view ts)) c.of.ensures in
+    (omega arith, (omega (arith, light, same), omega arith))
+
+pub read_block-returns-clause-ok : goal.read_block-returns-clause-ok
+unfolding read_block
+read_block-returns-clause-ok t c =
+    let at = c.args.at.now in
+    let d = view c.args.v.now in
+    let named : required at (pos 3) (field as_str (codes "gui") d) ≡ Ok (string_bytes c.in_ok-gui.gui) = c.in_ok-gui.ensures.ok in
+    let valued : required at (pos 4) (field whole_object (codes "model") d) ≡ Ok (view c.in_ok-value.value.now) = c.in_ok-value.ensures.ok in
+    let whole = subst (λ ts. IfOk c.block_of.result (λ b. modelled (diagram_at c.args.left) at (string_bytes c.in_ok-gui.gui) (view ts) ≡ Ok (block_view b))) c.of.ensures c.block_of.ensures.ok in
+    rw (named, valued) whole
+
+pub read_block-returns-clause-stop : goal.read_block-returns-clause-stop
+unfolding read_block
+read_block-returns-clause-stop t c =
+    let at = c.args.at.now in
+    let d = view c.args.v.now in
+    let named : required at (pos 3) (field as_str (codes "gui") d) ≡ Ok (string_bytes c.in_ok-gui.gui) = c.in_ok-gui.ensures.ok in
+    let valued : required at (pos 4) (field whole_object (codes "model") d) ≡ Ok (view c.in_ok-value.value.now) = c.in_ok-value.ensures.ok in
+    let whole = subst (λ ts. IfErr c.block_of.result (λ e. Stops (modelled (diagram_at c.args.left) at (string_bytes c.in_ok-gui.gui) (view ts)) e)) c.of.ensures c.block_of.ensures.stop in
+    rw (named, valued) whole
+
+pub block_of-read_diagram-requires : goal.block_of-read_diagram-requires
+block_of-read_diagram-requires t c =
+    let inside = at_most (λ e. weight e + 1) (weight (view c.args.model.now)) (get (codes "rpar") (view c.args.model.now)) (view c.in-Some.rpar.now) (get_light (codes "rpar") (view c.args.model.now)) (sym c.in-Some.ensures) in
+    (omega arith, (omega (arith, inside), omega arith))
 
 pub read_diagram-returns-then-left-eq0-clause-stop :
     goal.read_diagram-returns-then-left-eq0-clause-stop

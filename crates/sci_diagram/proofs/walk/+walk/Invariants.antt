@@ -7,16 +7,22 @@ use Rattle.sci_diagram.proofs.Walking.{rest}
 use Rattle.sci_diagram.proofs.walk.+walk.Given as goal
 
 abbrev pub decreases-read_diagram : goal.decreases-read_diagram
-decreases-read_diagram l = 4 * l.left
+decreases-read_diagram l = 6 * l.left
 
 abbrev pub decreases-read_objs : goal.decreases-read_objs
-decreases-read_objs l = 4 * l.left + 3
+decreases-read_objs l = 6 * l.left + 5
 
 abbrev pub decreases-read_obj : goal.decreases-read_obj
-decreases-read_obj l = 4 * l.left + 2
+decreases-read_obj l = 6 * l.left + 4
+
+abbrev pub decreases-obj_of : goal.decreases-obj_of
+decreases-obj_of l = 6 * l.left + 3
 
 abbrev pub decreases-read_block : goal.decreases-read_block
-decreases-read_block l = 4 * l.left + 1
+decreases-read_block l = 6 * l.left + 2
+
+abbrev pub decreases-block_of : goal.decreases-block_of
+decreases-block_of l = 6 * l.left + 1
 
 abbrev pub invariant-read_objs-loop-item : goal.invariant-read_objs-loop-item
 invariant-read_objs-loop-item l = record {

@@ -24,19 +24,20 @@ use Rattle.sci_run.specs.Run.{StopsWith, Leads, after_reaction}
 use Rattle.sci_store.specs.Blocks.{AreBlocksByNumber}
 use Rattle.sci_store.specs.Chosen.{active_of_kinds}
 use Rattle.sci_store.specs.Passed.{IsPassed, IsValued}
-use Rattle.sci_store.specs.Rows.{Row}
-use Rattle.sci_store.specs.Store.{Standing, ShowsValues}
+use Rattle.sci_store.specs.Rows.{Row, KeepsBegun}
+use Rattle.sci_store.specs.Store.{Standing, IsStore, ShowsValues}
 use Rattle.sci_store.specs.Tally.{lines_after}
 use Rattle.sci_store.specs.Written.{AreAmong, IsHeader, sum_of, tallied}
 use Rattle.sci_store.proofs.Writing.{tallied_twice}
 use Rattle.sci_store.proofs.Reacting.{kept_counts, store_alike, range_alike, masks_alike, sensed_alike, shown_alike, before_alike, before_here, outcome_here, shown_marks}
 use Rattle.sci_store.proofs.StateRuns.{begun_behind}
-use Rattle.sci_sim.specs.At.{Running}
+use Rattle.sci_sim.specs.At.{Running, IsReady}
 use Rattle.sci_sim.specs.Rows.{row_in}
 use Rattle.sci_sim.specs.Programming.{Keeps}
-use Rattle.sci_sim.proofs.Cleared.{outcome_in, reacted_cleared, halted_in}
+use Rattle.sci_sim.proofs.Cleared.{outcome_in, reacted_cleared, halted_in, ready_behind}
 use Rattle.sci_sim.proofs.Reacting.{source_within, among_row, shows_after, header_is, halts_by_number}
 use Rattle.sci_sim.proofs.Entered.{IsEntered, entered_by, stood, stood_is, source_free, row_of_source, ready_row, shown_entered, counts_small, may_step}
+use Rattle.sci_sim.proofs.Resting.{ready_tallied}
 use Rattle.sci_sim.proofs.Steps.{none_of}
 use Rattle.sci_sim.proofs.ready.Ready.react.Given.{Over}
 use Rattle.sci_sim.proofs.ready.Ready.react.Goals.{After-index-row, After-header-header, After-observe, After-write_reaction}
@@ -108,6 +109,12 @@ pass-requires-clause-memory g c =
     (c.requires.shown.0.memory, s.memory, s.in_range)
 
 -- ---- a reaction that stops
+
+-- behind the pass of the row the net is ready still
+ready_passed : (g : Over) (c : After-index-row g) (t : Standing) → IsStore c.self.inside.frame t → KeepsBegun c.self.inside.frame c.index-row.result.now t → IsReady (record (view g c) { store = t })
+ready_passed g c t store kept =
+    let h = entered g c in
+    ready_behind (view g c) c.args.source c.index-row.result.now t c.self.inside.wheel c.self.inside.halted h.ready (ap (λ (x : Running). x.row) h.is) h.within h.row_is store kept
 
 err_of : {T E : Type 0} (r : Result T E) → IsErr r → (e : E) × (r ≡ Err e)
 err_of (Ok x) h = absurd (true≢false (sym h))
@@ -208,6 +215,20 @@ returns-in-Some-clause-reacted g c st shows =
         };
       }),
     )
+
+pub invariant_of-self-in_err-observe-2 : goal.invariant_of-self-in_err-observe-2
+invariant_of-self-in_err-observe-2 g c =
+    let at = (goal.at.invariant_of-self-in_err-observe-2 g c).After-index-row in
+    let passed = ready_passed g at c.pass.new.self c.pass.ensures.sound.store c.pass.ensures.kept in
+    let told = ready_tallied (record (view g at) { store = c.pass.new.self }) c.observe.new.self (c.header-header.result ∷ []) c.in_ok-observe.ensures.counted passed in
+    subst (λ (x : Standing). IsReady (record (view g at) { store = x })) (sym c.in_err-observe-2.ensures.kept) told
+
+pub invariant_of-self-in-Some : goal.invariant_of-self-in-Some
+invariant_of-self-in-Some g c =
+    let at = (goal.at.invariant_of-self-in-Some g c).After-index-row in
+    let passed = ready_passed g at c.pass.new.self c.pass.ensures.sound.store c.pass.ensures.kept in
+    let told = ready_tallied (record (view g at) { store = c.pass.new.self }) c.observe.new.self (c.header-header.result ∷ []) c.in_ok-observe.ensures.counted passed in
+    ready_tallied (record (view g at) { store = c.observe.new.self }) c.observe-in-Some.new.self (Stop c.in-Some.word (to_z w64 (of_z w64 c.from.result)) (pos 0) ∷ []) c.in_ok-observe-2.ensures.counted told
 
 -- ---- a reaction with values
 

@@ -1,10 +1,10 @@
-use Rattle.std.proofs.Common.{rules, ◌≡◌, ◌++◌, List, ℕ, ℤ, subst, sym, [], Ok, codes, w64, to_z, of_z, arith}
+use Rattle.std.proofs.Common.{rules, ◌≡◌, ◌∙◌, ◌++◌, List, ℕ, ℤ, subst, sym, ap, refl, [], Ok, codes, w64, to_z, of_z, arith}
 use Rattle.std.proofs.lemmas.Int.{to_z-of_z}
 use Rattle.std.specs.Fmt.{signed_decimal}
 use Rattle.sci_io.specs.Taken.{Writes}
 use Rattle.sci_io.specs.declared.sink.Failed.{Failed}
-use Rattle.sci_store.specs.Paged.{paged}
-use Rattle.sci_store.proofs.Paging.{line_waits, piece_behind, none_given}
+use Rattle.sci_store.specs.Paged.{paged, IsKeptBack}
+use Rattle.sci_store.proofs.Paging.{line_waits, piece_behind, none_given, had_room}
 use Rattle.sci_store.proofs.lines.Lines.put.Goals as goal
 use Rattle.sci_store.proofs.lines.Lines.put.Goals.{then-self-gt-ONE_MORE+in_ok-give, else-self-gt-ONE_MORE}
 
@@ -27,4 +27,23 @@ returns-clause-written g c =
           added
       | else-self-gt-ONE_MORE w ↦ subst (λ (out : g.row.S.Denot). Writes {T = Unit {0}} {E = Failed} (paged (g.S.Sink.state out) c.args.self.now) after text (Ok tt)) w.out-is
           (subst (λ (b : List ℕ). Writes {T = Unit {0}} {E = Failed} (paged (g.S.Sink.state mid.out) b) after text (Ok tt)) w.self-is added)
+    ]
+
+pub returns-in_err-give-clause-waits : goal.returns-in_err-give-clause-waits
+returns-in_err-give-clause-waits g c room =
+    absurd (had_room c.self.inside.text.items c.args.self.now c.self.inside.len c.self.view_is c.self.invariant room c.if-self-gt-ONE_MORE.true)
+
+pub returns-clause-waits : goal.returns-clause-waits
+returns-clause-waits g c room =
+    let value : to_z w64 (of_z w64 c.args.value) ≡ c.args.value = grind (arith, to_z-of_z) in
+    let mid = c.if-self-gt-ONE_MORE in
+    let line = c.args.head.now ++ (signed_decimal c.args.value ++ codes "\n") in
+    let added = subst (λ (z : ℤ). c.add.new.self ≡ mid.self ++ (c.args.head.now ++ (signed_decimal z ++ codes "\n"))) value c.add.ensures in
+    elim c.if-self-gt-ONE_MORE.branch [
+      | then-self-gt-ONE_MORE+in_ok-give w ↦ absurd (had_room c.self.inside.text.items c.args.self.now c.self.inside.len c.self.view_is c.self.invariant room w.if-self-gt-ONE_MORE.true)
+      | else-self-gt-ONE_MORE w ↦ record {
+        fine = refl;
+        sink = ap (λ (out : g.row.S.Denot). g.S.Sink.state out) w.out-is;
+        waits = added ∙ ap (λ (l : List ℕ). l ++ line) w.self-is;
+      }
     ]

@@ -131,6 +131,9 @@ pub returns-clause-sound : goal.returns-clause-sound
 returns-clause-sound g c =
     record { store = (c.loop-run.invariant c.well_formed-2.ensures).store; seated = (c.loop-run.invariant c.well_formed-2.ensures).seated }
 
+pub returns-clause-values : goal.returns-clause-values
+returns-clause-values g c = (c.loop-run.invariant c.well_formed-2.ensures).in_range
+
 pub returns-clause-kept : goal.returns-clause-kept
 returns-clause-kept g c =
     kept_last c.args.frame.now c.well_formed-2.ensures c.args.inputs.now c.args.row.now c.loop-run.run-index c.args.self.now c.loop-run.self c.args.lib.now c.loop-run.lib c.loop-run.stop

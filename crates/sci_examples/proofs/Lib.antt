@@ -1,0 +1,13 @@
+pub mod Blocks
+pub mod PendingEvents
+pub mod Nets
+pub mod Reactions
+pub mod Halts
+pub mod Runs
+pub mod Schedules
+pub mod Feeding
+pub mod Inference
+pub mod Traces
+pub mod Images
+pub mod Dumps
+pub mod Verdicts
