@@ -501,7 +501,10 @@ def bulk_at_the_limits(program):
     """The greatest seed with the greatest size, and the least ones, beside a run in plain Python."""
     shown = 'bulk 2008 9 3995 0 425653 193831096\n', 'bulk 10 9 10 0 1126 123\n'  # by a program of another make
     wrong = [] if (bulk_line(1, 2000), bulk_line(5, 2)) == shown else ['another run in plain Python']
-    dues = [('bulk %d %d' % pair, whole(bulk_line(*pair))) for pair in ((2**32 - 1, 2000), (2**32 - 1, 1), (0, 1), (0, 2000))]
+    # drawn by hand: a delay of block 1 on clock 3, three times block 1, three times block 2, the sum of blocks 4 and 1
+    drawn = [('one', 0, 0), ('delay', 1, 1), ('triple', 1, 1), ('triple', 2, 3), ('sum', 4, 1)]
+    wrong += [] if list(drawn_blocks(5, 5)) == drawn else ['another diagram in plain Python']
+    dues = [('bulk %d %d' % pair, whole(bulk_line(*pair))) for pair in ((2**32 - 1, 2000), (2**32 - 1, 1), (0, 1), (0, 2000), (5, 5))]
     return '; '.join(wrong + wrong_in_folder(program, {}, *dues))
 
 

@@ -88,6 +88,36 @@ def spaces_of_code(program):
     return '; '.join(wrong)[:800]
 
 
+HEAD_OF_C = text(HERE, 'crun-primes', 'c').decode().split('static')[0]
+V1, MAIN = 'static int64_t v1;\n', 'void sci_main(void) {\n'
+LOOP_OF_V1 = MAIN + '  for (v1 = INT64_C(0); v1 < INT64_C(3); v1 = v1 + INT64_C(1)) {\n    %s\n  }\n}\n'
+SIXTEEN_IFS = MAIN + ''.join('  ' * k + 'if (INT64_C(1)) {\n' for k in range(1, 17))
+# C behind its declarations of outer functions that is none, by the byte that is blamed: a line is missing, or one is too many; a second list whose statements
+# would stand 17 deep, an empty one; a name that is declared twice, one that isn't, an array in place of a number; and a loop's counter that is assigned in a
+# function that is called, in one that this one calls behind another that does nothing
+WRONG_C = [(MAIN, 416), (MAIN + '}\n\n', 418), (SIXTEEN_IFS + '  ' * 16 + '} else {\n', 976), (MAIN + '  if (INT64_C(1)) {\n  } else {\n  }\n}\n', 447),
+           (V1 + V1 + MAIN + '}\n', 428), (V1 + MAIN + '  v2 = INT64_C(0);\n}\n', 437),
+           (V1 + 'static int64_t v2[16];\n' + MAIN + '  if ((v1 + v2[v3])) {\n    v1 = v2;\n  }\n}\n', 473),
+           (V1 + 'static void f1(void) {\n  v1 = INT64_C(1);\n}\n' + LOOP_OF_V1 % 'f1();', 548),
+           (V1 + 'static void f0(void) {\n  v1 = INT64_C(1);\n}\nstatic void g0(void) {\n  f0();\n}\nstatic void h0(void) {\n}\n'
+            + LOOP_OF_V1 % 'h0();\n    g0();', 616)]
+# C that comes to a statement without meaning, by its number: the list of an If that is passed over counts, and so does a loop's first turn alone
+SKIPPED = '    if (INT64_C(0)) {\n%s%s    } else {\n%s      v1 = (INT64_C(1) / INT64_C(0));\n    }\n' % (('      v1 = INT64_C(0);\n',) * 3)
+UNDEFINED_C = [(V1 + MAIN + '  v1 = INT64_C(9223372036854775807);\n  v1 = (v1 + INT64_C(1));\n}\n', 2),
+               (V1 + 'static int64_t k1;\n' + MAIN + '  for (k1 = INT64_C(0); k1 < INT64_C(3); k1 = k1 + INT64_C(1)) {\n' + SKIPPED + '  }\n}\n', 6)]
+
+
+def wrong_programs(program):
+    """The first byte of a text that is no C of the subset is blamed, and the first statement without meaning is told by its number."""
+    wrong = []
+    for content, due in [(HEAD_OF_C + behind, refused('26 NotC at - %d' % byte)) for behind, byte in WRONG_C] \
+            + [('#include <stdint.h>\nextern  void sci_start(void);\n', refused('26 NotC at - 20'))] \
+            + [(HEAD_OF_C + behind, (b'', b'undefined at %d\n' % number, 7)) for behind, number in UNDEFINED_C]:
+        given = in_folder(program, ['crun', 'c', 'i', '10', '10'], c=content.encode(), i=b'[]')
+        wrong += [] if given == due else ['%r: %r in place of %r' % (content[-120:], given, due)]
+    return '; '.join(wrong)[:800]
+
+
 def opened(program, words, work):
     """The names of the files that a run opens, in order; None where strace can't tell."""
     log = os.path.join(work, 'log')
@@ -145,4 +175,4 @@ def page_of_mistakes(program):
     return ', '.join(wrong) or ('' if len(named) > 40 else 'too few names: %d' % len(named))
 
 
-OF_MISTAKES = [page_of_mistakes, removed_between_neighbours, far_events_in_order, events_in_many_chains, spaces_of_code, files_asked]
+OF_MISTAKES = [page_of_mistakes, removed_between_neighbours, far_events_in_order, events_in_many_chains, spaces_of_code, wrong_programs, files_asked]

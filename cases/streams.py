@@ -85,27 +85,72 @@ def full_disk(program):
     return '; '.join(wrong)
 
 
+def with_room(room):
+    """For a run of which each file that it writes may have so many bytes: more is a fault, and no signal."""
+    def limit():
+        signal.signal(signal.SIGXFSZ, signal.SIG_IGN)
+        resource.setrlimit(resource.RLIMIT_FSIZE, (room, room))
+    return {'restore_signals': False, 'preexec_fn': limit}
+
+
 def a_file_with_room(program, steps=40):
     """Standard output is a file that may have so many bytes and no more: it gets a front of what is due, and the fault is told. So many rooms are tried
     of each answer, or with None every one."""
-    def limited(room):
-        def limit():
-            signal.signal(signal.SIGXFSZ, signal.SIG_IGN)
-            resource.setrlimit(resource.RLIMIT_FSIZE, (room, room))
-        return limit
     wrong = []
     with tempfile.TemporaryDirectory() as work:
         for words, due in meter(program, work):
             for room in sorted({0, 1, len(due) - 1, len(due), *range(2, len(due), 1 + len(due) // steps if steps else 1)}):
                 with open(os.path.join(work, 'out'), 'wb') as out:
-                    ended = subprocess.run([program] + words, cwd=work, stdout=out, stderr=subprocess.PIPE, timeout=60,
-                                           restore_signals=False, preexec_fn=limited(room))
+                    ended = subprocess.run([program] + words, cwd=work, stdout=out, stderr=subprocess.PIPE, timeout=60, **with_room(room))
                 took = text(work, 'out')
                 whole = (took, ended.stderr, ended.returncode) == (due, b'', 0)
                 cut = due.startswith(took) and len(took) <= room and (ended.stderr, ended.returncode) == (WRITE_FAULT, 4)
                 if not (whole if room >= len(due) else cut):
                     wrong.append('%s, %d bytes: %r with %r' % (words[0], room, ended, took[:80]))
     return '; '.join(wrong[:3])
+
+
+def folder_cases():
+    """The cases of files: the words, the names of the files that they name, and what is due on out, on err, and as status."""
+    for name in sorted(os.listdir(HERE)):
+        folder = os.path.join(HERE, name)
+        if os.path.exists(os.path.join(folder, 'words')):
+            words, status = text(folder, 'words').decode().split('\n')[:-1], int(text(folder, 'status'))
+            err = text(HERE, 'no-words', 'err') if status == 2 else text(folder, 'err')
+            yield folder, words, [word for word in words[1:] if os.path.exists(os.path.join(folder, word))], (text(folder, 'out'), err, status)
+
+
+def wrong_on_faults(program, folder, words, names, due):
+    """What is wrong with a case where out or err takes nothing, where out takes a half of what is due, or all but its last byte, and where a file is
+    missing that the case reads whole."""
+    (out, err, status), wrong = due, []
+    with tempfile.TemporaryDirectory() as work, open('/dev/full', 'wb') as full:
+        for name in names:
+            shutil.copy(os.path.join(folder, name), work)
+        told = subprocess.run([program] + words, cwd=work, stdin=subprocess.DEVNULL, stdout=full, stderr=subprocess.PIPE, timeout=60)
+        wrong += [] if (told.stderr, told.returncode) == ((WRITE_FAULT, 4) if out else (err, status)) else ['full out: %r' % told]
+        shown = subprocess.run([program] + words, cwd=work, stdin=subprocess.DEVNULL, stdout=subprocess.PIPE, stderr=full, timeout=60)
+        wrong += [] if (shown.stdout, shown.returncode) == (out, 4 if err else status) else ['full err: %r' % shown]
+        for room in sorted({len(out) // 2, len(out) - 1}) if out else ():
+            with open(os.path.join(work, '.out'), 'wb') as to:
+                cut = subprocess.run([program] + words, cwd=work, stdin=subprocess.DEVNULL, stdout=to, stderr=subprocess.PIPE, timeout=60, **with_room(room))
+            took = text(work, '.out')
+            wrong += [] if out.startswith(took) and len(took) <= room and (cut.stderr, cut.returncode) == (WRITE_FAULT, 4) else ['%d bytes: %r' % (room, cut)]
+        for name in names if status in (0, 6, 7, 8) else ():
+            os.rename(os.path.join(work, name), os.path.join(work, '.away'))
+            given = run(program, words, cwd=work)
+            wrong += [] if given == READ_FAULT else ['no %s: %r' % (name, given)]
+            os.rename(os.path.join(work, '.away'), os.path.join(work, name))
+    return ['%s, %s' % (os.path.basename(folder), told)[:400] for told in wrong]
+
+
+def faults_of_cases(program):
+    """Each case of files where a stream or a file fails: nothing but a front of what is due stands on out, and the fault is told."""
+    wrong, tried = [], 0
+    for case in folder_cases():
+        wrong += wrong_on_faults(program, *case)
+        tried += 1
+    return '; '.join(wrong[:5]) if tried > 140 else 'only %d cases were tried' % tried
 
 
 def closed_streams(program):
@@ -444,7 +489,7 @@ def words(program):
         lines = [[], [''], ['help'], ['--help'], ['--version'], ['x' * 100000], ['check'] * 200, [''] * 200, ['simulate', 'd', 'i', '30', '100'] * 40, ['d', 'check'],
                  ['Check', 'd'], ['check ', 'd'], ['host', ''], ['simulate', 'd', 'i', '+30', '100'], ['simulate', 'd', 'i', '30', '1e2'], ['simulate', 'd', 'i', '', '100'],
                  ['simulate', 'd', 'i', '4611686018427387905', '1'], ['simulate', 'd', 'i', '9' * 5000, '1'], ['crun', 'c', 'i', '-0', '1'], ['bulk', '4294967296', '1']]
-        lines += [[word] for word in due if word != 'host']
+        lines += [['vcdat', 'w', '07'], ['save', 'd', 'i', '30', '100', '0'], ['bulk', '5', '0']] + [[word] for word in due if word != 'host']
         lines += [given[0] + ['x'] for given in due.values()]
         wrong = without(USAGE, *((repr(line)[:60], run(program, line, cwd=work)) for line in lines))
         return wrong or without((due['host'][1], b'', 0), ('host', run(program, ['host'], cwd=work)))
@@ -525,5 +570,5 @@ def little_stack(program):
     return '; '.join(limited(program, ['-s %d' % size for size in sizes] + ['-s 1024', '-s 8192'], ('-s 1024', '-s 8192'))[0][:3])
 
 
-STREAMS = [full_disk, a_file_with_room, closed_streams, reader_leaves, no_reader, slow_reader, terminal, no_files, fifo, unreadable, cut_while_read,
-           endless_files, names, words, little_memory, little_stack]
+STREAMS = [full_disk, a_file_with_room, faults_of_cases, closed_streams, reader_leaves, no_reader, slow_reader, terminal, no_files, fifo, unreadable,
+           cut_while_read, endless_files, names, words, little_memory, little_stack]

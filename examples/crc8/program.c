@@ -48,9 +48,9 @@ static void f5(void) {
   t3 = INT64_C(1);
   for (t4 = INT64_C(0); t4 < INT64_C(8); t4 = t4 + INT64_C(1)) {
     t1 = INT64_C(0);
-    t1 = (t1 + (((((v1[INT64_C(1)] % INT64_C(256)) + INT64_C(256)) % INT64_C(256)) / t3) % INT64_C(2)));
-    t1 = (t1 + (((((v1[INT64_C(0)] % INT64_C(256)) + INT64_C(256)) % INT64_C(256)) / t3) % INT64_C(2)));
-    t2 = (t2 + ((int64_t)((t1 % INT64_C(2)) == INT64_C(1)) * t3));
+    t1 = (t1 + (((((v1[INT64_C(1)] * t3) % INT64_C(256)) + INT64_C(256)) % INT64_C(256)) / INT64_C(128)));
+    t1 = (t1 + (((((v1[INT64_C(0)] * t3) % INT64_C(256)) + INT64_C(256)) % INT64_C(256)) / INT64_C(128)));
+    t2 = ((t2 * INT64_C(2)) + (int64_t)((t1 % INT64_C(2)) == INT64_C(1)));
     t3 = (t3 * INT64_C(2));
   }
   v1[INT64_C(2)] = (INT64_C(0) + ((((t2 - INT64_C(0)) % INT64_C(256)) + INT64_C(256)) % INT64_C(256)));
@@ -66,29 +66,26 @@ static void f8(void) {
   t3 = INT64_C(1);
   for (t4 = INT64_C(0); t4 < INT64_C(8); t4 = t4 + INT64_C(1)) {
     t1 = INT64_C(0);
-    t1 = (t1 + (((((v1[INT64_C(3)] % INT64_C(256)) + INT64_C(256)) % INT64_C(256)) / t3) % INT64_C(2)));
-    t1 = (t1 + (((((v1[INT64_C(4)] % INT64_C(256)) + INT64_C(256)) % INT64_C(256)) / t3) % INT64_C(2)));
-    t2 = (t2 + ((int64_t)((t1 % INT64_C(2)) == INT64_C(1)) * t3));
+    t1 = (t1 + (((((v1[INT64_C(3)] * t3) % INT64_C(256)) + INT64_C(256)) % INT64_C(256)) / INT64_C(128)));
+    t1 = (t1 + (((((v1[INT64_C(4)] * t3) % INT64_C(256)) + INT64_C(256)) % INT64_C(256)) / INT64_C(128)));
+    t2 = ((t2 * INT64_C(2)) + (int64_t)((t1 % INT64_C(2)) == INT64_C(1)));
     t3 = (t3 * INT64_C(2));
   }
   v1[INT64_C(5)] = (INT64_C(0) + ((((t2 - INT64_C(0)) % INT64_C(256)) + INT64_C(256)) % INT64_C(256)));
 }
 static void f9(void) {
-  t1 = v1[INT64_C(3)];
   if ((int64_t)(v1[INT64_C(1)] >= INT64_C(128))) {
-    t1 = v1[INT64_C(5)];
+    v1[INT64_C(6)] = v1[INT64_C(5)];
+  } else {
+    v1[INT64_C(6)] = v1[INT64_C(3)];
   }
-  v1[INT64_C(6)] = t1;
 }
 static void f10(void) {
-  t1 = INT64_C(0);
-  if (((v3[INT64_C(9)] / INT64_C(2)) % INT64_C(2))) {
-    t1 = v1[INT64_C(6)];
-  }
   if (((v3[INT64_C(9)] / INT64_C(1)) % INT64_C(2))) {
-    t1 = v1[INT64_C(2)];
+    v1[INT64_C(7)] = v1[INT64_C(2)];
+  } else {
+    v1[INT64_C(7)] = v1[INT64_C(6)];
   }
-  v1[INT64_C(7)] = t1;
 }
 static void f11(void) {
   v1[INT64_C(8)] = v2[INT64_C(1)];
@@ -107,14 +104,11 @@ static void f14(void) {
   v1[INT64_C(11)] = INT64_C(8);
 }
 static void f15(void) {
-  t1 = INT64_C(0);
-  if (((v3[INT64_C(14)] / INT64_C(2)) % INT64_C(2))) {
-    t1 = v1[INT64_C(10)];
-  }
   if (((v3[INT64_C(14)] / INT64_C(1)) % INT64_C(2))) {
-    t1 = v1[INT64_C(11)];
+    v1[INT64_C(12)] = v1[INT64_C(11)];
+  } else {
+    v1[INT64_C(12)] = v1[INT64_C(10)];
   }
-  v1[INT64_C(12)] = t1;
 }
 static void f16(void) {
   v1[INT64_C(13)] = INT64_C(0);
@@ -123,11 +117,11 @@ static void f17(void) {
   v1[INT64_C(14)] = (-INT64_C(1));
 }
 static void f18(void) {
-  t1 = v1[INT64_C(14)];
   if ((int64_t)(v1[INT64_C(12)] > INT64_C(0))) {
-    t1 = v1[INT64_C(13)];
+    v1[INT64_C(15)] = v1[INT64_C(13)];
+  } else {
+    v1[INT64_C(15)] = v1[INT64_C(14)];
   }
-  v1[INT64_C(15)] = t1;
 }
 static void f19(void) {
 }

@@ -71,21 +71,21 @@ static void f9(void) {
   v1[INT64_C(7)] = INT64_C(0);
 }
 static void f10(void) {
-  t1 = v1[INT64_C(7)];
   if ((int64_t)(v1[INT64_C(5)] > INT64_C(0))) {
-    t1 = v1[INT64_C(6)];
+    v1[INT64_C(8)] = v1[INT64_C(6)];
+  } else {
+    v1[INT64_C(8)] = v1[INT64_C(7)];
   }
-  v1[INT64_C(8)] = t1;
 }
 static void f11(void) {
   v1[INT64_C(9)] = INT64_C(1);
 }
 static void f12(void) {
-  t1 = v1[INT64_C(8)];
   if ((int64_t)(v1[INT64_C(5)] >= INT64_C(3))) {
-    t1 = v1[INT64_C(9)];
+    v1[INT64_C(10)] = v1[INT64_C(9)];
+  } else {
+    v1[INT64_C(10)] = v1[INT64_C(8)];
   }
-  v1[INT64_C(10)] = t1;
 }
 static void f13(void) {
   v1[INT64_C(11)] = INT64_C(2);
@@ -107,14 +107,11 @@ static void f17(void) {
   v1[INT64_C(14)] = INT64_C(2147483647);
 }
 static void f18(void) {
-  t1 = INT64_C(0);
-  if (((v3[INT64_C(17)] / INT64_C(2)) % INT64_C(2))) {
-    t1 = v1[INT64_C(14)];
-  }
   if (((v3[INT64_C(17)] / INT64_C(1)) % INT64_C(2))) {
-    t1 = v1[INT64_C(13)];
+    v1[INT64_C(15)] = v1[INT64_C(13)];
+  } else {
+    v1[INT64_C(15)] = v1[INT64_C(14)];
   }
-  v1[INT64_C(15)] = t1;
 }
 static void f19(void) {
 }
@@ -151,14 +148,11 @@ static void f27(void) {
   v1[INT64_C(23)] = INT64_C(0);
 }
 static void f28(void) {
-  t1 = INT64_C(0);
-  if (((v3[INT64_C(27)] / INT64_C(2)) % INT64_C(2))) {
-    t1 = v1[INT64_C(23)];
-  }
   if (((v3[INT64_C(27)] / INT64_C(1)) % INT64_C(2))) {
-    t1 = v1[INT64_C(22)];
+    v1[INT64_C(24)] = v1[INT64_C(22)];
+  } else {
+    v1[INT64_C(24)] = v1[INT64_C(23)];
   }
-  v1[INT64_C(24)] = t1;
 }
 static void g2(void) {
   if (v4[INT64_C(1)]) {

@@ -71,11 +71,11 @@ static void f10(void) {
   v1[INT64_C(7)] = INT64_C(0);
 }
 static void f11(void) {
-  t1 = v1[INT64_C(7)];
   if ((int64_t)(v1[INT64_C(0)] > INT64_C(0))) {
-    t1 = v1[INT64_C(6)];
+    v1[INT64_C(8)] = v1[INT64_C(6)];
+  } else {
+    v1[INT64_C(8)] = v1[INT64_C(7)];
   }
-  v1[INT64_C(8)] = t1;
 }
 static void f12(void) {
   v1[INT64_C(9)] = INT64_C(2);
@@ -84,11 +84,11 @@ static void f13(void) {
   v1[INT64_C(10)] = INT64_C(1);
 }
 static void f14(void) {
-  t1 = v1[INT64_C(10)];
   if ((int64_t)(v1[INT64_C(30)] >= INT64_C(100))) {
-    t1 = v1[INT64_C(9)];
+    v1[INT64_C(11)] = v1[INT64_C(9)];
+  } else {
+    v1[INT64_C(11)] = v1[INT64_C(10)];
   }
-  v1[INT64_C(11)] = t1;
 }
 static void f15(void) {
   v1[INT64_C(12)] = INT64_C(3);
@@ -97,43 +97,43 @@ static void f16(void) {
   v1[INT64_C(13)] = INT64_C(0);
 }
 static void f17(void) {
-  t1 = v1[INT64_C(13)];
   if ((int64_t)(v1[INT64_C(30)] > INT64_C(0))) {
-    t1 = v1[INT64_C(12)];
+    v1[INT64_C(14)] = v1[INT64_C(12)];
+  } else {
+    v1[INT64_C(14)] = v1[INT64_C(13)];
   }
-  v1[INT64_C(14)] = t1;
 }
 static void f18(void) {
   v1[INT64_C(15)] = INT64_C(1);
 }
 static void f19(void) {
-  t1 = v1[INT64_C(14)];
   if ((int64_t)(v1[INT64_C(2)] > INT64_C(0))) {
-    t1 = v1[INT64_C(15)];
+    v1[INT64_C(16)] = v1[INT64_C(15)];
+  } else {
+    v1[INT64_C(16)] = v1[INT64_C(14)];
   }
-  v1[INT64_C(16)] = t1;
 }
 static void f20(void) {
   v1[INT64_C(17)] = INT64_C(3);
 }
 static void f21(void) {
-  t1 = INT64_C(0);
-  if (((v3[INT64_C(20)] / INT64_C(16)) % INT64_C(2))) {
-    t1 = v1[INT64_C(17)];
-  }
-  if (((v3[INT64_C(20)] / INT64_C(8)) % INT64_C(2))) {
-    t1 = v1[INT64_C(16)];
-  }
-  if (((v3[INT64_C(20)] / INT64_C(4)) % INT64_C(2))) {
-    t1 = v1[INT64_C(3)];
-  }
-  if (((v3[INT64_C(20)] / INT64_C(2)) % INT64_C(2))) {
-    t1 = v1[INT64_C(11)];
-  }
   if (((v3[INT64_C(20)] / INT64_C(1)) % INT64_C(2))) {
-    t1 = v1[INT64_C(8)];
+    v1[INT64_C(18)] = v1[INT64_C(8)];
+  } else {
+    if (((v3[INT64_C(20)] / INT64_C(2)) % INT64_C(2))) {
+      v1[INT64_C(18)] = v1[INT64_C(11)];
+    } else {
+      if (((v3[INT64_C(20)] / INT64_C(4)) % INT64_C(2))) {
+        v1[INT64_C(18)] = v1[INT64_C(3)];
+      } else {
+        if (((v3[INT64_C(20)] / INT64_C(8)) % INT64_C(2))) {
+          v1[INT64_C(18)] = v1[INT64_C(16)];
+        } else {
+          v1[INT64_C(18)] = v1[INT64_C(17)];
+        }
+      }
+    }
   }
-  v1[INT64_C(18)] = t1;
 }
 static void f22(void) {
   v1[INT64_C(19)] = INT64_C(2);
@@ -170,21 +170,21 @@ static void f31(void) {
   v1[INT64_C(26)] = INT64_C(0);
 }
 static void f32(void) {
-  t1 = v1[INT64_C(25)];
   if ((int64_t)(v1[INT64_C(18)] != INT64_C(3))) {
-    t1 = v1[INT64_C(26)];
+    v1[INT64_C(27)] = v1[INT64_C(26)];
+  } else {
+    v1[INT64_C(27)] = v1[INT64_C(25)];
   }
-  v1[INT64_C(27)] = t1;
 }
 static void f33(void) {
   v1[INT64_C(28)] = INT64_C(20);
 }
 static void f34(void) {
-  t1 = v1[INT64_C(28)];
   if ((int64_t)(v1[INT64_C(18)] != INT64_C(1))) {
-    t1 = v1[INT64_C(27)];
+    v1[INT64_C(29)] = v1[INT64_C(27)];
+  } else {
+    v1[INT64_C(29)] = v1[INT64_C(28)];
   }
-  v1[INT64_C(29)] = t1;
 }
 static void f35(void) {
   v1[INT64_C(30)] = v2[INT64_C(1)];

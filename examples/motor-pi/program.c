@@ -160,11 +160,11 @@ static void f21(void) {
   v1[INT64_C(17)] = INT64_C(0);
 }
 static void f22(void) {
-  t1 = v1[INT64_C(8)];
   if ((int64_t)(v1[INT64_C(16)] > INT64_C(0))) {
-    t1 = v1[INT64_C(17)];
+    v1[INT64_C(18)] = v1[INT64_C(17)];
+  } else {
+    v1[INT64_C(18)] = v1[INT64_C(8)];
   }
-  v1[INT64_C(18)] = t1;
 }
 static void f23(void) {
   t1 = INT64_C(0);

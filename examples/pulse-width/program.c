@@ -62,7 +62,7 @@ static void g2(void) {
     }
   }
   if (v4[INT64_C(1)]) {
-    v2[INT64_C(0)] = ((((v2[INT64_C(0)] + INT64_C(1)) % INT64_C(8)) + INT64_C(8)) % INT64_C(8));
+    v2[INT64_C(0)] = ((int64_t)((v2[INT64_C(0)] + INT64_C(1)) < INT64_C(8)) * (v2[INT64_C(0)] + INT64_C(1)));
   }
 }
 static void g1(void) {

@@ -84,11 +84,11 @@ static void f11(void) {
   v1[INT64_C(9)] = (-INT64_C(1));
 }
 static void f12(void) {
-  t1 = v1[INT64_C(9)];
   if ((int64_t)(v1[INT64_C(4)] >= INT64_C(0))) {
-    t1 = v1[INT64_C(8)];
+    v1[INT64_C(10)] = v1[INT64_C(8)];
+  } else {
+    v1[INT64_C(10)] = v1[INT64_C(9)];
   }
-  v1[INT64_C(10)] = t1;
 }
 static void f13(void) {
 }
@@ -143,7 +143,7 @@ static void g2(void) {
     }
   }
   if (v4[INT64_C(2)]) {
-    v2[INT64_C(0)] = ((((v2[INT64_C(0)] + INT64_C(1)) % INT64_C(32768)) + INT64_C(32768)) % INT64_C(32768));
+    v2[INT64_C(0)] = ((int64_t)((v2[INT64_C(0)] + INT64_C(1)) < INT64_C(32768)) * (v2[INT64_C(0)] + INT64_C(1)));
   }
 }
 static void g1(void) {

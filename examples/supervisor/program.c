@@ -60,52 +60,50 @@ static void f8(void) {
 static void f9(void) {
 }
 static void f10(void) {
-  t1 = v1[INT64_C(2)];
   if ((int64_t)(v1[INT64_C(0)] > INT64_C(0))) {
-    t1 = v1[INT64_C(3)];
+    v1[INT64_C(6)] = v1[INT64_C(3)];
+  } else {
+    v1[INT64_C(6)] = v1[INT64_C(2)];
   }
-  v1[INT64_C(6)] = t1;
 }
 static void f11(void) {
-  t1 = v1[INT64_C(2)];
   if ((int64_t)(v1[INT64_C(0)] > INT64_C(0))) {
-    t1 = v1[INT64_C(3)];
+    v1[INT64_C(7)] = v1[INT64_C(3)];
+  } else {
+    v1[INT64_C(7)] = v1[INT64_C(2)];
   }
-  v1[INT64_C(7)] = t1;
 }
 static void f12(void) {
-  t1 = v1[INT64_C(7)];
   if ((int64_t)(v1[INT64_C(1)] >= INT64_C(900))) {
-    t1 = v1[INT64_C(4)];
+    v1[INT64_C(8)] = v1[INT64_C(4)];
+  } else {
+    v1[INT64_C(8)] = v1[INT64_C(7)];
   }
-  v1[INT64_C(8)] = t1;
 }
 static void f13(void) {
-  t1 = v1[INT64_C(2)];
   if ((int64_t)(v1[INT64_C(0)] > INT64_C(0))) {
-    t1 = v1[INT64_C(4)];
+    v1[INT64_C(9)] = v1[INT64_C(4)];
+  } else {
+    v1[INT64_C(9)] = v1[INT64_C(2)];
   }
-  v1[INT64_C(9)] = t1;
 }
 static void f14(void) {
-  t1 = v1[INT64_C(9)];
   if ((int64_t)(v1[INT64_C(1)] >= INT64_C(700))) {
-    t1 = v1[INT64_C(4)];
+    v1[INT64_C(10)] = v1[INT64_C(4)];
+  } else {
+    v1[INT64_C(10)] = v1[INT64_C(9)];
   }
-  v1[INT64_C(10)] = t1;
 }
 static void f15(void) {
-  t1 = INT64_C(0);
-  if (((v3[INT64_C(14)] / INT64_C(4)) % INT64_C(2))) {
-    t1 = v1[INT64_C(10)];
-  }
-  if (((v3[INT64_C(14)] / INT64_C(2)) % INT64_C(2))) {
-    t1 = v1[INT64_C(8)];
-  }
   if (((v3[INT64_C(14)] / INT64_C(1)) % INT64_C(2))) {
-    t1 = v1[INT64_C(6)];
+    v1[INT64_C(11)] = v1[INT64_C(6)];
+  } else {
+    if (((v3[INT64_C(14)] / INT64_C(2)) % INT64_C(2))) {
+      v1[INT64_C(11)] = v1[INT64_C(8)];
+    } else {
+      v1[INT64_C(11)] = v1[INT64_C(10)];
+    }
   }
-  v1[INT64_C(11)] = t1;
 }
 static void f16(void) {
   t1 = sci_more(INT64_C(3));
@@ -204,17 +202,15 @@ static void f30(void) {
   v1[INT64_C(25)] = INT64_C(0);
 }
 static void f31(void) {
-  t1 = INT64_C(0);
-  if (((v3[INT64_C(30)] / INT64_C(4)) % INT64_C(2))) {
-    t1 = v1[INT64_C(24)];
-  }
-  if (((v3[INT64_C(30)] / INT64_C(2)) % INT64_C(2))) {
-    t1 = v1[INT64_C(22)];
-  }
   if (((v3[INT64_C(30)] / INT64_C(1)) % INT64_C(2))) {
-    t1 = v1[INT64_C(25)];
+    v1[INT64_C(26)] = v1[INT64_C(25)];
+  } else {
+    if (((v3[INT64_C(30)] / INT64_C(2)) % INT64_C(2))) {
+      v1[INT64_C(26)] = v1[INT64_C(22)];
+    } else {
+      v1[INT64_C(26)] = v1[INT64_C(24)];
+    }
   }
-  v1[INT64_C(26)] = t1;
 }
 static void f32(void) {
   t1 = v1[INT64_C(26)];

@@ -49,18 +49,18 @@ static void f5(void) {
   v1[INT64_C(3)] = INT64_C(1);
 }
 static void f6(void) {
-  t1 = v1[INT64_C(3)];
   if ((int64_t)(v1[INT64_C(0)] >= INT64_C(190))) {
-    t1 = v1[INT64_C(6)];
+    v1[INT64_C(4)] = v1[INT64_C(6)];
+  } else {
+    v1[INT64_C(4)] = v1[INT64_C(3)];
   }
-  v1[INT64_C(4)] = t1;
 }
 static void f7(void) {
-  t1 = v1[INT64_C(4)];
   if ((int64_t)(v1[INT64_C(0)] > INT64_C(210))) {
-    t1 = v1[INT64_C(2)];
+    v1[INT64_C(5)] = v1[INT64_C(2)];
+  } else {
+    v1[INT64_C(5)] = v1[INT64_C(4)];
   }
-  v1[INT64_C(5)] = t1;
 }
 static void f8(void) {
   v1[INT64_C(6)] = v2[INT64_C(0)];
@@ -72,18 +72,18 @@ static void f10(void) {
   v1[INT64_C(8)] = INT64_C(1);
 }
 static void f11(void) {
-  t1 = v1[INT64_C(8)];
   if ((int64_t)(v1[INT64_C(1)] >= INT64_C(190))) {
-    t1 = v1[INT64_C(11)];
+    v1[INT64_C(9)] = v1[INT64_C(11)];
+  } else {
+    v1[INT64_C(9)] = v1[INT64_C(8)];
   }
-  v1[INT64_C(9)] = t1;
 }
 static void f12(void) {
-  t1 = v1[INT64_C(9)];
   if ((int64_t)(v1[INT64_C(1)] > INT64_C(210))) {
-    t1 = v1[INT64_C(7)];
+    v1[INT64_C(10)] = v1[INT64_C(7)];
+  } else {
+    v1[INT64_C(10)] = v1[INT64_C(9)];
   }
-  v1[INT64_C(10)] = t1;
 }
 static void f13(void) {
   v1[INT64_C(11)] = v2[INT64_C(1)];

@@ -68,62 +68,31 @@ static void f10(void) {
   v1[INT64_C(16)] = INT64_C(0);
 }
 static void f11(void) {
-  t1 = INT64_C(0);
-  if (((v3[INT64_C(10)] / INT64_C(8)) % INT64_C(2))) {
-    t1 = v1[INT64_C(13)];
-  }
-  if (((v3[INT64_C(10)] / INT64_C(4)) % INT64_C(2))) {
-    t1 = v1[INT64_C(9)];
-  }
-  if (((v3[INT64_C(10)] / INT64_C(2)) % INT64_C(2))) {
-    t1 = v1[INT64_C(5)];
-  }
   if (((v3[INT64_C(10)] / INT64_C(1)) % INT64_C(2))) {
-    t1 = v1[INT64_C(1)];
+    v1[INT64_C(17)] = v1[INT64_C(1)];
+    v1[INT64_C(18)] = v1[INT64_C(2)];
+    v1[INT64_C(19)] = v1[INT64_C(3)];
+    v1[INT64_C(20)] = v1[INT64_C(4)];
+  } else {
+    if (((v3[INT64_C(10)] / INT64_C(2)) % INT64_C(2))) {
+      v1[INT64_C(17)] = v1[INT64_C(5)];
+      v1[INT64_C(18)] = v1[INT64_C(6)];
+      v1[INT64_C(19)] = v1[INT64_C(7)];
+      v1[INT64_C(20)] = v1[INT64_C(8)];
+    } else {
+      if (((v3[INT64_C(10)] / INT64_C(4)) % INT64_C(2))) {
+        v1[INT64_C(17)] = v1[INT64_C(9)];
+        v1[INT64_C(18)] = v1[INT64_C(10)];
+        v1[INT64_C(19)] = v1[INT64_C(11)];
+        v1[INT64_C(20)] = v1[INT64_C(12)];
+      } else {
+        v1[INT64_C(17)] = v1[INT64_C(13)];
+        v1[INT64_C(18)] = v1[INT64_C(14)];
+        v1[INT64_C(19)] = v1[INT64_C(15)];
+        v1[INT64_C(20)] = v1[INT64_C(16)];
+      }
+    }
   }
-  v1[INT64_C(17)] = t1;
-  t1 = INT64_C(0);
-  if (((v3[INT64_C(10)] / INT64_C(8)) % INT64_C(2))) {
-    t1 = v1[INT64_C(14)];
-  }
-  if (((v3[INT64_C(10)] / INT64_C(4)) % INT64_C(2))) {
-    t1 = v1[INT64_C(10)];
-  }
-  if (((v3[INT64_C(10)] / INT64_C(2)) % INT64_C(2))) {
-    t1 = v1[INT64_C(6)];
-  }
-  if (((v3[INT64_C(10)] / INT64_C(1)) % INT64_C(2))) {
-    t1 = v1[INT64_C(2)];
-  }
-  v1[INT64_C(18)] = t1;
-  t1 = INT64_C(0);
-  if (((v3[INT64_C(10)] / INT64_C(8)) % INT64_C(2))) {
-    t1 = v1[INT64_C(15)];
-  }
-  if (((v3[INT64_C(10)] / INT64_C(4)) % INT64_C(2))) {
-    t1 = v1[INT64_C(11)];
-  }
-  if (((v3[INT64_C(10)] / INT64_C(2)) % INT64_C(2))) {
-    t1 = v1[INT64_C(7)];
-  }
-  if (((v3[INT64_C(10)] / INT64_C(1)) % INT64_C(2))) {
-    t1 = v1[INT64_C(3)];
-  }
-  v1[INT64_C(19)] = t1;
-  t1 = INT64_C(0);
-  if (((v3[INT64_C(10)] / INT64_C(8)) % INT64_C(2))) {
-    t1 = v1[INT64_C(16)];
-  }
-  if (((v3[INT64_C(10)] / INT64_C(4)) % INT64_C(2))) {
-    t1 = v1[INT64_C(12)];
-  }
-  if (((v3[INT64_C(10)] / INT64_C(2)) % INT64_C(2))) {
-    t1 = v1[INT64_C(8)];
-  }
-  if (((v3[INT64_C(10)] / INT64_C(1)) % INT64_C(2))) {
-    t1 = v1[INT64_C(4)];
-  }
-  v1[INT64_C(20)] = t1;
 }
 static void f12(void) {
   v1[INT64_C(21)] = v1[INT64_C(17)];

@@ -43,14 +43,11 @@ static void f5(void) {
   v1[INT64_C(2)] = INT64_C(1);
 }
 static void f6(void) {
-  t1 = INT64_C(0);
-  if (((v3[INT64_C(5)] / INT64_C(2)) % INT64_C(2))) {
-    t1 = v1[INT64_C(2)];
-  }
   if (((v3[INT64_C(5)] / INT64_C(1)) % INT64_C(2))) {
-    t1 = v1[INT64_C(1)];
+    v1[INT64_C(3)] = v1[INT64_C(1)];
+  } else {
+    v1[INT64_C(3)] = v1[INT64_C(2)];
   }
-  v1[INT64_C(3)] = t1;
 }
 static void f7(void) {
   v1[INT64_C(4)] = v2[INT64_C(0)];
@@ -88,7 +85,7 @@ static void g2(void) {
     }
   }
   if (v4[INT64_C(6)]) {
-    v2[INT64_C(0)] = ((((v2[INT64_C(0)] + INT64_C(1)) % INT64_C(256)) + INT64_C(256)) % INT64_C(256));
+    v2[INT64_C(0)] = ((int64_t)((v2[INT64_C(0)] + INT64_C(1)) < INT64_C(256)) * (v2[INT64_C(0)] + INT64_C(1)));
   }
 }
 static void g1(void) {

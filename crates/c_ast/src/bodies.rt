@@ -1,6 +1,7 @@
 // Which bodies assign a name, themselves or in the bodies that they call.
 
-ghost use Rattle.std.specs.Prelude.{◌≡◌, ◌≢◌, ℕ, ◌+◌, ◌<◌, ◌≤◌, ◌^◌, ◌⊎◌, OnOk, OnErr, IfOk, IfSome, IfNone, All, Contains, Bool, true, [], ◌∷◌, Some, length, vec_len, max, nat_eq, nat_le, slice_index_or};
+ghost use Rattle.std.specs.Prelude.{◌≡◌, ◌≢◌, ℕ, ◌+◌, ◌<◌, ◌≤◌, ◌^◌, ◌⊎◌, OnOk, OnErr, IfOk, IfSome, IfNone, All, Contains, Bool, true, [], ◌∷◌, Some};
+ghost use Rattle.std.specs.Prelude.{length, vec_len, max, nat_eq, nat_le, slice_index_or};
 ghost use Rattle.std.specs.List.{list_any};
 ghost use Rattle.indexmap.specs.IndexSet.{insert_key};
 ghost use Rattle.sci_loop.specs.Lists.{plain, list_at};
@@ -266,7 +267,8 @@ impl Bodies {
         requires { body ≤ self.old.last }
         ensures same { KeepsBodies self.old self.new }
         ensures names { self.new.names ≡ self.old.names }
-        ensures value { IfOk result (λ hit. (test : Name → Bool) → Tells test (callees_in self.old) (assigners_in self.old) body → hit ≡ list_any (is_hit test) blocks.now) }
+        ensures value { IfOk result (λ hit. (test : Name → Bool) → Tells test (callees_in self.old) (assigners_in self.old) body
+            → hit ≡ list_any (is_hit test) blocks.now) }
     {
         if !self.any_early(body, blocks) {
             return Ok(false);

@@ -3,7 +3,8 @@
 ghost use Rattle.std.specs.Prelude.{◌≡◌, ◌∷◌, [], ◌++◌, OnOk, IfOk, map};
 ghost use Rattle.std.specs.List.{flat_map};
 ghost use Rattle.c_ast.specs.View.{exp_of, place_of, asked_of, told_of, statement_of, statements_of, declared_of, function_of, whole_of};
-ghost use Rattle.c_ast.specs.Events.{exp_events, place_events, asked_events, told_events, bound_events, statement_events, block_events, declared_event, function_events, main_events, program_events};
+ghost use Rattle.c_ast.specs.Events.{exp_events, place_events, asked_events, told_events, bound_events, statement_events, block_events, declared_event};
+ghost use Rattle.c_ast.specs.Events.{function_events, main_events, program_events};
 
 use crate::{Ask, Bound, Decl, Expr, Func, Name, Program, Stmt, Target, Tell};
 use sci_base::NoMemory;

@@ -20,7 +20,7 @@ pub struct Name {
 }
 
 /// An operator with two sides.
-#[derive(Clone, Copy, PartialEq, Eq)]
+#[derive(Clone, Copy)]
 pub enum Op {
     Add,
     Sub,

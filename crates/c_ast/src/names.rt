@@ -1,6 +1,7 @@
 // The declared names of a program by number.
 
-ghost use Rattle.std.specs.Prelude.{◌≡◌, ◌≢◌, ◌+◌, ◌<◌, ◌≤◌, ◌^◌, ℕ, [], length, max, vec_len, OnOk, OnErr, IfOk, IfSome, IsTrue, ◌↔◌, Some, None, map, if◌then◌else◌};
+ghost use Rattle.std.specs.Prelude.{◌≡◌, ◌≢◌, ◌+◌, ◌<◌, ◌≤◌, ◌^◌, ℕ, [], length, max, vec_len, OnOk, OnErr, IfOk, IfSome, IsTrue, ◌↔◌, Some, None, map};
+ghost use Rattle.std.specs.Prelude.{if◌then◌else◌};
 ghost use Rattle.std.specs.List.{list_any};
 ghost use Rattle.std.specs.Option.{option_or};
 ghost use Rattle.indexmap.specs.IndexSet.{insert_key, insert_all};
@@ -109,7 +110,8 @@ impl Names {
         value: V,
     ) -> Result<(), NoMemory>
         requires { IsTrue (is_numbered self.now name) }
-        ensures entered { (q : Name) → OnOk result (by_name self.now values.new.items q ≡ option_or (by_name self.now values.old.items q) (if same_name name q then Some value else None)) }
+        ensures entered { (q : Name) → OnOk result (by_name self.now values.new.items q
+            ≡ option_or (by_name self.now values.old.items q) (if same_name name q then Some value else None)) }
         ensures err { OnErr result ((n : ℕ) → at_place values.new.items n ≡ at_place values.old.items n) }
     {
         let Some(number) = self.number_of(name) else {

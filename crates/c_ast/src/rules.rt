@@ -4,7 +4,8 @@ ghost use Rattle.std.specs.Prelude.{◌≡◌, IsTrue, ◌↔◌, ℕ, ◌≤◌
 ghost use Rattle.std.specs.List.{list_any};
 ghost use Rattle.c_ast.specs.declared.Name.{Name};
 ghost use Rattle.c_ast.specs.declared.rules.Past.{Past};
-ghost use Rattle.c_ast.specs.Rules.{is_scalar, is_array, is_used_well, is_bound, is_hit, is_guarded, same_name, is_too_large, elements_of, kind_of, earlier, blamed_event, KeepsRules};
+ghost use Rattle.c_ast.specs.Rules.{is_scalar, is_array, is_used_well, is_bound, is_hit, is_guarded, same_name, is_too_large, elements_of, kind_of};
+ghost use Rattle.c_ast.specs.Rules.{earlier, blamed_event, KeepsRules};
 ghost use Rattle.c_ast.specs.View.{whole_of};
 ghost use Rattle.c_ast.specs.Events.{program_events};
 ghost use Rattle.c_ast.specs.Naming.{at_place, by_name};

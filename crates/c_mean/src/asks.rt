@@ -54,7 +54,8 @@ fn receive(
     target: &Target,
     column: &Expr,
 ) -> bool
-    ensures { (if result then Some (world memory.new columns.new) else None) ≡ received (place_of target.now) (exp_of column.now) (world memory.old columns.old) }
+    ensures { (if result then Some (world memory.new columns.new) else None)
+        ≡ received (place_of target.now) (exp_of column.now) (world memory.old columns.old) }
 {
     let Some(number) = eval(memory, column) else {
         return false;
@@ -85,7 +86,8 @@ pub fn ask(
     target: &Target,
     ask: &Ask,
 ) -> bool
-    ensures { (n : ℕ) → asked limits.until limits.limit n (place_of target.now) (asked_of ask.now) (world memory.old columns.old) ≡ quietly (if result then going (world memory.new columns.new) else undefined n) }
+    ensures { (n : ℕ) → asked limits.until limits.limit n (place_of target.now) (asked_of ask.now) (world memory.old columns.old)
+        ≡ quietly (if result then going (world memory.new columns.new) else undefined n) }
 {
     match ask {
         Ask::More(column) => more(memory, columns, target, column),

@@ -22,7 +22,7 @@ use sci_trace::inputs::Inputs;
 use std::alloc::Global;
 
 /// How a run ended.
-#[derive(Clone, Copy, Debug, PartialEq, Eq)]
+#[derive(Clone, Copy)]
 pub enum CEnd {
     /// By an end that it told, or at the end of `sci_main`.
     End,
@@ -33,7 +33,7 @@ pub enum CEnd {
 }
 
 /// Why a run has no end.
-#[derive(Clone, Copy, Debug, PartialEq, Eq)]
+#[derive(Clone, Copy)]
 pub enum RunStop {
     /// The sink failed.
     Failed,

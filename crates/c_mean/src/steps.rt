@@ -107,7 +107,8 @@ fn flow_after(observation: Obs) -> Flow
 
 /// Makes an observation and writes its line. The only error is that of the sink.
 fn tell<S: Sink>(memory: &Memory<'_>, tell: &Tell, out: &mut S) -> Result<Flow, Failed>
-    ensures { (left : List (List ℤ)) → Runs (S.state out.old) (S.state out.new) result (record { slots = slots memory.now; left = left }) (λ n. telling n (told_of tell.now) (record { slots = slots memory.now; left = left })) }
+    ensures { (left : List (List ℤ)) → Runs (S.state out.old) (S.state out.new) result (record { slots = slots memory.now; left = left })
+        (λ n. telling n (told_of tell.now) (record { slots = slots memory.now; left = left })) }
 {
     let Some(observed) = observation(memory, tell) else {
         return Ok(Flow::Undefined(0));
@@ -127,7 +128,8 @@ fn statement<S: Sink>(
     statement: &Stmt,
     out: &mut S,
 ) -> Result<Flow, Failed>
-    ensures { Runs (S.state out.old) (S.state out.new) result (world memory.new columns.new) (λ n. run_statement (surroundings (earlier functions.now from) limits) n (statement_of statement.now) (world memory.old columns.old)) }
+    ensures { Runs (S.state out.old) (S.state out.new) result (world memory.new columns.new)
+        (λ n. run_statement (surroundings (earlier functions.now from) limits) n (statement_of statement.now) (world memory.old columns.old)) }
 {
     match statement {
         Stmt::Set(target, value) => Ok(defined(set(memory, target, value))),
@@ -161,7 +163,9 @@ fn choose<S: Sink>(
     no: &[Stmt],
     out: &mut S,
 ) -> Result<Flow, Failed>
-    ensures { Runs (S.state out.old) (S.state out.new) result (world memory.new columns.new) (choosing (surroundings (earlier functions.now from) limits) (exp_of condition.now) (statements_of yes.now) (statements_of no.now) (world memory.old columns.old)) }
+    ensures { Runs (S.state out.old) (S.state out.new) result (world memory.new columns.new)
+        (choosing (surroundings (earlier functions.now from) limits) (exp_of condition.now) (statements_of yes.now) (statements_of no.now)
+        (world memory.old columns.old)) }
 {
     let Some(value) = eval(memory, condition) else {
         return Ok(Flow::Undefined(0));
@@ -185,7 +189,8 @@ pub fn block<S: Sink>(
     list: &[Stmt],
     out: &mut S,
 ) -> Result<Flow, Failed>
-    ensures { Runs (S.state out.old) (S.state out.new) result (world memory.new columns.new) (λ n. run_block (surroundings (earlier functions.now from) limits) n (statements_of list.now) (world memory.old columns.old)) }
+    ensures { Runs (S.state out.old) (S.state out.new) result (world memory.new columns.new)
+        (λ n. run_block (surroundings (earlier functions.now from) limits) n (statements_of list.now) (world memory.old columns.old)) }
 {
     for (i, next) in list.iter().enumerate() {
         let left = statement(memory, columns, limits, functions, from, next, out);
@@ -208,7 +213,8 @@ fn turn<S: Sink>(
     body: &[Stmt],
     out: &mut S,
 ) -> Result<Flow, Failed>
-    ensures { Runs (S.state out.old) (S.state out.new) result (world memory.new columns.new) (λ n. one_turn (surroundings (earlier functions.now from) limits) n counter (statements_of body.now) (world memory.old columns.old)) }
+    ensures { Runs (S.state out.old) (S.state out.new) result (world memory.new columns.new)
+        (λ n. one_turn (surroundings (earlier functions.now from) limits) n counter (statements_of body.now) (world memory.old columns.old)) }
 {
     let left = block(memory, columns, limits, functions, from, body, out);
     if goes_on(left) {
@@ -231,7 +237,9 @@ fn repeat<S: Sink>(
     body: &[Stmt],
     out: &mut S,
 ) -> Result<Flow, Failed>
-    ensures { Runs (S.state out.old) (S.state out.new) result (world memory.new columns.new) (λ n. turns times (one_turn (surroundings (earlier functions.now from) limits) n counter (statements_of body.now)) (world memory.old columns.old)) }
+    ensures { Runs (S.state out.old) (S.state out.new) result (world memory.new columns.new)
+        (λ n. turns times (one_turn (surroundings (earlier functions.now from) limits) n counter (statements_of body.now))
+        (world memory.old columns.old)) }
 {
     for _ in 0..times {
         let left = turn(memory, columns, limits, functions, from, counter, body, out);
@@ -253,7 +261,8 @@ fn call<S: Sink>(
     name: Name,
     out: &mut S,
 ) -> Result<Flow, Failed>
-    ensures { Runs (S.state out.old) (S.state out.new) result (world memory.new columns.new) (λ n. calling (surroundings (earlier functions.now from) limits) n name (world memory.old columns.old)) }
+    ensures { Runs (S.state out.old) (S.state out.new) result (world memory.new columns.new)
+        (λ n. calling (surroundings (earlier functions.now from) limits) n name (world memory.old columns.old)) }
 {
     let Some(k) = find(functions, from, name) else {
         return Ok(Flow::Undefined(0));

@@ -33,10 +33,10 @@ goes_none state p f = record { by = by_none (state p.now) f; same = refl }
 
 -- the answer of a whole text
 pub written : {T E X : Type 0} {state : X → SinkState} {p w : MutBor X} {s : List ℕ} (x : T) → Goes state p false w false s → Writes {T = T} {E = E} (state p.now) (state w.now) s (Ok x)
-written x g = record { ok = g.by.ok; quiet = g.by.quiet; begun = g.by.begun; cut = tt; dropped = tt; cause = tt; later = g.by.later }
+written x g = record { ok = g.by.ok; quiet = g.by.quiet; works = g.by.works; cut = tt; dropped = tt; cause = tt; fails = tt; later = g.by.later }
 
 pub broken : {T E X : Type 0} {state : X → SinkState} {p w : MutBor X} {s : List ℕ} (e : E) → Goes state p false w true s → Writes {T = T} {E = E} (state p.now) (state w.now) s (Err e)
-broken e g = record { ok = tt; quiet = tt; begun = tt; cut = g.by.cut; dropped = g.by.dropped; cause = g.by.cause; later = g.by.later }
+broken e g = record { ok = tt; quiet = tt; works = tt; cut = g.by.cut; dropped = g.by.dropped; cause = g.by.cause; fails = g.by.fails; later = g.by.later }
 
 two_more : (n : ℕ) → replicate {A = ℕ} (suc (suc n)) 32 ≡ replicate {A = ℕ} n 32 ++ (32 ∷ 32 ∷ [])
 two_more zero = refl

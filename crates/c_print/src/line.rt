@@ -3,7 +3,8 @@
 ghost use Rattle.std.specs.Prelude.{◌≡◌, ◌<◌, ◌*◌, length, replicate};
 ghost use Rattle.c_print.specs.Goes.{Goes};
 ghost use Rattle.c_ast.specs.View.{exp_of, place_of, asked_of, told_of};
-ghost use Rattle.c_ast.specs.Spelling.{place_text, asked_text, told_text, bound_text, row_text, row_of, set_line, ask_line, if_line, else_line, for_line, call_line, tell_line, close_line};
+ghost use Rattle.c_ast.specs.Spelling.{place_text, asked_text, told_text, bound_text, row_text, row_of, set_line, ask_line, if_line, else_line, for_line};
+ghost use Rattle.c_ast.specs.Spelling.{call_line, tell_line, close_line};
 
 use crate::printer::Printer;
 use c_ast::{Ask, Bound, Expr, Name, Target, Tell};
@@ -107,7 +108,8 @@ impl<S: Sink> Printer<'_, S> {
     }
 
     pub fn set_row(&mut self, depth: u8, target: &Target, e: &Expr)
-        ensures { Goes S.state self.old.out self.old.failed self.new.out self.new.failed (row_text (row_of depth (set_line (place_of target.now) (exp_of e.now)))) }
+        ensures { Goes S.state self.old.out self.old.failed self.new.out self.new.failed
+            (row_text (row_of depth (set_line (place_of target.now) (exp_of e.now)))) }
     {
         self.blanks(depth);
         self.target(target);
@@ -117,7 +119,8 @@ impl<S: Sink> Printer<'_, S> {
     }
 
     pub fn ask_row(&mut self, depth: u8, target: &Target, ask: &Ask)
-        ensures { Goes S.state self.old.out self.old.failed self.new.out self.new.failed (row_text (row_of depth (ask_line (place_of target.now) (asked_of ask.now)))) }
+        ensures { Goes S.state self.old.out self.old.failed self.new.out self.new.failed
+            (row_text (row_of depth (ask_line (place_of target.now) (asked_of ask.now)))) }
     {
         self.blanks(depth);
         self.target(target);

@@ -6,7 +6,8 @@ ghost use Rattle.c_ast.specs.View.{exp_of, place_of, asked_of, told_of};
 ghost use Rattle.c_ast.specs.Spelling.{name_text, op_text, op_open, exp_text, place_text, asked_text, told_text, bound_text, line_text};
 ghost use Rattle.c_parse.specs.LineBounds.{row_bytes};
 ghost use Rattle.c_parse.specs.LineView.{line_of, indented_of};
-ghost use Rattle.c_read.specs.Names.{exp_places, next_place, three_places, place_places, asked_places, told_places, bound_places, bound_place, line_places, row_places};
+ghost use Rattle.c_read.specs.Names.{exp_places, next_place, three_places, place_places, asked_places, told_places, bound_places, bound_place};
+ghost use Rattle.c_read.specs.Names.{line_places, row_places};
 
 use c_ast::{Ask, Bound, Expr, Name, Op, Target, Tell};
 use c_parse::line::{Indented, Item};

@@ -2,7 +2,8 @@
 //! proofs/, in the form of a continuation; here stand the same as promises to a reader.
 #![tactic(auto)]
 
-ghost use Rattle.c_steps.specs.Laws.{PutLaw, SetLaw, AskLaw, ChoiceLaw, CallLaw, TellLaw, LoopLaw, CountLaw, JoinedLaw, LeavesLaw, CallsLeaveLaw, ArithmeticLaw, TruthLaw, ValueStays, ProgramLaw};
+ghost use Rattle.c_steps.specs.Laws.{PutLaw, SetLaw, AskLaw, ChoiceLaw, CallLaw, TellLaw, LoopLaw, CountLaw, JoinedLaw, LeavesLaw, CallsLeaveLaw};
+ghost use Rattle.c_steps.specs.Laws.{ArithmeticLaw, TruthLaw, ValueStays, ProgramLaw};
 
 /// A place that is there can be written, and every other read stays.
 pub fn put_law()

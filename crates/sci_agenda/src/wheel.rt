@@ -28,7 +28,11 @@ impl Model for WheelAgenda {
 
     ghost Value = { Wheel };
 
-    ghost view = { λ a. record { meaning = record { events = in_order a.dates.items a.links.lists; now = a.now; ports = a.ports }; table = a.links; puts = a.puts } };
+    ghost view = { λ a. record {
+      meaning = record { events = in_order a.dates.items a.links.lists; now = a.now; ports = a.ports };
+      table = a.links;
+      puts = a.puts;
+    } };
 
     ghost invariant = { λ a. IsWheel a.links a.dates.items a.now a.ports a.puts };
 }

@@ -4,14 +4,14 @@ use Rattle.sci_io.specs.Taken.{SinkState, direct}
 use Rattle.sci_agree.specs.Lines.{lines_of}
 
 -- the text, how many of its bytes were given, how many lines these are, the first byte that was given and isn't the text's there, how often a call
--- failed, and whether something was put since a text was begun
+-- failed, and whether the last one did
 pub record Compared : Type 0 where
   pub text : List ℕ
   pub at : ℕ
   pub lines : ℕ
   pub wrong : Option ℕ
   pub faults : ℕ
-  pub begun : Bool
+  pub failing : Bool
 
 -- it fails from the first wrong byte on, which it takes
 pub record IsCompared (c : Compared) : Type 0 where
@@ -26,7 +26,7 @@ abbrev pub taken_by : Compared → List ℕ
 taken_by c = take c.at c.text ++ option_to_list c.wrong
 
 abbrev pub state_of : Compared → SinkState
-state_of c = direct (Some (taken_by c)) c.faults c.begun
+state_of c = direct (Some (taken_by c)) c.faults c.failing
 
 -- All of a text was given to it and taken; or a call failed, and it took a front of the text.
 abbrev pub WasGiven : List ℕ → Compared → Type 0

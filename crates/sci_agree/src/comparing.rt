@@ -21,7 +21,7 @@ pub struct Comparing<'a> {
     // the first byte that doesn't agree
     wrong: Option<u8>,
     faults: u64,
-    begun: bool,
+    failing: bool,
 }
 
 impl<'a> Model for Comparing<'a> {
@@ -29,9 +29,9 @@ impl<'a> Model for Comparing<'a> {
 
     ghost Value = { Compared };
 
-    ghost view = { λ s. record { text = s.text.now; at = s.at; lines = s.lines; wrong = s.wrong; faults = s.faults; begun = s.begun } };
+    ghost view = { λ s. record { text = s.text.now; at = s.at; lines = s.lines; wrong = s.wrong; faults = s.faults; failing = s.failing } };
 
-    ghost invariant = { λ s. IsCompared (record { text = s.text.now; at = s.at; lines = s.lines; wrong = s.wrong; faults = s.faults; begun = s.begun }) };
+    ghost invariant = { λ s. IsCompared (record { text = s.text.now; at = s.at; lines = s.lines; wrong = s.wrong; faults = s.faults; failing = s.failing }) };
 }
 
 // How many lines a byte ends.
@@ -59,7 +59,7 @@ impl<'a> Comparing<'a> {
 
     /// Compares with this text, from its beginning.
     pub fn new(text: &'a [u8]) -> Comparing<'a>
-        ensures { result ≡ record { text = text.now; at = 0; lines = 0; wrong = None; faults = 0; begun = false } }
+        ensures { result ≡ record { text = text.now; at = 0; lines = 0; wrong = None; faults = 0; failing = false } }
     {
         Comparing {
             text,
@@ -67,7 +67,7 @@ impl<'a> Comparing<'a> {
             lines: 0,
             wrong: None,
             faults: 0,
-            begun: false,
+            failing: false,
         }
     }
 
@@ -92,7 +92,6 @@ impl<'a> Comparing<'a> {
         ensures agrees { result ≡ true → (self.new.wrong ≡ None) × (self.new.faults ≡ self.old.faults) }
         ensures failed { result ≡ false → self.new.faults ≡ counted self.old.faults }
         ensures text { self.new.text ≡ self.old.text }
-        ensures begun { self.new.begun ≡ self.old.begun }
     {
         if self.is_next(byte) {
             self.at += 1;
@@ -112,7 +111,6 @@ impl<'a> Comparing<'a> {
         ensures none { result ≡ false → self.new ≡ self.old }
         ensures faults { self.new.faults ≡ self.old.faults }
         ensures text { self.new.text ≡ self.old.text }
-        ensures begun { self.new.begun ≡ self.old.begun }
     {
         if !self.text[self.at..].starts_with(piece) {
             return false;
@@ -130,7 +128,6 @@ impl<'a> Comparing<'a> {
         ensures agrees { result ≡ true → self.new.faults ≡ self.old.faults }
         ensures failed { result ≡ false → self.new.faults ≡ counted self.old.faults }
         ensures text { self.new.text ≡ self.old.text }
-        ensures begun { self.new.begun ≡ self.old.begun }
     {
         for byte in piece {
             if !self.take(*byte) {
@@ -148,7 +145,6 @@ impl<'a> Comparing<'a> {
         ensures agrees { result ≡ true → self.new.faults ≡ self.old.faults }
         ensures failed { result ≡ false → self.new.faults ≡ counted self.old.faults }
         ensures text { self.new.text ≡ self.old.text }
-        ensures begun { self.new.begun ≡ self.old.begun }
     {
         self.take_whole(piece) || self.compare_bytes(piece)
     }
@@ -184,7 +180,7 @@ impl<'a> Comparing<'a> {
 impl<'a> Sink for Comparing<'a> {
     ghost use Rattle.std.specs.Prelude.{◌≡◌, ◌<◌, [], length, false, IsOk, OnOk, OnErr};
     ghost use Rattle.sci_io.specs.Causes.{counted};
-    ghost use Rattle.sci_io.specs.Taken.{Writes, before_text};
+    ghost use Rattle.sci_io.specs.Taken.{Writes};
     ghost use Rattle.sci_agree.specs.Compared.{state_of};
 
     ghost state = { λ s. state_of s };
@@ -192,42 +188,31 @@ impl<'a> Sink for Comparing<'a> {
     fn put(&mut self, piece: &[u8]) -> Result<(), Failed>
         requires { 0 < length piece.now }
         ensures written { Writes (state_of self.old) (state_of self.new) piece.now result }
+        ensures works { OnOk result ((state_of self.new).failing ≡ false) }
         ensures counted { OnErr result (self.new.faults ≡ counted self.old.faults) }
         ensures text { self.new.text ≡ self.old.text }
     {
-        self.begun = true;
         if self.wrong.is_some() {
             self.faults = self.faults.saturating_add(1);
+            self.failing = true;
             return Err(Failed);
         }
-        if self.compare(piece) {
-            Ok(())
-        } else {
-            Err(Failed)
-        }
+        self.failing = !self.compare(piece);
+        if self.failing { Err(Failed) } else { Ok(()) }
     }
 
     fn flush(&mut self) -> Result<(), Failed>
         ensures written { Writes (state_of self.old) (state_of self.new) [] result }
         ensures all { OnOk result ((state_of self.new).held ≡ []) }
+        ensures works { OnOk result ((state_of self.new).failing ≡ false) }
         ensures sure { IsOk result }
-        ensures kept { self.new ≡ self.old }
+        ensures kept { self.new ≡ record self.old { failing = false } }
     {
+        self.failing = false;
         Ok(())
     }
 
     fn take_unseen(&mut self) -> bool {
         false
-    }
-
-    fn begin(&mut self)
-        ensures begun { state_of self.new ≡ before_text (state_of self.old) }
-        ensures kept { self.new ≡ record { text = self.old.text; at = self.old.at; lines = self.old.lines; wrong = self.old.wrong; faults = self.old.faults; begun = false } }
-    {
-        self.begun = false;
-    }
-
-    fn has_begun(&self) -> bool {
-        self.begun
     }
 }

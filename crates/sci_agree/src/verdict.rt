@@ -1,7 +1,7 @@
 // The verdict on a text.
 
 /// Whether a text is the one that is due, line by line. A line has its line feed.
-#[derive(Clone, Copy, Debug, Drop, PartialEq, Eq)]
+#[derive(Clone, Copy, Debug, Drop)]
 pub enum Verdict {
     /// It is, and has so many lines.
     Yes(u64),

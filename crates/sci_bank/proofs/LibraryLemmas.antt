@@ -8,7 +8,7 @@ use Rattle.std.proofs.lemmas.List.{take_more, take_all, map-set, get_or-map, len
 use Rattle.std.proofs.lemmas.Bool.{cases_lt, cases_eq}
 use Rattle.std.proofs.lemmas.Grind.{get_or-set_at}
 use Rattle.sci_forms.specs.declared.Kind.{Kind}
-use Rattle.sci_forms.specs.declared.Kind.TheVariants.{Const, Summation, GainBlk, Product, AbsValue, Signum, MaxMin, Saturation, DeadBand, Convert, Mux, Demux, Extractor, LogicalOp, RelationalOp, Shift, BitSet, BitClear, ExtractBits, Switch2, Select, Logic, AndLog, Dollar, SampHold, Register, ModuloCount, GatedDelay, Sensor, EvtDly, EvtVarDly, IfThEl, ESelect, Halt}
+use Rattle.sci_forms.specs.declared.Kind.TheVariants.{Const}
 use Rattle.sci_forms.specs.Names.{kind_at}
 use Rattle.sci_bank.specs.Bank.{Meaning, no_bank}
 use Rattle.sci_bank.specs.Library.{place_of, bank_of, with_bank, Holds, AreInOrder, IsFull, next_of}
@@ -95,39 +95,7 @@ stays_full f xs i y full = omega (arith, length-map (set xs i y) f, length-map x
 
 at_place : (k : Kind) → kind_at (place_of k + 1) ≡ Some k
 at_place Const = refl
-at_place Summation = refl
-at_place GainBlk = refl
-at_place Product = refl
-at_place AbsValue = refl
-at_place Signum = refl
-at_place MaxMin = refl
-at_place Saturation = refl
-at_place DeadBand = refl
-at_place Convert = refl
-at_place Mux = refl
-at_place Demux = refl
-at_place Extractor = refl
-at_place LogicalOp = refl
-at_place RelationalOp = refl
-at_place Shift = refl
-at_place BitSet = refl
-at_place BitClear = refl
-at_place ExtractBits = refl
-at_place Switch2 = refl
-at_place Select = refl
-at_place Logic = refl
-at_place AndLog = refl
-at_place Dollar = refl
-at_place SampHold = refl
-at_place Register = refl
-at_place ModuloCount = refl
-at_place GatedDelay = refl
-at_place Sensor = refl
-at_place EvtDly = refl
-at_place EvtVarDly = refl
-at_place IfThEl = refl
-at_place ESelect = refl
-at_place Halt = refl
+at_place _ = refl
 
 -- the bank at a kind's place is of that kind
 pub kind_of-bank : (banks : List Meaning) (k : Kind) → AreInOrder banks → Holds banks k → (bank_of banks k).kind ≡ k
@@ -139,39 +107,7 @@ kind_of-bank banks k o h = same (sym (o (place_of k) h) ∙ at_place k)
 -- a full library holds the bank of each kind
 place_within : (k : Kind) → place_of k < kinds
 place_within Const = omega arith
-place_within Summation = omega arith
-place_within GainBlk = omega arith
-place_within Product = omega arith
-place_within AbsValue = omega arith
-place_within Signum = omega arith
-place_within MaxMin = omega arith
-place_within Saturation = omega arith
-place_within DeadBand = omega arith
-place_within Convert = omega arith
-place_within Mux = omega arith
-place_within Demux = omega arith
-place_within Extractor = omega arith
-place_within LogicalOp = omega arith
-place_within RelationalOp = omega arith
-place_within Shift = omega arith
-place_within BitSet = omega arith
-place_within BitClear = omega arith
-place_within ExtractBits = omega arith
-place_within Switch2 = omega arith
-place_within Select = omega arith
-place_within Logic = omega arith
-place_within AndLog = omega arith
-place_within Dollar = omega arith
-place_within SampHold = omega arith
-place_within Register = omega arith
-place_within ModuloCount = omega arith
-place_within GatedDelay = omega arith
-place_within Sensor = omega arith
-place_within EvtDly = omega arith
-place_within EvtVarDly = omega arith
-place_within IfThEl = omega arith
-place_within ESelect = omega arith
-place_within Halt = omega arith
+place_within _ = omega arith
 
 pub Holds-full : (banks : List Meaning) (k : Kind) → IsFull banks → Holds banks k
 Holds-full banks k f = rw f (place_within k)

@@ -1,5 +1,6 @@
 -- What a bank means: the instances of one kind, each with its spec and its state, and the calls of `out`.
 use Rattle.std.specs.Prelude.{◌≡◌, ℕ, ◌+◌, ◌<◌, ◌≤◌, min, true, Option, Some, None, List, ℤ, length, slice_index_or, slice_set, [], ◌∷◌, ◌++◌}
+use Rattle.sci_base.specs.declared.limits.TheConstants.{PORT_ELEMENTS}
 use Rattle.sci_base.specs.declared.Ty.{Ty}
 use Rattle.sci_base.specs.declared.observation.StopWord.{StopWord}
 use Rattle.sci_base.specs.declared.observation.StopWord.TheVariants.{Overflow as OverflowWord, Zero as ZeroWord}
@@ -100,7 +101,7 @@ pub record IsOfKind (kind : Kind) (s : Spec) : Type 0 where
   pub kind_is : s.kind ≡ kind
   pub is_typed : typed s ≡ true
   pub asks : Asks kind s
-  pub small : size s ≤ 256
+  pub small : size s ≤ PORT_ELEMENTS
 
 -- n values from start on are there, and in range of the type
 pub record RunFits (t : Ty) (vs : List ℤ) (start n : ℕ) : Type 0 where

@@ -29,7 +29,7 @@ pub mod words;
 pub use runs::{Call, Stuck};
 
 /// How a call of `out` ended.
-#[derive(Clone, Copy, Debug, Drop, PartialEq, Eq)]
+#[derive(Clone, Copy, Drop, PartialEq, Eq)]
 pub enum Fate {
     /// Every element has a value.
     Done,
@@ -90,8 +90,10 @@ pub trait Bank: Drop {
     fn out_run(&mut self, calls: &[Call], places: &[Place], values: &mut [i64]) -> Option<Stuck>
         requires { MayRun (meaning self.old) places.now values.old calls.now }
         ensures ended { EndsRun (run_of (meaning self.old) places.now calls.now values.old) result values.new }
-        ensures in_range { (types : List Ty) → AreOfTypes types values.old → ArePlaced (meaning self.old) places.now types calls.now → AreOfTypes types values.new }
-        ensures counted { meaning self.new ≡ after_outs (meaning self.old) (calls_made (length calls.now) (run_of (meaning self.old) places.now calls.now values.old)) };
+        ensures in_range { (types : List Ty) → AreOfTypes types values.old → ArePlaced (meaning self.old) places.now types calls.now
+            → AreOfTypes types values.new }
+        ensures counted { meaning self.new ≡ after_outs (meaning self.old)
+            (calls_made (length calls.now) (run_of (meaning self.old) places.now calls.now values.old)) };
 
     /// The branch that a synchronous block takes, from 1.
     fn branch(&self, slot: usize, ins: &[i64]) -> u32

@@ -1,5 +1,6 @@
 // The library: one bank a kind, seen as the list of what the banks mean.
-ghost use Rattle.std.specs.Prelude.{◌≡◌, ℕ, Some, ◌+◌, ◌<◌, ◌^◌, true, min, map, List, length, OnOk, OnErr, IfOk, IfErr, IsNone, IsSome, IfSome, IsTrue, ◌↔◌, ◌++◌, ◌∷◌, [], slice_set, sum_by};
+ghost use Rattle.std.specs.Prelude.{◌≡◌, ℕ, Some, ◌+◌, ◌<◌, ◌^◌, true, min, map, List, length, OnOk, OnErr, IfOk, IfErr, IsNone, IsSome, IfSome, IsTrue};
+ghost use Rattle.std.specs.Prelude.{◌↔◌, ◌++◌, ◌∷◌, [], slice_set, sum_by};
 ghost use Rattle.sci_base.specs.declared.Ty.{Ty};
 ghost use Rattle.sci_base.specs.Lists.{at};
 ghost use Rattle.sci_forms.specs.Form.{is_sync, has_delay};
@@ -54,14 +55,6 @@ impl<B: Bank> Library<B> {
         ensures { result ≡ map B.meaning banks.items }
     {
         Library { banks }
-    }
-
-    /// The banks of the library.
-    pub fn into_banks(self) -> Vec<B>
-        ensures means { map B.meaning result.items ≡ self }
-        ensures in_order { AreInOrder (map B.meaning result.items) }
-    {
-        self.banks
     }
 
     /// Each bank stands at the place of its kind.
@@ -127,7 +120,8 @@ impl<B: Bank> Library<B> {
         requires known { Holds self.old kind }
         requires is_typed { typed spec.now ≡ true }
         requires of_kind { spec.now.kind ≡ (bank_of self.old kind).kind }
-        ensures added { let before = self.old in IfOk result (λ slot. (slot ≡ length (bank_of before kind).rows) × (self.new ≡ with_bank before kind (after_add (bank_of before kind) spec.now))) }
+        ensures added { let before = self.old in IfOk result (λ slot. (slot ≡ length (bank_of before kind).rows)
+            × (self.new ≡ with_bank before kind (after_add (bank_of before kind) spec.now))) }
         ensures kept { OnErr result (self.new ≡ self.old) }
         ensures full { IsFull self.old → IsFull self.new }
     {
@@ -159,8 +153,10 @@ impl<B: Bank> Library<B> {
         requires known { Holds self.old kind }
         requires calls { MayRun (bank_of self.old kind) places.now values.old calls.now }
         ensures ended { EndsRun (run_of (bank_of self.old kind) places.now calls.now values.old) result values.new }
-        ensures in_range { (types : List Ty) → AreOfTypes types values.old → ArePlaced (bank_of self.old kind) places.now types calls.now → AreOfTypes types values.new }
-        ensures changed { let b = bank_of self.old kind in self.new ≡ with_bank self.old kind (after_outs b (calls_made (length calls.now) (run_of b places.now calls.now values.old))) }
+        ensures in_range { (types : List Ty) → AreOfTypes types values.old → ArePlaced (bank_of self.old kind) places.now types calls.now
+            → AreOfTypes types values.new }
+        ensures changed { let b = bank_of self.old kind in self.new ≡ with_bank self.old kind
+            (after_outs b (calls_made (length calls.now) (run_of b places.now calls.now values.old))) }
         ensures full { IsFull self.old → IsFull self.new }
     {
         self.banks[place(kind)].out_run(calls, places, values)

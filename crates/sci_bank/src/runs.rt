@@ -2,7 +2,7 @@
 use crate::Fate;
 
 /// A call of a block in a run: its slot in its kind's bank, its number, by which its values are found, and the activation inputs that are activated.
-#[derive(Clone, Copy, Debug, Drop, PartialEq, Eq)]
+#[derive(Clone, Copy, Drop)]
 pub struct Call {
     pub slot: usize,
     pub block: u32,
@@ -10,7 +10,7 @@ pub struct Call {
 }
 
 /// The first call of a run whose block has no values.
-#[derive(Clone, Copy, Debug, Drop, PartialEq, Eq)]
+#[derive(Clone, Copy, Drop)]
 pub struct Stuck {
     /// The block.
     pub block: u32,

@@ -1,5 +1,6 @@
 //! What a spec and the inputs' values say, read by the banks. A read past the end gives 0, as in the table of meanings.
 ghost use Rattle.std.specs.Prelude.{◌≡◌, ◌<◌, ◌≤◌, ◌*ℤ◌, length};
+ghost use Rattle.sci_base.specs.declared.limits.TheConstants.{PORT_ELEMENTS};
 ghost use Rattle.sci_base.specs.Fit.{fit, int_eq, InRange};
 ghost use Rattle.sci_base.specs.Lists.{at};
 ghost use Rattle.sci_forms.specs.Ports.{total, Fills};
@@ -39,7 +40,7 @@ impl Model for Words {
 impl Words {
     /// The words of a spec.
     pub fn of(spec: Spec) -> Words
-        requires { size spec ≤ 256 }
+        requires { size spec ≤ PORT_ELEMENTS }
         ensures { result ≡ spec }
     {
         let port = spec.outs.port(0);
@@ -161,7 +162,7 @@ pub fn input(spec: &Words, ins: &Entering, k: usize, e: usize) -> i64
 
 /// The same, and its range, of a block whose ports all have the type and the size of the first output.
 pub fn alike_input(spec: &Words, ins: &Entering, k: usize, e: usize) -> i64
-    requires small { size spec.now ≤ 256 }
+    requires small { size spec.now ≤ PORT_ELEMENTS }
     requires alike { IsAlikeSpec spec.now }
     requires filled { Fills spec.now.ins ins.now }
     requires port { k < length spec.now.ins }

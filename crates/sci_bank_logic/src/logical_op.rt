@@ -1,5 +1,6 @@
 // LOGICAL_OP: an operation on the truths of the inputs, or on each bit of their patterns.
 ghost use Rattle.std.specs.Prelude.{refl, ◌≡◌, ◌<◌, ◌≤◌, length, ℕ, ℤ};
+ghost use Rattle.sci_base.specs.declared.limits.TheConstants.{PORT_ELEMENTS};
 ghost use Rattle.sci_forms.specs.Ports.{total, Fills};
 ghost use Rattle.sci_forms.specs.Words.{param, size, out_type};
 ghost use Rattle.sci_kinds.specs.Table.{logical, logical_bits, count_to, input, number};
@@ -47,7 +48,7 @@ fn logical(op: i64, n: usize, count: usize) -> bool
 
 /// How many inputs are true at one element.
 fn true_inputs(spec: &Words, ins: &Entering, at: usize) -> usize
-    requires { size spec.now ≤ 256 }
+    requires { size spec.now ≤ PORT_ELEMENTS }
     ensures { result ≡ count_to (λ k. input (size spec.now) ins.now k at) (length spec.now.ins) }
 {
     let mut count = 0;

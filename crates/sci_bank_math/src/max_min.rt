@@ -1,5 +1,6 @@
 // MAXMIN: the least or the greatest input.
 ghost use Rattle.std.specs.Prelude.{refl, ◌≡◌, ◌<◌, ◌≤◌, ◌-◌, length};
+ghost use Rattle.sci_base.specs.declared.limits.TheConstants.{PORT_ELEMENTS};
 ghost use Rattle.sci_forms.specs.Words.{size};
 ghost use Rattle.sci_kinds.specs.Table.{least_to, greatest_to, input};
 ghost use Rattle.sci_forms.specs.declared.Kind.TheVariants.{MaxMin as MaxMinKind};
@@ -20,7 +21,7 @@ pub type MaxMin = KindBank<Plain<MaxMinRule>>;
 
 /// The least input at one element.
 fn least(spec: &Words, ins: &Entering, at: usize) -> i64
-    requires small { size spec.now ≤ 256 }
+    requires small { size spec.now ≤ PORT_ELEMENTS }
     requires some { 1 ≤ length spec.now.ins }
     ensures { result ≡ least_to (λ k. input (size spec.now) ins.now k at) (length spec.now.ins - 1) }
 {
@@ -33,7 +34,7 @@ fn least(spec: &Words, ins: &Entering, at: usize) -> i64
 
 /// The greatest input at one element.
 fn greatest(spec: &Words, ins: &Entering, at: usize) -> i64
-    requires small { size spec.now ≤ 256 }
+    requires small { size spec.now ≤ PORT_ELEMENTS }
     requires some { 1 ≤ length spec.now.ins }
     ensures { result ≡ greatest_to (λ k. input (size spec.now) ins.now k at) (length spec.now.ins - 1) }
 {

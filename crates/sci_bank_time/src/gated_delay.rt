@@ -1,5 +1,6 @@
 // GATED_DELAY: y is the state where the gate, the second input, is positive, and else 0; the next state is the first input.
 ghost use Rattle.std.specs.Prelude.{refl, ◌≡◌, ◌≤◌, pos, int_lt, if◌then◌else◌};
+ghost use Rattle.sci_base.specs.declared.limits.TheConstants.{PORT_ELEMENTS};
 ghost use Rattle.sci_base.specs.Lists.{at};
 ghost use Rattle.sci_forms.specs.Words.{size};
 ghost use Rattle.sci_forms.specs.declared.Kind.TheVariants.{GatedDelay as GatedDelayKind};
@@ -20,7 +21,7 @@ pub type GatedDelay = KindBank<Stateful<GatedDelayRule>>;
 
 /// The second input's one element, which stands behind those of the first.
 fn gate(spec: &Words, ins: &Entering) -> i64
-    requires { size spec.now ≤ 256 }
+    requires { size spec.now ≤ PORT_ELEMENTS }
     ensures { result ≡ at ins.now (size spec.now) }
 {
     element(ins, size(spec))

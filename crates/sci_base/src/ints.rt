@@ -26,12 +26,6 @@ impl Ints {
         Ints { items }
     }
 
-    pub fn into_vec(self) -> Vec<i64>
-        ensures { result.items ≡ self }
-    {
-        self.items
-    }
-
     pub fn len(&self) -> usize
         ensures value { result ≡ length self.now }
         ensures few { result < 2 ^ 63 }

@@ -12,8 +12,6 @@ pub mod limits;
 mod observation;
 mod refusal;
 mod stop;
-#[cfg(test)]
-mod tests;
 mod truths;
 
 pub use block::{BlockFields, Dep, Part};
@@ -35,7 +33,7 @@ pub enum Ty {
 }
 
 /// What happens to a number out of its type's range.
-#[derive(Clone, Copy, Debug, Drop, PartialEq, Eq)]
+#[derive(Clone, Copy, Drop)]
 pub enum Mode {
     Wrap,
     Saturate,

@@ -21,11 +21,14 @@ pub const LINKS: u32 = 16384;
 /// The most tag objects over all levels.
 pub const TAGS: u32 = 1024;
 
+/// The most inputs, and the most outputs, of a block: of values, and of activations.
+pub const PORTS: u32 = 64;
+
 /// The most elements of an output.
-pub const PORT_ELEMENTS: i64 = 256;
+pub const PORT_ELEMENTS: u32 = 256;
 
 /// The most elements of all outputs together.
-pub const ALL_ELEMENTS: i64 = 65536;
+pub const ALL_ELEMENTS: u32 = 65536;
 
 /// The most entries and guards of the schedules.
 pub const ENTRIES: u64 = 262144;

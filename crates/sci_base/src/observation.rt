@@ -1,7 +1,7 @@
 // What is observed of a run.
 
 /// Why a run ended.
-#[derive(Clone, Copy, Debug, Drop, PartialEq, Eq)]
+#[derive(Clone, Copy, Drop)]
 pub enum EndWord {
     /// A halt block was active.
     Halt,
@@ -14,7 +14,7 @@ pub enum EndWord {
 }
 
 /// Why a run stopped before its end.
-#[derive(Clone, Copy, Debug, Drop, PartialEq, Eq)]
+#[derive(Clone, Copy, Drop)]
 pub enum StopWord {
     /// A value is out of its type's range.
     Overflow,
@@ -27,7 +27,7 @@ pub enum StopWord {
 }
 
 /// One observation of a run, a line of its trace. Dates are in ticks; blocks, ports and elements are counted from 1.
-#[derive(Clone, Copy, Debug, Drop, PartialEq, Eq)]
+#[derive(Clone, Copy, Drop)]
 pub enum Obs {
     /// The reaction of start.
     Start,

@@ -6,10 +6,10 @@ use smallvec::SmallVec;
 use std::alloc::Global;
 
 /// A rule, by the number and the name that a refusal prints.
-#[derive(Clone, Copy, Debug, Drop, PartialEq, Eq)]
+#[derive(Clone, Copy, Drop)]
 pub enum Rule {
     /// The bytes are no JSON text (RFC 8259).
-    NotJson,
+    NotJson = 1,
     /// A required field is absent.
     MissingField,
     /// A field hasn't its form.
@@ -91,45 +91,7 @@ impl Rule {
     pub fn number(self) -> u8
         ensures { result ≡ number_of self }
     {
-        match self {
-            Rule::NotJson => 1,
-            Rule::MissingField => 2,
-            Rule::WrongField => 3,
-            Rule::TooDeep => 4,
-            Rule::TooManyBlocks => 5,
-            Rule::TooManyLinks => 6,
-            Rule::UnknownBlock => 7,
-            Rule::BadParameter => 8,
-            Rule::PortShape => 9,
-            Rule::NotInteger => 10,
-            Rule::AlwaysActive => 11,
-            Rule::LinkEnd => 12,
-            Rule::InputTwice => 13,
-            Rule::SuperPorts => 14,
-            Rule::NoSource => 15,
-            Rule::ColumnTwice => 16,
-            Rule::TypeConflict => 17,
-            Rule::SizeConflict => 18,
-            Rule::TypeOpen => 19,
-            Rule::SizeOpen => 20,
-            Rule::TypeNotHere => 21,
-            Rule::ShapeRule => 22,
-            Rule::SignalTooLarge => 23,
-            Rule::AlgebraicLoop => 24,
-            Rule::ScheduleTooLong => 25,
-            Rule::NotC => 26,
-            Rule::InputShape => 27,
-            Rule::InputRange => 28,
-            Rule::FileTooLong => 29,
-            Rule::Unbuilt => 30,
-            Rule::TagShape => 31,
-            Rule::TagTwice => 32,
-            Rule::TagMissing => 33,
-            Rule::TooManyTags => 34,
-            Rule::RunEnded => 35,
-            Rule::NotSave => 36,
-            Rule::NotVcd => 37,
-        }
+        self as u8
     }
 
     /// The name as it is printed.

@@ -6,7 +6,7 @@ use crate::{Refusal, Rule};
 use std::alloc::{AllocError, AllocFailed, Global};
 
 /// There was no memory.
-#[derive(Clone, Copy, Debug, Drop, PartialEq, Eq)]
+#[derive(Clone, Copy, Debug, Drop)]
 pub struct NoMemory;
 
 impl From<AllocError> for NoMemory {

@@ -26,12 +26,6 @@ impl Truths {
         Truths { items }
     }
 
-    pub fn into_vec(self) -> Vec<bool>
-        ensures { result.items ≡ self }
-    {
-        self.items
-    }
-
     pub fn len(&self) -> usize
         ensures value { result ≡ length self.now }
         ensures few { result < 2 ^ 63 }

@@ -1,5 +1,6 @@
 -- What holds of diagrams that are read, and of those that break no rule.
 use Rattle.std.specs.Prelude.{◌≡◌, ℕ, ◌≤◌, ◌<◌, ◌≢◌, List, length, is_some, if◌then◌else◌, nat_le, Some, Ok}
+use Rattle.sci_base.specs.declared.limits.TheConstants.{DIAGRAM_BYTES}
 use Rattle.sci_diagram.specs.Objects.{Objects}
 use Rattle.sci_diagram.specs.Reading.{Accepts}
 use Rattle.sci_diagram.specs.Tree.{is_pass_through}
@@ -12,7 +13,7 @@ use Rattle.sci_blocks.specs.Wiring.{links_of}
 
 -- a diagram that is read has fewer than 2^32 objects in each list
 abbrev pub ReadLaw : Type 0
-ReadLaw = (bytes : List ℕ) (d : Objects) → length bytes ≤ 16777216 → Accepts bytes d → AreListsShort d
+ReadLaw = (bytes : List ℕ) (d : Objects) → length bytes ≤ DIAGRAM_BYTES → Accepts bytes d → AreListsShort d
 
 -- where no object breaks a rule, and where no link does
 abbrev pub BlocksLaw : Type 0

@@ -1,6 +1,7 @@
 -- Pass-through objects: what each asks of its counts of ports, and of a port block's parameter.
 use Rattle.std.specs.Prelude.{ℕ, ℤ, pos, List, [], ◌∷◌, length, Bool, ◌||◌, not, int_le, codes, if◌then◌else◌, Option, Some, None, is_none, Ok, Err}
 use Rattle.std.specs.Str.{bytes_eq}
+use Rattle.sci_base.specs.declared.limits.TheConstants.{PORTS}
 use Rattle.sci_base.specs.Plain.{Fields}
 use Rattle.sci_base.specs.Outcome.{Outcome}
 use Rattle.sci_forms.specs.declared.broken.Broken.{Broken}
@@ -36,9 +37,9 @@ counts a b c d e f g h =
 -- so many does a pass-through object ask for; the block that stands for an input of the
 -- superblock has an output, and the other way round; an object that gives a tag has an input alone, one that takes a tag an output
 abbrev pub row : PassThrough → Counts
-row Split = counts 1 1 1 64 0 0 0 0
-row ActivationSplit = counts 0 0 0 0 1 1 1 64
-row Union = counts 0 0 0 0 1 64 1 1
+row Split = counts 1 1 1 PORTS 0 0 0 0
+row ActivationSplit = counts 0 0 0 0 1 1 1 PORTS
+row Union = counts 0 0 0 0 1 PORTS 1 1
 row (PortBlock Input) = counts 0 0 1 1 0 0 0 0
 row (PortBlock Output) = counts 1 1 0 0 0 0 0 0
 row (PortBlock ActivationInput) = counts 0 0 0 0 0 0 1 1

@@ -39,7 +39,8 @@ pub(crate) fn add_block(
     f: &BlockFields,
     parts: &mut Vec<Part>,
 ) -> Result<(), Stop>
-    ensures ok { OnOk result (onto (map part_view parts.old.items) (block_parts here.now gui.now (fields_of f.now) (pass_through gui.now)) ≡ Ok (map part_view parts.new.items)) }
+    ensures ok { OnOk result (onto (map part_view parts.old.items) (block_parts here.now gui.now (fields_of f.now) (pass_through gui.now))
+        ≡ Ok (map part_view parts.new.items)) }
     ensures stop { IfErr result (λ e. Stops (block_parts here.now gui.now (fields_of f.now) (pass_through gui.now)) e) }
 {
     match PassThrough::of(gui) {

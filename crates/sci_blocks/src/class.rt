@@ -2,7 +2,7 @@
 use sci_base::BlockFields;
 
 /// A class of ports.
-#[derive(Clone, Copy, Debug, Drop, PartialEq, Eq)]
+#[derive(Clone, Copy, Debug, Drop)]
 pub enum PortClass {
     /// Regular inputs.
     Input,

@@ -3,7 +3,7 @@ use crate::class::PortClass;
 use sci_base::BlockFields;
 
 /// How many ports of each class a superblock has.
-#[derive(Clone, Copy, Debug, Drop, PartialEq, Eq)]
+#[derive(Clone, Copy, Drop)]
 pub(crate) struct PortCounts {
     pub(crate) ins: usize,
     pub(crate) outs: usize,

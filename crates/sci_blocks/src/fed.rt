@@ -27,7 +27,8 @@ impl FedInputs {
     /// Takes one more input, and says whether it is new.
     pub(crate) fn insert(&mut self, block: i64, port: i64) -> Result<bool, NoMemory>
         ensures fresh { (ends : List End) → HoldsEnds self.old ends → IfOk result (λ fresh. fresh ≡ not (list_any (is_at block port) ends)) }
-        ensures more { (ends : List End) (to : End) → to.block ≡ block → to.port ≡ port → HoldsEnds self.old ends → OnOk result (HoldsEnds self.new (ends ++ to ∷ [])) }
+        ensures more { (ends : List End) (to : End) → to.block ≡ block → to.port ≡ port → HoldsEnds self.old ends
+            → OnOk result (HoldsEnds self.new (ends ++ to ∷ [])) }
     {
         let fresh = self.ends.insert((block, port))?;
         Ok(fresh)

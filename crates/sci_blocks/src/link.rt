@@ -2,7 +2,8 @@
 ghost use Rattle.std.specs.Prelude.{◌≡◌, ◌<◌, ◌<ℤ◌, ◌+◌, ◌^◌, MatchOption, ◌++◌, ◌∷◌, [], List, pos, IfOk, IfErr, OnOk, Ok, Some};
 ghost use Rattle.sci_diagram.specs.declared.diagram.End.{End as LinkEnd};
 ghost use Rattle.sci_diagram.specs.Objects.{object_view, diagram_view};
-ghost use Rattle.sci_blocks.specs.Wiring.{object_ports, ports_of, at_position, is_port_of, link_type, typed_as, end_judged, end_broken, once_fed, ends_judged, link_judged, regular_end};
+ghost use Rattle.sci_blocks.specs.Wiring.{object_ports, ports_of, at_position, is_port_of, link_type, typed_as, end_judged, end_broken, once_fed};
+ghost use Rattle.sci_blocks.specs.Wiring.{ends_judged, link_judged, regular_end};
 ghost use Rattle.sci_blocks.specs.Ending.{HoldsEnds};
 ghost use Rattle.sci_base.specs.Stops.{Stops};
 ghost use Rattle.sci_diagram.specs.Telling.{Tells};
@@ -132,9 +133,11 @@ pub(crate) fn link_judged(
     fed: &mut FedInputs,
     l: &LinkObj,
 ) -> Result<(), Stop>
-    ensures ok { (ends : List LinkEnd) → HoldsEnds fed.old ends → OnOk result (link_judged here.now (diagram_view d.now) ends l.now.from l.now.to l.now.kind ≡ Ok tt) }
+    ensures ok { (ends : List LinkEnd) → HoldsEnds fed.old ends
+        → OnOk result (link_judged here.now (diagram_view d.now) ends l.now.from l.now.to l.now.kind ≡ Ok tt) }
     ensures more { (ends : List LinkEnd) → HoldsEnds fed.old ends → OnOk result (HoldsEnds fed.new (ends ++ regular_end l.now.to (link_type l.now.kind))) }
-    ensures stop { (ends : List LinkEnd) → HoldsEnds fed.old ends → IfErr result (λ e. Stops (link_judged here.now (diagram_view d.now) ends l.now.from l.now.to l.now.kind) e) }
+    ensures stop { (ends : List LinkEnd) → HoldsEnds fed.old ends
+        → IfErr result (λ e. Stops (link_judged here.now (diagram_view d.now) ends l.now.from l.now.to l.now.kind) e) }
 {
     let t = ends_judged(alloc, here, d, l)?;
     once_fed(alloc, here, fed, t, &l.to)

@@ -41,7 +41,8 @@ fn object_links(
     requires short { IsInsideShort (object_view obj.now) }
     ensures ok { (ends : List LinkEnd) → HoldsEnds fed.old ends → OnOk result (object_links here.now (diagram_view d.now) ends (object_view obj.now) ≡ Ok tt) }
     ensures more { (ends : List LinkEnd) → HoldsEnds fed.old ends → OnOk result (HoldsEnds fed.new (ends ++ fed_by (object_view obj.now))) }
-    ensures stop { (ends : List LinkEnd) → HoldsEnds fed.old ends → IfErr result (λ e. Stops (object_links here.now (diagram_view d.now) ends (object_view obj.now)) e) }
+    ensures stop { (ends : List LinkEnd) → HoldsEnds fed.old ends
+        → IfErr result (λ e. Stops (object_links here.now (diagram_view d.now) ends (object_view obj.now)) e) }
 {
     match obj {
         Obj::Block(b) => match &b.inner {

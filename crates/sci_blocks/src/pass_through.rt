@@ -3,10 +3,11 @@ ghost use Rattle.std.specs.Prelude.{◌≡◌};
 ghost use Rattle.sci_blocks.specs.Rows.{counts};
 
 use crate::class::{LinkType, PortClass};
+use sci_base::limits;
 use sci_forms::Counts;
 
 /// A pass-through object.
-#[derive(Clone, Copy, Debug, Drop, PartialEq, Eq)]
+#[derive(Clone, Copy, Debug, Drop)]
 pub enum PassThrough {
     /// `SPLIT_f`: joins its input to each of its outputs.
     Split,
@@ -50,9 +51,9 @@ impl PassThrough {
         ensures { result ≡ row self }
     {
         match self {
-            PassThrough::Split => regular(1, 1, 1, 64),
-            PassThrough::ActivationSplit => activation(1, 1, 1, 64),
-            PassThrough::Union => activation(1, 64, 1, 1),
+            PassThrough::Split => regular(1, 1, 1, limits::PORTS as usize),
+            PassThrough::ActivationSplit => activation(1, 1, 1, limits::PORTS as usize),
+            PassThrough::Union => activation(1, limits::PORTS as usize, 1, 1),
             PassThrough::PortBlock(PortClass::Input) => regular(0, 0, 1, 1),
             PassThrough::PortBlock(PortClass::Output) => regular(1, 1, 0, 0),
             PassThrough::PortBlock(PortClass::ActivationInput) => activation(0, 0, 1, 1),

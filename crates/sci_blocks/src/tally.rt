@@ -28,7 +28,8 @@ impl Tally {
         requires positive { 1 ≤ n }
         requires fits { n < 2 ^ 63 }
         requires few { n ≤ length self.old.times.items → slice_index self.old.times.items (n - 1) + 1 < 2 ^ 32 }
-        ensures { (rest whole : List ℕ) → IsTallied self.old (length self.old.times.items) (n ∷ rest) whole → IsTallied self.new (length self.old.times.items) rest whole }
+        ensures { (rest whole : List ℕ) → IsTallied self.old (length self.old.times.items) (n ∷ rest) whole
+            → IsTallied self.new (length self.old.times.items) rest whole }
     {
         let at = (n - 1) as usize;
         if at < self.times.len() {

@@ -58,7 +58,8 @@ fn add_superblock(
     parts: &mut Vec<Part>,
 ) -> Result<(), Stop>
     requires short { AreListsShort (diagram_view inner.now) }
-    ensures ok { OnOk result (onto (map part_view parts.old.items) (superblock_parts here.now (fields_of f.now) (diagram_view inner.now)) ≡ Ok (map part_view parts.new.items)) }
+    ensures ok { OnOk result (onto (map part_view parts.old.items) (superblock_parts here.now (fields_of f.now) (diagram_view inner.now))
+        ≡ Ok (map part_view parts.new.items)) }
     ensures stop { IfErr result (λ e. Stops (superblock_parts here.now (fields_of f.now) (diagram_view inner.now)) e) }
 {
     superblock_matched(alloc, here, f, inner)?;

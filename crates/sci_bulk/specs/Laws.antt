@@ -1,5 +1,6 @@
 -- Laws of bulk diagrams.
-use Rattle.std.specs.Prelude.{◌≡◌, ℕ, ℤ, pos, ◌+◌, ◌*◌, ◌^◌, ◌<◌, ◌≤◌, false, List, [], ◌∷◌, ◌++◌, length, Contains, Ok, Err}
+use Rattle.std.specs.Prelude.{◌≡◌, ℕ, ℤ, pos, ◌+◌, ◌*◌, ◌<◌, ◌≤◌, false, List, [], ◌∷◌, ◌++◌, length, Contains, Ok, Err}
+use Rattle.sci_base.specs.declared.limits.TheConstants.{TICKS, EVENTS}
 use Rattle.sci_base.specs.Plain.{Violation}
 use Rattle.sci_base.specs.declared.observation.Obs.{Obs}
 use Rattle.sci_base.specs.declared.observation.Obs.TheVariants.{End}
@@ -83,5 +84,5 @@ BulkIsAccepted = (seed size : ℕ) → 1 ≤ size → size ≤ 2000 → IsAccept
 -- the run of its typed net to the last date ends by the bound on events
 abbrev pub BulkEndsByEvents : Type 0
 BulkEndsByEvents =
-    (seed size : ℕ) (n m : Parts) (i : Columns) (limit : ℕ) (os : List Obs) → 1 ≤ size → size ≤ 2000 → limit ≤ 1000000
-    → IsFlatNet (bulk seed size) n → IsAnswer n (Ok m) → IsRun m i (2 ^ 62) limit os → (seen : List Obs) × (os ≡ seen ++ End Events ∷ [])
+    (seed size : ℕ) (n m : Parts) (i : Columns) (limit : ℕ) (os : List Obs) → 1 ≤ size → size ≤ 2000 → limit ≤ EVENTS
+    → IsFlatNet (bulk seed size) n → IsAnswer n (Ok m) → IsRun m i TICKS limit os → (seen : List Obs) × (os ≡ seen ++ End Events ∷ [])

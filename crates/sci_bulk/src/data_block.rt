@@ -6,7 +6,7 @@ use sci_base::NoMemory;
 use std::alloc::Global;
 
 /// A data block. It names the data blocks that feed it by their numbers, from 1.
-#[derive(Clone, Copy, Debug, Drop, PartialEq, Eq)]
+#[derive(Clone, Copy, Drop)]
 pub enum DataBlock {
     /// The constant 1.
     One,

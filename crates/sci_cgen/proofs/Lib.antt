@@ -8,6 +8,7 @@ pub mod Entries
 pub mod Given
 pub mod Staying
 pub mod Delays
+pub mod Counting
 pub mod States
 pub mod Halts
 pub mod Found

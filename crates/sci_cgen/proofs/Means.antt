@@ -33,6 +33,7 @@ use Rattle.c_steps.proofs.Frames.{puts_alone}
 use Rattle.c_steps.proofs.Programs.{meaning_runs}
 use Rattle.sci_due.specs.Due.{best as chosen_name}
 use Rattle.sci_due.specs.Laws.{ShowsPending}
+use Rattle.sci_cgen.proofs.Counting.{counts_stand}
 use Rattle.sci_cgen.specs.Names.{actives, branches, limit_name, fired_name, next_date, source_name, settle_name, choose_name, event_name}
 use Rattle.sci_cgen.specs.Program.{one, port_count, scratch_count, outset_text, first_text, begin_text, turn_text, main_text, called_functions, functions, program}
 use Rattle.sci_cgen.specs.Laws.{answer_by}
@@ -71,6 +72,7 @@ module _ (n : Parts) (rows : List (List Entry)) (i : Columns) (until asked : ℕ
   in_order : (limit : ℕ) → limit ≤ 2 ^ 51 → (st : State) (seen : List Obs) → Reachable n i until limit st seen → IsInOrder n st
   in_order limit most st seen stands = record {
     memory = stands_in_range n i net free columns until limit st seen stands;
+    counts = counts_stand n i net until limit st seen stands;
     pending = stands_ahead n net i until limit st seen stands;
     few =
         let orders = orders_within n i until limit st seen stands in

@@ -40,6 +40,7 @@ use Rattle.sci_cgen.specs.Names.{limit_name, until_name, fired_name, next_date, 
 use Rattle.sci_cgen.specs.Program.{natural, one, text_where, each_block, each_port, port_count, states_before, places_of, held_begun, state_begun, source_begun, programmed_before, outset_text}
 use Rattle.sci_cgen.specs.Shows.{ShowsValues, ShowsStates, ShowsColumns, HasRoom, ShowsState}
 use Rattle.sci_cgen.proofs.Firings.{is_table, HasBegun, few_before, firings_lead}
+use Rattle.sci_cgen.proofs.Counting.{first_counts}
 use Rattle.sci_cgen.proofs.Ready.{IsReady}
 use Rattle.sci_cgen.proofs.Staying.{pending_stays}
 use Rattle.sci_cgen.proofs.Between.{alone_wider}
@@ -368,6 +369,7 @@ module _ (n : Parts) (net : IsNet n) (scratch : ℕ) (i : Columns) (until limit 
         (λ s b l. alone.same _ b refl ∙ blank.branches s b l);
     goes_on = none_halts 1 n.specs;
     memory = memory n net;
+    counts = first_counts n net;
     ports = h.ports;
     few = let few = ports_few n net in omega (arith, few, h.few);
     soon = omega arith;

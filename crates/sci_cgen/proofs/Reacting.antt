@@ -120,7 +120,7 @@ module _ (values : ValuesLaw) (sensor : SensorLaw) (branch : BranchLaw) (may : M
       subst (λ (run : World → Ran). Settles n (scratch_count n rows (length n.specs)) i until limit date (source_of n k) st (run to)) (sym c.1)
       (settles (surroundings (block_functions n rows) (pos until) (pos limit)) n net (scratch_count n rows (length n.specs)) i until limit date
       (source_of n k) st
-      (slice_index_or rows k []) w to (row_of k l) ready.memory ready.shows ready.goes_on ready.soon ready.few ready.ports passed c.0)
+      (slice_index_or rows k []) w to (row_of k l) ready.memory ready.counts ready.shows ready.goes_on ready.soon ready.few ready.ports passed c.0)
 
   -- ---- what it comes to
 

@@ -20,6 +20,7 @@ use Rattle.sci_due.specs.Due.{best as chosen_name}
 use Rattle.sci_due.specs.Laws.{AreOfPorts}
 use Rattle.sci_cgen.specs.Names.{limit_name, until_name, fired_name}
 use Rattle.sci_cgen.specs.Program.{port_count}
+use Rattle.sci_cgen.proofs.Counting.{AreCounts}
 use Rattle.sci_cgen.specs.Shows.{ShowsState, ShowsPass}
 
 -- Memory is ready for a reaction at a date: it shows the state with this date, no block is active and none has taken a branch. No HALT_f was active before,
@@ -29,6 +30,7 @@ pub record IsReady (n : Parts) (scratch : ℕ) (i : Columns) (until limit date :
   pub rest : ShowsPass n scratch i st.memory.cursor (at_rest st.memory) w w
   pub goes_on : halts n st.active ≡ false
   pub memory : IsMemory n st.memory
+  pub counts : AreCounts n st.memory
   pub ports : AreOfPorts (port_count n) st.pending.events
   pub few : suc (st.pending.programmed + port_count n) < 2 ^ 63
   pub soon : date ≤ 2 ^ 62

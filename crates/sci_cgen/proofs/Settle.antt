@@ -44,6 +44,7 @@ use Rattle.sci_cgen.specs.Passes.{cursors, HasPassed}
 use Rattle.sci_cgen.proofs.Observing.{values_told}
 use Rattle.sci_cgen.proofs.Staying.{neither, values_stay, states_stay, active_stays, bounds_stay, pending_stays, room_stays}
 use Rattle.sci_cgen.proofs.Delays.{delays_lead}
+use Rattle.sci_cgen.proofs.Counting.{AreCounts}
 use Rattle.sci_cgen.proofs.States.{AreNext, is_stating, states_lead, state_size}
 use Rattle.sci_cgen.proofs.Halts.{is_halting, halts_lead}
 
@@ -79,7 +80,7 @@ next_unmasked GatedDelay s x m u i = refl
 next_unmasked _ s x m u i = refl
 
 module _ (env : Around) (n : Parts) (net : IsNet n) (scratch : ℕ) (i : Columns) (until limit date : ℕ) (s : Source) (st : State) (row : List Entry)
-    (before w : World) (row_is : IsRow n s row) (in_range : IsMemory n st.memory) (shows : ShowsState n scratch i until limit (at_date date st) before)
+    (before w : World) (row_is : IsRow n s row) (in_range : IsMemory n st.memory) (counts : AreCounts n st.memory) (shows : ShowsState n scratch i until limit (at_date date st) before)
     (halted : halts n st.active ≡ false) (soon : date ≤ 2 ^ 62) (small : suc (st.pending.programmed + port_count n) < 2 ^ 63)
     (ports : AreOfPorts (port_count n) st.pending.events) (passed : HasPassed n scratch i st.memory s row before w) (memory : Memory)
     (next : IsNextMemory n st.memory s passed.found.values memory) where
@@ -224,7 +225,7 @@ module _ (env : Around) (n : Parts) (net : IsNet n) (scratch : ℕ) (i : Columns
       (joined (each_block (state_text n) n) (each_block (halt_text n) n)) w (ports_lead k) (λ k1 w1 one.
       let marked = active_stays is_programming w w1 one.alone n active refl passed.shows.active in
       joined_leads (λ r. Leads r (ShowsState n scratch i until limit after)) env k1 (each_block (state_text n) n) (each_block (halt_text n) n) w1
-      (states_lead env n net scratch st.memory.state memory.state y active passed.in_range in_range.states nexts w1
+      (states_lead env n net scratch st.memory.state memory.state y active passed.in_range in_range.states counts nexts w1
       (values_stay is_programming w w1 one.alone n y refl passed.shows.values) marked
       (room_stays is_programming w w1 one.alone n scratch refl passed.shows.room)
       (states_stay is_programming w w1 one.alone n st.memory.state refl states_there) k1) (λ k2 w2 two.
@@ -262,10 +263,10 @@ module _ (env : Around) (n : Parts) (net : IsNet n) (scratch : ℕ) (i : Columns
 
 -- The text behind a pass observes the values of the active blocks, and leads to the memory behind the reaction.
 module _ (env : Around) (n : Parts) (net : IsNet n) (scratch : ℕ) (i : Columns) (until limit date : ℕ) (s : Source) (st : State) (row : List Entry)
-    (before w : World) (row_is : IsRow n s row) (in_range : IsMemory n st.memory) (shows : ShowsState n scratch i until limit (at_date date st) before)
+    (before w : World) (row_is : IsRow n s row) (in_range : IsMemory n st.memory) (counts : AreCounts n st.memory) (shows : ShowsState n scratch i until limit (at_date date st) before)
     (halted : halts n st.active ≡ false) (soon : date ≤ 2 ^ 62) (small : suc (st.pending.programmed + port_count n) < 2 ^ 63)
     (ports : AreOfPorts (port_count n) st.pending.events) (passed : HasPassed n scratch i st.memory s row before w) where
   pub settles : (k : ℕ) → Settles n scratch i until limit date s st (run_block env k (settle_text n) w)
   settles k =
       let m = some_next n st.memory s passed.found.values in
-      settles_with env n net scratch i until limit date s st row before w row_is in_range shows halted soon small ports passed m.0 m.1 k
+      settles_with env n net scratch i until limit date s st row before w row_is in_range counts shows halted soon small ports passed m.0 m.1 k

@@ -24,6 +24,7 @@ use Rattle.c_steps.proofs.Steps.{done_leads, joined_leads, then_leads, leads_as,
 use Rattle.c_steps.proofs.Frames.{alone_all, alone_then}
 use Rattle.c_steps.proofs.Values.{element_is}
 use Rattle.sci_cgen_blocks.specs.Texts.{states, next_text}
+use Rattle.sci_cgen_blocks.specs.Laws.{IsCount}
 use Rattle.sci_cgen_blocks.proofs.NextStates.{next_law, next_reads_law}
 use Rattle.sci_cgen_blocks.proofs.NextTexts.{next_is}
 use Rattle.sci_cgen.specs.Names.{actives}
@@ -113,7 +114,7 @@ pub record AreNext (n : Parts) (y : Signals) (active : Activity) (x next : Signa
   pub kept : (b : ℕ) → IsBlock n b → active b ≡ false → next b ≡ x b
 
 module _ (env : Around) (n : Parts) (net : IsNet n) (scratch : ℕ) (x next y : Signals) (active : Activity) (in_range : AreInRange n y)
-    (states_are : (b : ℕ) → IsBlock n b → IsState (spec_of n b) (x b)) (nexts : AreNext n y active x next) where
+    (states_are : (b : ℕ) → IsBlock n b → IsState (spec_of n b) (x b)) (counts : (b : ℕ) → IsBlock n b → IsCount (spec_of n b) (x b)) (nexts : AreNext n y active x next) where
   one_state : (b k : ℕ) (w : World) → IsBlock n b → ShowsValues n y w → ShowsActive n active w → HasRoom n scratch w
       → ((i : ℕ) → i < state_size n b → get w states (state_start n b + i) ≡ Some (at (x b) i))
       → Leads (run_block env k (state_text n b) w) (HasState n b (next b) w)
@@ -135,7 +136,7 @@ module _ (env : Around) (n : Parts) (net : IsNet n) (scratch : ℕ) (x next y : 
           (next_is env (spec_of n b) (places_of n b) (x b) 0 (all_inputs (spec_of n b) (input_in n y b)) w
           (holds_unread n net y (λ c h. (in_range c h).enough) w values b scratch (x b) block (state_unread (spec_of n b).kind has) (omega (arith, few)) held
           room)
-          next_law next_reads_law (net.typed_specs b block) (states_are b block) (inputs_in_range n net y b block in_range) k)
+          next_law next_reads_law (net.typed_specs b block) (states_are b block) (counts b block) (inputs_in_range n net y b block in_range) k)
 
       by_kind : (t : Bool) → has_state (spec_of n b).kind ≡ t
           → Leads (run_block env k (text_where t (only_where (is_active b) (next_text (spec_of n b) (places_of n b)))) w) (HasState n b (next b) w)

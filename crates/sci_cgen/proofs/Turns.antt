@@ -34,6 +34,7 @@ use Rattle.sci_cgen.specs.Shows.{HasRoom, ShowsState, ShowsPass}
 use Rattle.sci_cgen.specs.Stepping.{date_of}
 use Rattle.sci_cgen.proofs.Choice.{is_choosing_next, HasNext, are_of_ports, take_goes}
 use Rattle.sci_cgen.proofs.Dispatch.{still_going, dispatch_is}
+use Rattle.sci_cgen.proofs.Counting.{AreCounts}
 use Rattle.sci_cgen.proofs.Ready.{IsReady, reacting, ReactionGoes}
 use Rattle.sci_cgen.proofs.Staying.{values_stay, states_stay, room_stays, bounds_stay}
 use Rattle.sci_cgen.proofs.Between.{columns_stay, is_between, alone_wider, state_stays}
@@ -61,6 +62,7 @@ pub record Stands (n : Parts) (scratch : ℕ) (i : Columns) (until limit count :
 -- what is known of a state that is reached
 pub record IsInOrder (n : Parts) (st : State) : Type 0 where
   pub memory : IsMemory n st.memory
+  pub counts : AreCounts n st.memory
   pub pending : PendingInOrder n st.now st.pending
   pub few : suc (st.pending.programmed + port_count n) < 2 ^ 63
 
@@ -330,6 +332,7 @@ module _ (env : Around) (n : Parts) (scratch : ℕ) (i : Columns) (until limit :
           rest = ready_from n scratch i until limit e.date (taken st e) w3 (s3 w2 w3 t h) h.active h.branch;
           goes_on = on;
           memory = o.memory;
+          counts = o.counts;
           ports = λ f k. are_of_ports n st.now st.pending o.pending f (was_there (λ (e' : Event). not (e'.order == e.order)) st.pending.events f k).0;
           few = o.few;
           soon = omega (arith, early, late);

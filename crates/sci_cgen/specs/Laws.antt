@@ -1,5 +1,6 @@
 -- What a generated program means, and how it is built.
 use Rattle.std.specs.Prelude.{◌≡◌, ℕ, ◌+◌, ◌≤◌, ◌^◌, pos, false, nat_eq, List, [], ◌∷◌, length, Contains, if◌then◌else◌}
+use Rattle.sci_base.specs.declared.limits.TheConstants.{TICKS}
 use Rattle.sci_base.specs.declared.observation.Obs.{Obs}
 use Rattle.sci_net.specs.Parts.{Parts, IsBlock}
 use Rattle.sci_net.specs.Net.{IsNet}
@@ -27,7 +28,7 @@ answer_by (ByStop block word) = halted
 abbrev pub ProgramMeansRun : Type 0
 ProgramMeansRun =
     (n : Parts) (rows : List (List Entry)) (i : Columns) (until limit : ℕ) (st : State) (how : Ending) (os : List Obs)
-    → IsNet n → AreLoopFree n → IsSchedule n rows → AreColumns n i → until ≤ 2 ^ 62 → limit ≤ 2 ^ 51 → Finish n i until limit st how os
+    → IsNet n → AreLoopFree n → IsSchedule n rows → AreColumns n i → until ≤ TICKS → limit ≤ 2 ^ 51 → Finish n i until limit st how os
     → meaning (program n rows) i (pos until) (pos limit) ≡ record { seen = os; how = answer_by how }
 
 -- ---- how it is built

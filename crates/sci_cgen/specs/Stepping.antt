@@ -1,5 +1,6 @@
 -- A program that its host steps: one call of one function is one event.
 use Rattle.std.specs.Prelude.{◌≡◌, ℕ, ◌<◌, ◌≤◌, ◌^◌, ℤ, pos, negsuc, List, Option, Some, None}
+use Rattle.sci_base.specs.declared.limits.TheConstants.{TICKS}
 use Rattle.sci_base.specs.declared.observation.Obs.{Obs}
 use Rattle.sci_net.specs.Parts.{Parts}
 use Rattle.sci_net.specs.Net.{IsNet}
@@ -55,9 +56,9 @@ pub record IsParted (p : Whole) (begin : Block) : Type 0 where
 pub record Steps (n : Parts) (p : Whole) : Type 0 where
   pub begin : Block
   pub parted : IsParted p begin
-  pub waits : (i : Columns) (until most k : ℕ) (st : State) (seen : List Obs) → AreColumns n i → until ≤ 2 ^ 62 → k ≤ 2 ^ 51
+  pub waits : (i : Columns) (until most k : ℕ) (st : State) (seen : List Obs) → AreColumns n i → until ≤ TICKS → k ≤ 2 ^ 51
       → Reachable n i until k st seen → st.fired ≡ k → Waits st seen (stepped p begin i (pos until) (pos most) k)
-  pub ends : (i : Columns) (until most k : ℕ) (st : State) (how : Ending) (os : List Obs) → AreColumns n i → until ≤ 2 ^ 62 → k ≤ 2 ^ 51
+  pub ends : (i : Columns) (until most k : ℕ) (st : State) (how : Ending) (os : List Obs) → AreColumns n i → until ≤ TICKS → k ≤ 2 ^ 51
       → Finish n i until k st how os → IsToldBy k st how → stepped p begin i (pos until) (pos most) k ≡ record { seen = os; how = answer_by how }
 
 -- A program that is made so can be stepped.

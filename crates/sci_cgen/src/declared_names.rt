@@ -6,11 +6,14 @@ ghost use Rattle.sci_net.specs.Parts.{numbered, spec_of};
 ghost use Rattle.sci_net.specs.Net.{all_elements};
 ghost use Rattle.sci_forms.specs.Form.{is_halt as is_halt_of};
 ghost use Rattle.sci_reaction.specs.Schedule.{Entry as PlainEntry};
-ghost use Rattle.sci_due.specs.Due.{dates as dates_name, orders as orders_name, best as chosen_name, scan as scan_name, now as now_name, last as programmed_name, delay as delay_name};
+ghost use Rattle.sci_due.specs.Due.{dates as dates_name, orders as orders_name, best as chosen_name, scan as scan_name, now as now_name};
+ghost use Rattle.sci_due.specs.Due.{last as programmed_name, delay as delay_name};
 ghost use Rattle.sci_cgen_blocks.specs.Recipes.{scratch_of as scratch_of_kind};
 ghost use Rattle.sci_cgen_blocks.specs.Texts.{values as values_name, states as states_name, masks as masks_name};
-ghost use Rattle.sci_cgen.specs.Names.{actives as actives_name, branches as branches_name, limit_name, fired_name, next_date as next_date_name, until_name, halt_name};
-ghost use Rattle.sci_cgen.specs.Program.{declarations as declarations_of, has_sync as has_sync_of, has_halt as has_halt_of, port_count as port_count_of, states_before, array as array_of, a_scalar, declared_where, scratch_count as scratch_count_of, scratch_declared};
+ghost use Rattle.sci_cgen.specs.Names.{actives as actives_name, branches as branches_name, limit_name, fired_name, next_date as next_date_name};
+ghost use Rattle.sci_cgen.specs.Names.{until_name, halt_name};
+ghost use Rattle.sci_cgen.specs.Program.{declarations as declarations_of, has_sync as has_sync_of, has_halt as has_halt_of, port_count as port_count_of};
+ghost use Rattle.sci_cgen.specs.Program.{states_before, array as array_of, a_scalar, declared_where, scratch_count as scratch_count_of, scratch_declared};
 ghost use Rattle.sci_cgen.specs.Built.{AreMarked};
 
 use crate::names::{
@@ -159,7 +162,9 @@ fn push_scalars(out: &mut Vec<Decl>, names: &[Name]) -> Result<(), NoMemory>
 
 /// The arrays of the blocks' texts.
 fn push_values(out: &mut Vec<Decl>, net: &Net) -> Result<(), NoMemory>
-    ensures { OnOk result (map declared_of out.new.items ≡ map declared_of out.old.items ++ (array_of values_name (all_elements net.now.specs) ∷ array_of states_name (states_before net.now.specs (length net.now.specs)) ∷ array_of masks_name (length net.now.specs) ∷ [])) }
+    ensures { OnOk result (map declared_of out.new.items ≡ map declared_of out.old.items
+        ++ (array_of values_name (all_elements net.now.specs) ∷ array_of states_name (states_before net.now.specs (length net.now.specs))
+        ∷ array_of masks_name (length net.now.specs) ∷ [])) }
 {
     push_array(out, values(), element_count(net))?;
     push_array(out, states(), state_count(net))?;
@@ -168,7 +173,8 @@ fn push_values(out: &mut Vec<Decl>, net: &Net) -> Result<(), NoMemory>
 
 /// Which blocks are active, where there are blocks.
 fn push_actives(out: &mut Vec<Decl>, net: &Net) -> Result<(), NoMemory>
-    ensures { OnOk result (map declared_of out.new.items ≡ map declared_of out.old.items ++ declared_where (nat_lt 0 (length net.now.specs)) (array_of actives_name (length net.now.specs) ∷ [])) }
+    ensures { OnOk result (map declared_of out.new.items ≡ map declared_of out.old.items
+        ++ declared_where (nat_lt 0 (length net.now.specs)) (array_of actives_name (length net.now.specs) ∷ [])) }
 {
     if 0 < net.len() {
         push_array(out, actives(), net.len())
@@ -179,7 +185,8 @@ fn push_actives(out: &mut Vec<Decl>, net: &Net) -> Result<(), NoMemory>
 
 /// Which branches were taken, where a block chooses one.
 fn push_branches(out: &mut Vec<Decl>, net: &Net) -> Result<(), NoMemory>
-    ensures { OnOk result (map declared_of out.new.items ≡ map declared_of out.old.items ++ declared_where (has_sync_of net.now) (array_of branches_name (length net.now.specs) ∷ [])) }
+    ensures { OnOk result (map declared_of out.new.items ≡ map declared_of out.old.items
+        ++ declared_where (has_sync_of net.now) (array_of branches_name (length net.now.specs) ∷ [])) }
 {
     if has_sync(net) {
         push_array(out, branches(), net.len())
@@ -198,7 +205,9 @@ fn push_events(out: &mut Vec<Decl>, ports: u32) -> Result<(), NoMemory>
 
 /// The table of pending events, where there are sources of events.
 fn push_table(out: &mut Vec<Decl>, net: &Net) -> Result<(), NoMemory>
-    ensures { OnOk result (map declared_of out.new.items ≡ map declared_of out.old.items ++ declared_where (nat_lt 0 (port_count_of net.now)) (array_of dates_name (port_count_of net.now) ∷ array_of orders_name (port_count_of net.now) ∷ [])) }
+    ensures { OnOk result (map declared_of out.new.items ≡ map declared_of out.old.items
+        ++ declared_where (nat_lt 0 (port_count_of net.now))
+        (array_of dates_name (port_count_of net.now) ∷ array_of orders_name (port_count_of net.now) ∷ [])) }
 {
     let ports = port_count(net);
     if 0 < ports {
@@ -220,14 +229,17 @@ fn push_scratch(out: &mut Vec<Decl>, count: u32) -> Result<(), NoMemory>
 
 /// The bound on events, the count of those that fired, and the date of the next one.
 fn push_limit(out: &mut Vec<Decl>) -> Result<(), NoMemory>
-    ensures { OnOk result (map declared_of out.new.items ≡ map declared_of out.old.items ++ (a_scalar limit_name ∷ a_scalar fired_name ∷ a_scalar next_date_name ∷ [])) }
+    ensures { OnOk result (map declared_of out.new.items ≡ map declared_of out.old.items
+        ++ (a_scalar limit_name ∷ a_scalar fired_name ∷ a_scalar next_date_name ∷ [])) }
 {
     push_scalars(out, &[limit(), fired(), next_date()])
 }
 
 /// What firing and programming use, where there are sources of events.
 fn push_clock(out: &mut Vec<Decl>, net: &Net) -> Result<(), NoMemory>
-    ensures { OnOk result (map declared_of out.new.items ≡ map declared_of out.old.items ++ declared_where (nat_lt 0 (port_count_of net.now)) (a_scalar until_name ∷ a_scalar now_name ∷ a_scalar programmed_name ∷ a_scalar chosen_name ∷ a_scalar delay_name ∷ a_scalar scan_name ∷ [])) }
+    ensures { OnOk result (map declared_of out.new.items ≡ map declared_of out.old.items
+        ++ declared_where (nat_lt 0 (port_count_of net.now))
+        (a_scalar until_name ∷ a_scalar now_name ∷ a_scalar programmed_name ∷ a_scalar chosen_name ∷ a_scalar delay_name ∷ a_scalar scan_name ∷ [])) }
 {
     if 0 < port_count(net) {
         push_scalars(

@@ -7,7 +7,9 @@ ghost use Rattle.sci_sched.specs.Plain.{row_of, rows_of};
 ghost use Rattle.sci_sched.specs.Answer.{IsPlan};
 ghost use Rattle.sci_cgen_blocks.specs.Texts.{body_text};
 ghost use Rattle.sci_cgen.specs.Names.{source_name};
-ghost use Rattle.sci_cgen.specs.Program.{text_where, places_of, functions_upto, source_function as source_function_of, other_functions, row_text as row_text_of, called_functions as called_functions_of, event_function as event_function_of, functions as functions_of, program};
+ghost use Rattle.sci_cgen.specs.Program.{text_where, places_of, functions_upto, source_function as source_function_of, other_functions};
+ghost use Rattle.sci_cgen.specs.Program.{row_text as row_text_of, called_functions as called_functions_of, event_function as event_function_of};
+ghost use Rattle.sci_cgen.specs.Program.{functions as functions_of, program};
 ghost use Rattle.sci_cgen.specs.Built.{AreLaid, AreNamed, AreMarked, marked_function};
 
 use crate::block_layouts::{layouts, scheduled};
@@ -71,7 +73,8 @@ fn push_block_functions(
 ) -> Result<(), NoMemory>
     requires laid { AreLaid net.now layouts.now }
     requires marked { length marks.now ≡ length net.now.specs }
-    ensures { OnOk result (map function_of funcs.new.items ≡ map function_of funcs.old.items ++ functions_upto (λ k. marked_function net.now (slice_index_or marks.now k false) (suc k)) (length net.now.specs)) }
+    ensures { OnOk result (map function_of funcs.new.items ≡ map function_of funcs.old.items
+        ++ functions_upto (λ k. marked_function net.now (slice_index_or marks.now k false) (suc k)) (length net.now.specs)) }
 {
     for at in 0..net.len() {
         funcs.push(block_function(alloc, net, layouts, at + 1, marks[at as usize])?)?;
@@ -145,7 +148,8 @@ fn push_source_functions(
     requires laid { AreLaid net.now layouts.now }
     requires named { All (AreNamed net.now) (rows_of schedule.now) }
     requires rows { length (rows_of schedule.now) ≡ length (sources_of net.now) }
-    ensures { OnOk result (map function_of funcs.new.items ≡ map function_of funcs.old.items ++ functions_upto (source_function_of net.now (rows_of schedule.now)) (length (sources_of net.now))) }
+    ensures { OnOk result (map function_of funcs.new.items ≡ map function_of funcs.old.items
+        ++ functions_upto (source_function_of net.now (rows_of schedule.now)) (length (sources_of net.now))) }
 {
     for source in 0..net.source_count() {
         let row = row(schedule, source);

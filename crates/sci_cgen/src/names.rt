@@ -1,7 +1,9 @@
 // The names of a generated program, beside those of its blocks.
 ghost use Rattle.std.specs.Prelude.{◌≡◌};
-ghost use Rattle.sci_cgen.specs.Names.{actives as actives_name, branches as branches_name, limit_name, until_name, fired_name, next_date as next_date_name, halt_name, block_name, source_name, clear_name, settle_name, choose_name, event_name};
-ghost use Rattle.sci_due.specs.Due.{dates as dates_name, orders as orders_name, best as chosen_name, scan as scan_name, now as now_name, last as programmed_name, delay as delay_name};
+ghost use Rattle.sci_cgen.specs.Names.{actives as actives_name, branches as branches_name, limit_name, until_name, fired_name};
+ghost use Rattle.sci_cgen.specs.Names.{next_date as next_date_name, halt_name, block_name, source_name, clear_name, settle_name, choose_name, event_name};
+ghost use Rattle.sci_due.specs.Due.{dates as dates_name, orders as orders_name, best as chosen_name, scan as scan_name, now as now_name};
+ghost use Rattle.sci_due.specs.Due.{last as programmed_name, delay as delay_name};
 
 use c_ast::Name;
 

@@ -13,7 +13,8 @@ ghost use Rattle.c_steps.specs.Texts.{joined};
 ghost use Rattle.sci_cgen_blocks.specs.Texts.{values as values_name, states as states_name};
 ghost use Rattle.sci_due.specs.Due.{last as programmed_name};
 ghost use Rattle.sci_cgen.specs.Names.{until_name};
-ghost use Rattle.sci_cgen.specs.Program.{natural as natural_of, one, text_where, each_block, each_port, port_count, begun_text, list_begun, held_begun, state_begun, firing_at, is_programmed, programmed_before, firing_begun, source_begun, outset_text};
+ghost use Rattle.sci_cgen.specs.Program.{natural as natural_of, one, text_where, each_block, each_port, port_count, begun_text, list_begun, held_begun};
+ghost use Rattle.sci_cgen.specs.Program.{state_begun, firing_at, is_programmed, programmed_before, firing_begun, source_begun, outset_text};
 ghost use Rattle.sci_cgen.specs.Built.{AreLaid};
 
 use crate::names::{dates, orders, programmed, until};
@@ -197,7 +198,9 @@ fn push_firings(alloc: Global, out: &mut Vec<Stmt>, net: &Net) -> Result<u32, No
 
 /// Where any event may fire, how many were programmed, and the last date.
 fn push_programmed(out: &mut Vec<Stmt>, net: &Net, count: u32) -> Result<(), NoMemory>
-    ensures { OnOk result (statements_of out.new.items ≡ joined (statements_of out.old.items) (text_where (nat_lt 0 (port_count net.now)) (next (assign (scalar programmed_name) (natural_of count)) (one (asking (scalar until_name) last_date))))) }
+    ensures { OnOk result (statements_of out.new.items ≡ joined (statements_of out.old.items)
+        (text_where (nat_lt 0 (port_count net.now)) (next (assign (scalar programmed_name) (natural_of count))
+        (one (asking (scalar until_name) last_date))))) }
 {
     if net.source_count() > 1 {
         push(out, Stmt::Set(Target::Var(programmed()), natural(count)))?;

@@ -2,13 +2,17 @@
 ghost use Rattle.std.specs.Prelude.{◌≡◌, ◌-◌, ◌≤◌, pos, negsuc, IfOk, OnOk};
 ghost use Rattle.c_ast.specs.declared.Bound.TheVariants as bounds;
 ghost use Rattle.c_ast.specs.declared.Op.TheVariants as ops;
-ghost use Rattle.c_ast.specs.Syntax.{num, var, neg, bin, scalar, cell as cell_of, set as assign, ask, limit as limit_asked, choice, loop, call, tell, finish as finish_of, done, next};
+ghost use Rattle.c_ast.specs.Syntax.{num, var, neg, bin, scalar, cell as cell_of, set as assign, ask, limit as limit_asked, choice, loop, call, tell};
+ghost use Rattle.c_ast.specs.Syntax.{finish as finish_of, done, next};
 ghost use Rattle.c_ast.specs.View.{exp_of, statement_of, statements_of};
 ghost use Rattle.c_steps.specs.Texts.{joined, number as number_of};
 ghost use Rattle.sci_due.specs.Due.{best as chosen_name, scan as scan_name, dates as dates_name, now as now_name};
 ghost use Rattle.sci_due.specs.Texts.{at_scan as at_scan_of, at_best as at_best_of, sooner_exp, better_exp};
-ghost use Rattle.sci_cgen.specs.Names.{actives as actives_name, branches as branches_name, until_name, limit_name, fired_name, next_date as next_date_name, source_name, settle_name, event_name};
-ghost use Rattle.sci_cgen.specs.Program.{natural as natural_of, one, text_where, only_where as where_of, each_port, end_where as end_where_of, halted_text, fire_text, event_text, turn_text as turn_text_of, first_text, has_sync as has_sync_of, main_text as main_text_of, clear_text as clear_text_of, choose_text as choose_text_of};
+ghost use Rattle.sci_cgen.specs.Names.{actives as actives_name, branches as branches_name, until_name, limit_name, fired_name};
+ghost use Rattle.sci_cgen.specs.Names.{next_date as next_date_name, source_name, settle_name, event_name};
+ghost use Rattle.sci_cgen.specs.Program.{natural as natural_of, one, text_where, only_where as where_of, each_port, end_where as end_where_of};
+ghost use Rattle.sci_cgen.specs.Program.{halted_text, fire_text, event_text, turn_text as turn_text_of, first_text, has_sync as has_sync_of};
+ghost use Rattle.sci_cgen.specs.Program.{main_text as main_text_of, clear_text as clear_text_of, choose_text as choose_text_of};
 ghost use Rattle.sci_cgen.specs.Built.{AreLaid};
 
 use crate::declared_names::{has_halt, has_sync, port_count};
@@ -34,7 +38,8 @@ fn cleared(array: Name) -> Stmt
 
 /// The statements of a turn that clears.
 fn clear_turn(alloc: Global, net: &Net) -> Result<Vec<Stmt>, NoMemory>
-    ensures { IfOk result (λ v. statements_of v.items ≡ next (assign (cell_of actives_name (var scan_name)) (natural_of 0)) (text_where (has_sync_of net.now) (one (assign (cell_of branches_name (var scan_name)) (natural_of 0))))) }
+    ensures { IfOk result (λ v. statements_of v.items ≡ next (assign (cell_of actives_name (var scan_name)) (natural_of 0))
+        (text_where (has_sync_of net.now) (one (assign (cell_of branches_name (var scan_name)) (natural_of 0))))) }
 {
     if has_sync(net) {
         Ok(vec![in alloc; cleared(actives()), cleared(branches())]?)
@@ -113,7 +118,8 @@ fn undated(alloc: Global) -> Result<Stmt, NoMemory>
 
 /// The date of the next event becomes that of the chosen one, where there is one.
 fn date_chosen(alloc: Global) -> Result<Stmt, NoMemory>
-    ensures { IfOk result (λ s. statement_of s ≡ choice (bin ops.Ge (var chosen_name) (natural_of 0)) (one (assign (scalar next_date_name) (at_best_of dates_name))) done) }
+    ensures { IfOk result (λ s. statement_of s ≡ choice (bin ops.Ge (var chosen_name) (natural_of 0))
+        (one (assign (scalar next_date_name) (at_best_of dates_name))) done) }
 {
     let is_some = bin(alloc, Op::Ge, Expr::Var(chosen()), natural(0))?;
     let date = Stmt::Set(Target::Var(next_date()), at_chosen(alloc, dates())?);
@@ -177,7 +183,8 @@ fn freed(alloc: Global) -> Result<Stmt, NoMemory>
 /// A source reacts where it is the chosen one.
 fn push_source(alloc: Global, out: &mut Vec<Stmt>, source: u32) -> Result<(), NoMemory>
     requires { 1 ≤ source }
-    ensures { OnOk result (statements_of out.new.items ≡ joined (statements_of out.old.items) (where_of (bin ops.Eq (var chosen_name) (natural_of (source - 1))) (one (call (source_name source))))) }
+    ensures { OnOk result (statements_of out.new.items ≡ joined (statements_of out.old.items)
+        (where_of (bin ops.Eq (var chosen_name) (natural_of (source - 1))) (one (call (source_name source))))) }
 {
     let test = bin(alloc, Op::Eq, Expr::Var(chosen()), natural(source - 1))?;
     push_where(
@@ -190,7 +197,8 @@ fn push_source(alloc: Global, out: &mut Vec<Stmt>, source: u32) -> Result<(), No
 
 /// The chosen source reacts.
 fn push_sources(alloc: Global, out: &mut Vec<Stmt>, net: &Net) -> Result<(), NoMemory>
-    ensures { OnOk result (statements_of out.new.items ≡ joined (statements_of out.old.items) (each_port (λ i. where_of (bin ops.Eq (var chosen_name) (natural_of (i - 1))) (one (call (source_name i)))) net.now)) }
+    ensures { OnOk result (statements_of out.new.items ≡ joined (statements_of out.old.items)
+        (each_port (λ i. where_of (bin ops.Eq (var chosen_name) (natural_of (i - 1))) (one (call (source_name i)))) net.now)) }
 {
     for at in 0..port_count(net) {
         push_source(alloc, out, at + 1)?;
@@ -227,7 +235,9 @@ fn is_late(alloc: Global) -> Result<Expr, NoMemory>
 
 /// The next event fires; where none is pending, or none by the bound on time, the run ends.
 fn push_next(alloc: Global, out: &mut Vec<Stmt>, net: &Net) -> Result<(), NoMemory>
-    ensures { OnOk result (statements_of out.new.items ≡ joined (statements_of out.old.items) (joined (end_where_of (bin ops.Lt (var next_date_name) (natural_of 0)) 2) (joined (end_where_of (bin ops.Gt (var next_date_name) (var until_name)) 3) (fire_text net.now)))) }
+    ensures { OnOk result (statements_of out.new.items ≡ joined (statements_of out.old.items)
+        (joined (end_where_of (bin ops.Lt (var next_date_name) (natural_of 0)) 2)
+        (joined (end_where_of (bin ops.Gt (var next_date_name) (var until_name)) 3) (fire_text net.now)))) }
 {
     push_end_where(alloc, out, is_none(alloc)?, 2)?;
     push_end_where(alloc, out, is_late(alloc)?, 3)?;
@@ -283,7 +293,8 @@ fn push_first(alloc: Global, out: &mut Vec<Stmt>, net: &Net) -> Result<(), NoMem
 
 /// The bound on events is asked for, start reacts, and the first event is chosen.
 fn push_start(alloc: Global, out: &mut Vec<Stmt>, net: &Net) -> Result<(), NoMemory>
-    ensures { OnOk result (statements_of out.new.items ≡ joined (statements_of out.old.items) (next (ask (scalar limit_name) limit_asked) (next (call (source_name 0)) (next (call settle_name) (first_text net.now))))) }
+    ensures { OnOk result (statements_of out.new.items ≡ joined (statements_of out.old.items)
+        (next (ask (scalar limit_name) limit_asked) (next (call (source_name 0)) (next (call settle_name) (first_text net.now))))) }
 {
     push(out, Stmt::Ask(Target::Var(limit()), Ask::Limit))?;
     push(out, Stmt::Call(source_function(0)))?;
@@ -294,7 +305,9 @@ fn push_start(alloc: Global, out: &mut Vec<Stmt>, net: &Net) -> Result<(), NoMem
 
 /// A call for each event; where the bound on events is reached, the run ends.
 fn push_run(alloc: Global, out: &mut Vec<Stmt>, net: &Net) -> Result<(), NoMemory>
-    ensures { OnOk result (statements_of out.new.items ≡ joined (statements_of out.old.items) (next (loop fired_name (bounds.Var limit_name) (one (call event_name))) (joined (halted_text net.now) (one (tell (finish_of (natural_of 1))))))) }
+    ensures { OnOk result (statements_of out.new.items ≡ joined (statements_of out.old.items)
+        (next (loop fired_name (bounds.Var limit_name) (one (call event_name)))
+        (joined (halted_text net.now) (one (tell (finish_of (natural_of 1))))))) }
 {
     push(out, turns(alloc)?)?;
     push_halted(alloc, out, net)?;

@@ -1,5 +1,6 @@
 // What follows a reaction's values: they are observed, active blocks program events, states step, and a HALT_f halts.
 ghost use Rattle.std.specs.Prelude.{◌≡◌, ◌+◌, ◌<◌, ◌≤◌, ◌^◌, length, IfOk, OnOk};
+ghost use Rattle.sci_base.specs.declared.limits.TheConstants.{PORTS};
 ghost use Rattle.sci_forms.specs.Ports.{total};
 ghost use Rattle.sci_net.specs.declared.Source.TheVariants as sources;
 ghost use Rattle.sci_net.specs.Parts.{IsBlock};
@@ -11,7 +12,8 @@ ghost use Rattle.c_ast.specs.View.{exp_of, statement_of, statements_of};
 ghost use Rattle.c_steps.specs.Texts.{joined, place as element_at};
 ghost use Rattle.sci_due.specs.Texts.{entry_text as entry_text_of, program_text as program_text_of};
 ghost use Rattle.sci_cgen_blocks.specs.Texts.{values as values_name};
-ghost use Rattle.sci_cgen.specs.Program.{natural as natural_of, is_active as is_active_of, elements_shown, outputs_shown, values_shown, delay_text, state_text, halt_text, each_block, each_port, settle_text as settle_text_of};
+ghost use Rattle.sci_cgen.specs.Program.{natural as natural_of, is_active as is_active_of, elements_shown, outputs_shown, values_shown, delay_text};
+ghost use Rattle.sci_cgen.specs.Program.{state_text, halt_text, each_block, each_port, settle_text as settle_text_of};
 ghost use Rattle.sci_cgen.specs.Built.{AreLaid};
 
 use crate::names::{actives, dates, delay, halt, now, orders, programmed};
@@ -73,7 +75,7 @@ fn push_outputs(
     start: u32,
     outs: &Ports,
 ) -> Result<(), NoMemory>
-    requires few { length outs.now ≤ 64 }
+    requires few { length outs.now ≤ PORTS }
     requires within { start + total outs.now ≤ 2 ^ 20 }
     ensures { OnOk result (statements_of out.new.items ≡ joined (statements_of out.old.items) (outputs_shown block 1 start outs.now)) }
 {
@@ -197,7 +199,8 @@ fn push_delays(
     layouts: &[Layout],
 ) -> Result<(), NoMemory>
     requires laid { AreLaid net.now layouts.now }
-    ensures { OnOk result (statements_of out.new.items ≡ joined (statements_of out.old.items) (each_port (λ i. delay_text net.now i (source_of net.now i)) net.now)) }
+    ensures { OnOk result (statements_of out.new.items ≡ joined (statements_of out.old.items)
+        (each_port (λ i. delay_text net.now i (source_of net.now i)) net.now)) }
 {
     for at in 0..net.source_count() - 1 {
         push_delay(alloc, out, net, layouts, at + 1)?;

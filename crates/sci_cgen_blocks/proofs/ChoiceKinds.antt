@@ -1,5 +1,5 @@
 -- RELATIONALOP and SWITCH2.
-use Rattle.std.proofs.Common.{◌≡◌, ℕ, ◌+◌, ◌<◌, ◌≤◌, Bool, true, false, Option, Some, refl, ap, ◌∙◌, arith, ℤ, pos, negsuc, List, [], ◌∷◌, length, if◌then◌else◌}
+use Rattle.std.proofs.Common.{◌≡◌, ℕ, ◌+◌, ◌<◌, ◌≤◌, Bool, true, false, Option, Some, refl, sym, ap, ◌∙◌, arith, ℤ, pos, negsuc, List, [], ◌∷◌, length, if◌then◌else◌}
 use Rattle.std.specs.Prelude.{int_lt, int_le, not}
 use Rattle.std.proofs.lemmas.Int.{ints}
 use Rattle.sci_base.specs.Fit.{int_eq}
@@ -15,10 +15,11 @@ use Rattle.sci_kinds.proofs.TypedLemmas.{Tests, scalar_one, before_one, three_to
 use Rattle.sci_forms.specs.declared.ports.Port.{Port}
 use Rattle.c_ast.specs.declared.Op.TheVariants.{Lt, Le, Gt, Ge, Eq, Ne}
 use Rattle.c_mean.specs.Meaning.{operate, truth}
-use Rattle.sci_cgen_blocks.specs.Terms.{Given, Term, value, constant, input, both, Scratch, Gives, Readable, IsSpelled, IsScratch, RecipeFits}
-use Rattle.sci_cgen_blocks.specs.Recipes.{given, recipe_of, relation, switches, result}
+use Rattle.sci_cgen_blocks.specs.Terms.{Given, Term, value, constant, input, both, Scratch, Gives, WayGives, Readable, IsSpelled, RecipeFits, WayFits}
+use Rattle.sci_cgen_blocks.specs.Recipes.{given, recipe_of, way_of, copied, relation, switches}
 use Rattle.sci_cgen_blocks.proofs.Operators.{lt_is, le_is, gt_is, ge_is, eq_is, ne_is}
-use Rattle.sci_cgen_blocks.proofs.Working.{assign_goes, assign_if_goes, done_gives}
+use Rattle.sci_cgen_blocks.proofs.Working.{done_gives}
+use Rattle.sci_cgen_blocks.proofs.Deciding.{by_truth}
 use Rattle.sci_cgen_blocks.proofs.Reading.{Reads, both_reads, number_reads, input_reads}
 use Rattle.sci_cgen_blocks.proofs.Inputs.{given_first, given_input, in_size, fed_of, IsFed, element_read}
 
@@ -86,31 +87,40 @@ is_three s a t =
     let first : elements (port_at s.ins 0) ≡ size s = omega (arith, before_one s.ins (omega (arith, three)), a.0.first_size) in
     record { three = three; first = first; second = second; third = omega (arith, three_total s.ins three, a.0.total_ins, first, second) }
 
-module _ (s : Spec) (x : List ℤ) (m : ℕ) (u : List ℤ) (e : ℕ) (t : Scratch) where
-  pub switch_gives : Asks Switch2 s → Tests Switch2 s → Gives (given s x m u) (recipe_of Switch2 s e) t (cell_of Switch2 s x m u e)
+module _ (s : Spec) (x : List ℤ) (m : ℕ) (u : List ℤ) where
+  pub switch_gives : Asks Switch2 s → Tests Switch2 s → WayGives (given s x m u) (total s.outs) (cell_of Switch2 s x m u) (way_of Switch2 s)
   switch_gives a ts =
       let i = is_three s a ts in
       let second : at u (before s.ins 1 + 0) ≡ at u (size s) = ap (at u) (omega (arith, a.0.first_size)) in
       let two : before s.ins 2 ≡ size s + 1 = before_two s.ins (omega (arith, i.three)) ∙ rw (i.first, i.second) refl in
-      let third : at u (before s.ins 2 + e) ≡ at u (size s + 1 + e) = ap (λ (n : ℕ). at u (n + e)) two in
       let b0 = int_eq (param s 0) (pos 0) in
       let b1 = int_eq (param s 0) (pos 1) in
-      (assign_goes {t = input 2 e} (ap Some third)
-      (assign_if_goes (switches_by (param s 0) (param s 1) (at u (size s)))
-      (switches_is (given s x m u) _ (input 1 0) (at u (size s)) (param s 1) (ap Some second) b0 b1)
-      (λ _. ap Some (given_first s x m u e)) (λ s' q k. done_gives {v = result} (ap Some q)))).gives
+      λ t. by_truth {p = WayGives (given s x m u) (total s.outs) (cell_of Switch2 s x m u) (copied 0)}
+      {q = WayGives (given s x m u) (total s.outs) (cell_of Switch2 s x m u) (copied 2)}
+      (value (given s x m u) t (switches (param s 0) (param s 1) (input 1 0))) (switches_by (param s 0) (param s 1) (at u (size s)))
+      (switches_is (given s x m u) t (input 1 0) (at u (size s)) (param s 1) (ap Some second) b0 b1)
+      (λ on e l t'. record {
+        behind = t';
+        works = refl;
+        is = ap Some (given_first s x m u e) ∙ ap (λ (c : Bool). Some (if c then at u e else at u (size s + 1 + e))) (sym on);
+      })
+      (λ off e l t'. record {
+        behind = t';
+        works = refl;
+        is = ap (λ (n : ℕ). Some (at u (n + e))) two ∙ ap (λ (c : Bool). Some (if c then at u e else at u (size s + 1 + e))) (sym off);
+      })
 
-module _ (s : Spec) (e : ℕ) (l : e < total s.outs) where
-  pub switch_reads : Asks Switch2 s → Tests Switch2 s → IsFed Switch2 s → RecipeFits (fed_of Switch2 s) (recipe_of Switch2 s e)
+module _ (s : Spec) where
+  pub switch_reads : Asks Switch2 s → Tests Switch2 s → IsFed Switch2 s → WayFits (fed_of Switch2 s) (total s.outs) (way_of Switch2 s) 8
   switch_reads a ts f =
       let i = is_three s a ts in
-      let here = in_size s a.0.outs_alike a.0.one e l in
-      let one : IsScratch (fed_of Switch2 s) 1 = (omega arith, omega arith) in
-      let third : (fed_of Switch2 s).input 2 e = ((omega (arith, i.three), omega (arith, here, i.third)), f 2 (omega (arith, i.three)) refl) in
+      let here = λ (e : ℕ) (l : e < total s.outs). in_size s a.0.outs_alike a.0.one e l in
       let second : (fed_of Switch2 s).input 1 0 = ((omega (arith, i.three), omega (arith, i.second)), f 1 (omega (arith, i.three)) refl) in
-      let first : (fed_of Switch2 s).input 0 e = ((omega (arith, i.three), omega (arith, here, i.first)), f 0 (omega (arith, i.three)) refl) in
       let bounds = between_told (negsuc 2147483647) (pos 4294967295) (param s 1) (ts.params 1 (omega (arith, a.1))) in
       let number : IsSpelled (param s 1) = (omega (arith, ints, bounds.0), omega (arith, ints, bounds.1)) in
       let test : Reads (fed_of Switch2 s) 32 (switches (param s 0) (param s 1) (input 1 0)) =
-      switches_read (input 1 0) (param s 1) (input_reads second) number (int_eq (param s 0) (pos 0)) (int_eq (param s 0) (pos 1)) in
-      (((one, third), ((one, test.fits, first), tt)), one)
+      switches_read (input 1 0) (param s 1) (input_reads second) number (int_eq (param s 0) (pos 0)) (int_eq (param s 0) (pos 1)) in (
+        test.fits,
+        λ e l. (tt, ((omega (arith, i.three), omega (arith, here e l, i.first)), f 0 (omega (arith, i.three)) refl)),
+        λ e l. (tt, ((omega (arith, i.three), omega (arith, here e l, i.third)), f 2 (omega (arith, i.three)) refl)),
+      )

@@ -4,7 +4,7 @@ use Rattle.std.proofs.lemmas.Bool.{cases_lt}
 use Rattle.std.proofs.lemmas.Int.{ints}
 use Rattle.std.proofs.lemmas.Nat.{pow_below}
 use Rattle.sci_forms.specs.declared.Kind.{Kind}
-use Rattle.sci_forms.specs.declared.Kind.TheVariants.{Const, Extractor, Shift, BitSet, BitClear, ExtractBits, Select, Logic, ModuloCount}
+use Rattle.sci_forms.specs.declared.Kind.TheVariants.{Const, Extractor, Shift, BitSet, BitClear, ExtractBits, Select, Logic}
 use Rattle.sci_forms.specs.declared.spec.Spec.{Spec}
 use Rattle.sci_forms.specs.Forms.{counts_of}
 use Rattle.sci_forms.specs.Ports.{port_at, elements, total}
@@ -54,6 +54,9 @@ bits_within s h is = omega (arith, width_at_most (out_type s), (asks_as ExtractB
 pub few_selected : (s : Spec) → typed s ≡ true → s.kind ≡ Select → s.evtin ≤ 8
 few_selected s h is = (asks_as Select s h is).3
 
+pub some_selected : (s : Spec) → typed s ≡ true → s.kind ≡ Select → 2 ≤ s.evtin
+some_selected s h is = (asks_as Select s h is).2
+
 pub few_tested : (s : Spec) → typed s ≡ true → s.kind ≡ Logic → length s.ins ≤ 8
 few_tested s h is = (asks_as Logic s h is).1
 
@@ -64,9 +67,6 @@ few_columns s h is = subst (λ c. length s.outs ≤ (counts_of c (length s.ins))
 pub names_element : (s : Spec) → typed s ≡ true → s.kind ≡ Extractor → (e : ℕ) → e < total s.outs
     → (pos 1 ≤ℤ param s e) × (unsigned_abs (param s e) ≤ elements (port_at s.ins 0))
 names_element s h is e l = let a = asks_as Extractor s h is in a.4 e (omega (arith, total_one s.outs (out_type s) (size s) a.0.outs_alike a.0.one, a.3))
-
-pub count_base : (s : Spec) → typed s ≡ true → s.kind ≡ ModuloCount → unsigned_abs (param s 0) ≤ 4294967296
-count_base s h is = let a = asks_as ModuloCount s h is in omega (arith, ints, a.2, a.3)
 
 small_pow : (n : ℕ) → n ≤ 8 → 2 ^ n ≤ 256
 small_pow n h = elim (cases_lt n 8) [

@@ -44,8 +44,8 @@ module _ (s : Spec) (x : List ℤ) (m : ℕ) (u : List ℤ) (f : Fills s.ins u) 
   cell_by_kind BitSet q n a ts = λ e h t. bit_set_gives s x m u e t f h a
   cell_by_kind BitClear q n a ts = λ e h t. bit_clear_gives s x m u e t f h a
   cell_by_kind ExtractBits q n a ts = λ e h t. extract_bits_gives s x m u e t f h a
-  cell_by_kind Switch2 q n a ts = λ e h t. switch_gives s x m u e t a ts
-  cell_by_kind Select q n a ts = λ e h t. select_gives s x m u e t q a mk
+  cell_by_kind Switch2 q n a ts = switch_gives s x m u a ts
+  cell_by_kind Select q n a ts = select_gives s x m u q a mk
   cell_by_kind Logic q n a ts = logic_gives s x m u a ts
   cell_by_kind AndLog q n a ts = λ e h t. and_log_gives s x m u e t
   cell_by_kind Dollar q n a ts = λ e h t. dollar_gives s x m u e t
@@ -84,8 +84,8 @@ module _ (s : Spec) where
   reads_by_kind BitSet n a ts f = λ e h. bit_set_reads s e h a f
   reads_by_kind BitClear n a ts f = λ e h. bit_clear_reads s e h a f
   reads_by_kind ExtractBits n a ts f = λ e h. extract_bits_reads s e h a f
-  reads_by_kind Switch2 n a ts f = λ e h. switch_reads s e h a ts f
-  reads_by_kind Select n a ts f = λ e h. select_reads s e h a f
+  reads_by_kind Switch2 n a ts f = switch_reads s a ts f
+  reads_by_kind Select n a ts f = select_reads s a f
   reads_by_kind Logic n a ts f = logic_reads s a ts f
   reads_by_kind AndLog n a ts f = λ e h. and_log_reads s e
   reads_by_kind Dollar n a ts f = λ e h. dollar_reads s e a h

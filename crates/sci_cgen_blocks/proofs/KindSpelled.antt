@@ -1,32 +1,46 @@
 -- All numbers in the terms of a typed block are spelled, and its places are small.
-use Rattle.std.proofs.Common.{arith, ◌≡◌, ◌≢◌, ◌<◌, ◌≤◌, ◌^◌, ℕ, inl, inr, pos, true, length, refl, subst}
+use Rattle.std.proofs.Common.{arith, ◌≡◌, ◌≢◌, ◌<◌, ◌≤◌, ◌^◌, ℕ, inl, inr, pos, true, length, refl, sym, ap, ◌∙◌, subst}
 use Rattle.std.proofs.lemmas.Int.{ints}
 use Rattle.std.proofs.lemmas.Bool.{cases_lt}
 use Rattle.c_steps.specs.Texts.{upto}
 use Rattle.sci_forms.specs.declared.Kind.{Kind}
-use Rattle.sci_forms.specs.declared.Kind.TheVariants.{Sensor, Logic, EvtDly, EvtVarDly, IfThEl, ESelect}
+use Rattle.sci_forms.specs.declared.Kind.TheVariants.{Sensor, Switch2, Select, Logic, EvtDly, EvtVarDly, IfThEl, ESelect}
 use Rattle.sci_forms.specs.declared.spec.Spec.{Spec}
 use Rattle.sci_forms.specs.Ports.{port_at, elements, total}
 use Rattle.sci_forms.specs.Typed.{typed}
-use Rattle.sci_forms.specs.Words.{state_len_of}
+use Rattle.sci_forms.specs.Words.{param, state_len_of}
 use Rattle.sci_kinds.specs.Asks.{Asks}
 use Rattle.sci_kinds.proofs.LawProofs.{asks}
-use Rattle.sci_cgen_blocks.specs.Terms.{IsSpelled, Way, each, WayFits}
-use Rattle.sci_cgen_blocks.specs.Recipes.{recipe_of, way_of, next_term, delay_term, branch_term, fed, from_value}
-use Rattle.sci_cgen_blocks.specs.Texts.{Places, values_text, recipe_text}
+use Rattle.sci_cgen_blocks.specs.Terms.{IsSpelled, Way, input, each, WayFits}
+use Rattle.sci_cgen_blocks.specs.Recipes.{recipe_of, switches, way_of, next_term, delay_term, branch_term, fed, from_value}
+use Rattle.sci_cgen_blocks.specs.Texts.{Places, values_text, way_text, recipe_text}
 use Rattle.sci_cgen_blocks.specs.Plain.{AreSpelled, IsRecipeSpelled, AreFew}
+use Rattle.sci_cgen_blocks.proofs.Bodies.{values_are}
 use Rattle.sci_cgen_blocks.proofs.KindLaws.{cell_reads_law}
 use Rattle.sci_cgen_blocks.proofs.NextStates.{next_reads_law}
 use Rattle.sci_cgen_blocks.proofs.KindParts.{fits_spelled, recipe_spelled}
 
-way_of_other : (k : Kind) (s : Spec) → k ≢ Logic → way_of k s ≡ each (recipe_of k s)
-way_of_other Logic s n = absurd (n refl)
-way_of_other _ s n = refl
+pub way_of_other : (k : Kind) (s : Spec) → k ≢ Switch2 → k ≢ Select → k ≢ Logic → way_of k s ≡ each (recipe_of k s)
+way_of_other Switch2 s h i j = absurd (h refl)
+way_of_other Select s h i j = absurd (i refl)
+way_of_other Logic s h i j = absurd (j refl)
+way_of_other _ s h i j = refl
 
-pub cell_spelled : (s : Spec) → typed s ≡ true → s.kind ≢ Sensor → s.kind ≢ Logic → (e : ℕ) → e < total s.outs → IsRecipeSpelled (recipe_of s.kind s e)
-cell_spelled s h n other e l =
+pub cell_spelled : (s : Spec) → typed s ≡ true → s.kind ≢ Sensor → way_of s.kind s ≡ each (recipe_of s.kind s) → (e : ℕ) → e < total s.outs
+    → IsRecipeSpelled (recipe_of s.kind s e)
+cell_spelled s h n single e l =
     recipe_spelled (fed s) (recipe_of s.kind s e)
-    (subst (λ (y : Way). WayFits (fed s) (total s.outs) y 8) (way_of_other s.kind s other) (cell_reads_law s h n) e l)
+    (subst (λ (y : Way). WayFits (fed s) (total s.outs) y 8) single (cell_reads_law s h n) e l)
+
+-- the test of a switch
+pub switch_spelled : (s : Spec) → typed s ≡ true → s.kind ≡ Switch2 → AreSpelled (switches (param s 0) (param s 1) (input 1 0))
+switch_spelled s h is =
+    let fits : WayFits (fed s) (total s.outs) (way_of Switch2 s) 8 =
+    subst (λ (k : Kind). WayFits (fed s) (total s.outs) (way_of k s) 8) is (cell_reads_law s h own) in
+    fits_spelled (fed s) 32 (switches (param s 0) (param s 1) (input 1 0)) fits.0
+  where
+    own : s.kind ≢ Sensor
+    own e = let other : Switch2 ≡ Sensor = sym is ∙ e in cc
 
 pub next_spelled : (s : Spec) → typed s ≡ true → (i : ℕ) → i < state_len_of s.kind s → AreSpelled (next_term s.kind s i)
 next_spelled s h i l = fits_spelled (from_value s i) 32 (next_term s.kind s i) (next_reads_law s h i l)
@@ -62,10 +76,9 @@ branch_spelled s h = branch_by_kind s.kind s (asks s h)
 
 -- ---- texts element by element
 
-pub values_of_other : (k : Kind) (s : Spec) (p : Places) → k ≢ Sensor → k ≢ Logic → values_text k s p ≡ upto (λ e. recipe_text p e (recipe_of k s e)) (total s.outs)
-values_of_other Sensor s p n m = absurd (n refl)
-values_of_other Logic s p n m = absurd (m refl)
-values_of_other _ s p n m = refl
+pub values_of_other : (k : Kind) (s : Spec) (p : Places) → k ≢ Sensor → way_of k s ≡ each (recipe_of k s)
+    → values_text k s p ≡ upto (λ e. recipe_text p e (recipe_of k s e)) (total s.outs)
+values_of_other k s p n single = values_are k s p n ∙ ap (way_text p (total s.outs)) single
 
 -- an input's elements have places, so they are few
 pub few_elements : (s : Spec) (p : Places) → AreFew s p → (k : ℕ) → k < length s.ins → elements (port_at s.ins k) ≤ 2 ^ 20

@@ -10,10 +10,12 @@ pub mod NextStates
 pub mod Patterns
 pub mod Reading
 pub mod PatternKinds
+pub mod MovedBits
 pub mod LogicalKind
 pub mod StateKinds
 pub mod ChoiceKinds
 pub mod Effects
+pub mod Deciding
 pub mod SelectKinds
 pub mod TableKind
 pub mod KindLaws
@@ -34,3 +36,4 @@ pub mod KindParts
 pub mod WholeRules
 pub mod KindSpelled
 pub mod Tables
+pub mod Choosing

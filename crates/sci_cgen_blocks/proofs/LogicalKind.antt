@@ -1,5 +1,5 @@
 -- The recipe of LogicalOp: true inputs are counted, once, or at each bit of the patterns.
-use Rattle.std.proofs.Common.{◌≡◌, ℕ, zero, suc, ◌+◌, ◌*◌, ◌%◌, ◌^◌, ◌<◌, ◌≤◌, ◌+ℤ◌, mul-le-mul, inl, inr, Option, Some, None, Bool, true, false, refl, sym, ap, ◌∙◌, subst, arith, ℤ, pos, if◌then◌else◌, List, [], ◌∷◌, ◌++◌, length, append-nil, pow-suc}
+use Rattle.std.proofs.Common.{◌≡◌, ℕ, zero, suc, ◌+◌, ◌*◌, ◌%◌, ◌^◌, ◌<◌, ◌≤◌, ◌/◌, ◌+ℤ◌, ◌*ℤ◌, inl, inr, Option, Some, None, Bool, true, false, refl, sym, ap, ◌∙◌, subst, arith, ℤ, pos, if◌then◌else◌, List, [], ◌∷◌, ◌++◌, length, append-nil, pow-suc}
 use Rattle.std.specs.Prelude.{nat_eq, nat_lt, int_lt, not}
 use Rattle.std.specs.Int.{bit_at}
 use Rattle.std.proofs.lemmas.Int.{ints}
@@ -7,7 +7,7 @@ use Rattle.std.proofs.lemmas.Nat.Bits.{bit_at-lt}
 use Rattle.std.proofs.lemmas.Bool.{cases_lt}
 use Rattle.std.proofs.lemmas.Bool.Decides.{nat_tests}
 use Rattle.sci_base.specs.declared.Ty.{Ty}
-use Rattle.sci_base.specs.Fit.{InRange, int_eq, width}
+use Rattle.sci_base.specs.Fit.{InRange, int_eq, span, width}
 use Rattle.sci_base.specs.Bits.{of_bits, pattern}
 use Rattle.sci_base.proofs.FitLemmas.{span_at_most}
 use Rattle.sci_kinds.specs.declared.Cell.TheVariants.{Value}
@@ -18,16 +18,17 @@ use Rattle.sci_forms.specs.Words.{param, out_type, size}
 use Rattle.sci_kinds.specs.Asks.{Asks}
 use Rattle.sci_kinds.proofs.Elements.{input_in_range}
 use Rattle.sci_kinds.specs.Table.{cell_of, input as input_of, count_to, logical as logical_of, logical_bits as bits_of, truth as truth_of, number}
-use Rattle.c_ast.specs.declared.Op.TheVariants.{Add, Mul, Div, Rem, Eq, Ne, Gt}
+use Rattle.c_ast.specs.declared.Op.TheVariants.{Add, Mul, Rem, Eq, Ne, Gt}
 use Rattle.c_mean.specs.Meaning.{truth, ◌>>=◌}
 use Rattle.sci_cgen_blocks.specs.Terms.{Given, Term, input, scratch, both, value, Scratch, with_scratch, Work, assign, do_work, do_works, do_steps, worked, worked_by, then_steps, do_turns, Gives, Readable, IsScratch, WorksFit, StepsFit, Spares, RecipeFits}
-use Rattle.sci_cgen_blocks.specs.Recipes.{recipe_of, given, natural, result, set, wrapped, logical_truths, logical_bits, pattern as pattern_term, logical, truth as truth_term, counted, changed}
-use Rattle.sci_cgen_blocks.proofs.Operators.{eq_is, ne_is, gt_is}
+use Rattle.sci_cgen_blocks.specs.Recipes.{recipe_of, given, natural, result, set, wrapped, logical_truths, logical_bits, highest_bit, logical, truth as truth_term, counted, changed}
+use Rattle.sci_cgen_blocks.proofs.Operators.{eq_is, ne_is, gt_is, mul_is}
 use Rattle.sci_cgen_blocks.proofs.Working.{Reaches, step_goes, assign_goes, spelled}
-use Rattle.sci_cgen_blocks.proofs.Patterns.{plus, times, left_over, pattern_below, pattern_is, bit_is, width_at_most, pow_at_most, number_gives}
+use Rattle.sci_cgen_blocks.proofs.Patterns.{plus, times, over, left_over, pattern_below, pattern_is, width_at_most, pow_at_most, number_gives}
 use Rattle.sci_cgen_blocks.proofs.Reading.{Reads, both_reads, natural_reads, input_reads, scratch_reads, pattern_reads, wrapped_reads}
 use Rattle.sci_cgen_blocks.proofs.Inputs.{given_input, in_size, fed_of, IsFed, element_read}
-use Rattle.sci_cgen_blocks.proofs.PatternKinds.{within_type}
+use Rattle.sci_cgen_blocks.proofs.PatternKinds.{moved_within}
+use Rattle.sci_cgen_blocks.proofs.MovedBits.{half_pos, moved_up, upper_bits, upper_below, all_bits}
 
 -- ---- an operation on a count
 
@@ -154,14 +155,6 @@ digit_below : (b : Bool) → (if b then 1 else 0) ≤ 1
 digit_below true = omega arith
 digit_below false = omega arith
 
-of_bits_below : (f : ℕ → Bool) (n : ℕ) → of_bits (λ b. if f b then 1 else 0) n < 2 ^ n
-of_bits_below f zero = omega arith
-of_bits_below f (suc n) = by_bit (f n) (of_bits_below f n)
-  where
-    by_bit : (b : Bool) → of_bits (λ b. if f b then 1 else 0) n < 2 ^ n → of_bits (λ b. if f b then 1 else 0) n + (if b then 1 else 0) * 2 ^ n < 2 ^ suc n
-    by_bit true h = omega (arith, h, pow-suc 2 n)
-    by_bit false h = omega (arith, h, pow-suc 2 n)
-
 pow_small : (k : ℕ) → k ≤ 32 → 2 ^ k ≤ 4294967296
 pow_small k h = elim (cases_lt k 32) [
   | inl l ↦ omega (arith, pow_at_most k l)
@@ -190,68 +183,71 @@ module _ (g : Given) (e n : ℕ) (small : n ≤ 64) (ty : Ty) (v : ℕ → ℤ) 
   abbrev at_bit : ℕ → Bool
   at_bit b = logical_of op n (count_to (λ k. pos (bit_at (pattern ty (v k)) b)) n)
 
-  abbrev so_far : ℕ → ℕ
-  so_far b = of_bits (λ b. if at_bit b then 1 else 0) b
+  abbrev bit_of : ℕ → ℕ
+  bit_of b = if at_bit b then 1 else 0
 
-  -- before bit b
-  record At (b : ℕ) (s : Scratch) : Type 0 where
-    bits : s 2 ≡ pos (so_far b)
-    weight : s 3 ≡ pos (2 ^ b)
+  -- where b bits are done, those from bit k on
+  record At (k b : ℕ) (s : Scratch) : Type 0 where
+    bits : s 2 ≡ pos (upper_bits bit_of k b)
+    power : s 3 ≡ pos (2 ^ b)
 
   abbrev digit : ℕ → Term
-  digit k = both Rem (both Div (pattern_term ty (input k e)) (scratch 3)) (natural 2)
+  digit k = highest_bit ty (both Mul (input k e) (scratch 3))
 
   abbrev work : List Work
   work =
-      (assign 1 (natural 0) ∷ counted digit 0 n) ++ assign 2 (both Add (scratch 2) (both Mul (logical op n) (scratch 3))) ∷ assign 3
+      (assign 1 (natural 0) ∷ counted digit 0 n) ++ assign 2 (both Add (both Mul (scratch 2) (natural 2)) (logical op n)) ∷ assign 3
       (both Mul (scratch 3) (natural 2)) ∷ []
 
-  digit_gives : (b k : ℕ) → k < n → (s : Scratch) → s 3 ≡ pos (2 ^ b)
-      → value g s (digit k) ≡ Some (pos (if int_eq (pos (bit_at (pattern ty (v k)) b)) (pos 0) then 0 else 1))
-  digit_gives b k l s h =
-      let below = pattern_below ty (v k) in
+  -- bit k of input i, where the b bits above it are done
+  digit_gives : (k b i : ℕ) → b + suc k ≡ width ty → i < n → (s : Scratch) → s 3 ≡ pos (2 ^ b)
+      → value g s (digit i) ≡ Some (pos (if int_eq (pos (bit_at (pattern ty (v i)) k)) (pos 0) then 0 else 1))
+  digit_gives k b i w l s h =
+      let top = width_at_most ty in
       let most = span_at_most ty in
-      rw h (bit_is (pattern_is (ap Some (is k l)) ty (within_type ty (v k) (fits k l))) b (omega (arith, below, most)))
-      ∙ ap Some (counted_bit (bit_at (pattern ty (v k)) b) (bit_at-lt (pattern ty (v k)) b))
+      let within = (moved_within ty (v i) b (fits i l) (omega (arith, w, top))).0 in
+      let moved : value g s (both Mul (input i e) (scratch 3)) ≡ Some (v i *ℤ pos (2 ^ b)) = mul_is (ap Some (is i l)) (ap Some h) within in
+      let below = pattern_below ty (v i *ℤ pos (2 ^ b)) in
+      over (pattern_is moved ty within) (span ty / 2) (half_pos ty) (omega (arith, below, most))
+      ∙ ap (λ (x : ℕ). Some (pos x)) (moved_up ty (v i) k b w)
+      ∙ ap Some (counted_bit (bit_at (pattern ty (v i)) k) (bit_at-lt (pattern ty (v i)) k))
 
-  turn_does : (b : ℕ) (s : Scratch) → b < width ty → At b s → Does g work s (At (suc b))
-  turn_does b s l a =
-      let width_most = width_at_most ty in
-      let most = pow_at_most b (omega (arith, l, width_most)) in
-      let bits = of_bits_below at_bit b in
-      assign_does {z = pos 0} refl (counted_does g digit (λ k. pos (bit_at (pattern ty (v k)) b)) n small _ s (At (suc b))
-      (λ k q s' o. digit_gives b k q s' (o 3 refl ∙ a.weight)) n 0 (omega arith) (with_scratch 1 (pos 0) s) refl (λ i q. rw q refl)
-      (λ s' h o. assign_does (added s' (o 2 refl) (o 3 refl) h most bits)
-      (assign_does (times (ap Some (o 3 refl ∙ a.weight)) refl (omega (arith, most)))
-      (done_does (record { bits = refl; weight = ap pos (sym (pow-suc 2 b)) })))))
+  turn_does : (k b : ℕ) (s : Scratch) → b + suc k ≡ width ty → At (suc k) b s → Does g work s (At k (suc b))
+  turn_does k b s l a =
+      let top = width_at_most ty in
+      let most = pow_at_most b (omega (arith, l, top)) in
+      let below = upper_below bit_of (λ i. digit_below (at_bit i)) b (suc k) in
+      assign_does {z = pos 0} refl (counted_does g digit (λ i. pos (bit_at (pattern ty (v i)) k)) n small _ s (At k (suc b))
+      (λ i q s' o. digit_gives k b i l q s' (o 3 refl ∙ a.power)) n 0 (omega arith) (with_scratch 1 (pos 0) s) refl (λ i q. rw q refl)
+      (λ s' h o. assign_does (added s' (o 2 refl) h most below)
+      (assign_does (times (ap Some (o 3 refl ∙ a.power)) refl (omega (arith, most)))
+      (done_does (record { bits = refl; power = ap pos (sym (pow-suc 2 b)) })))))
     where
-      added : (s' : Scratch) → s' 2 ≡ s 2 → s' 3 ≡ s 3 → s' 1 ≡ pos (count_to (λ k. pos (bit_at (pattern ty (v k)) b)) n) → 2 ^ b ≤ 2147483648
-          → so_far b < 2 ^ b
-          → value g s' (both Add (scratch 2) (both Mul (logical op n) (scratch 3))) ≡ Some (pos (so_far (suc b)))
-      added s' p q h most below =
-          let count = count_most (λ k. pos (bit_at (pattern ty (v k)) b)) n in
-          let one = digit_below (at_bit b) in
-          let part : (if at_bit b then 1 else 0) * 2 ^ b ≤ 2 ^ b = omega
-          (arith, mul-le-mul {n₁ = if at_bit b then 1 else 0} {m₁ = 2 ^ b} {n₂ = 1} {m₂ = 2 ^ b} one (omega arith)) in
-          plus (ap Some (p ∙ a.bits))
-          (times (logical_is g s' op n _ h (omega (arith, count, small)) ∙ ap Some (digit_is (at_bit b))) (ap Some (q ∙ a.weight))
-          (omega (arith, part, most)))
-          (omega (arith, part, most, below))
+      added : (s' : Scratch) → s' 2 ≡ s 2 → s' 1 ≡ pos (count_to (λ i. pos (bit_at (pattern ty (v i)) k)) n) → 2 ^ b ≤ 2147483648
+          → upper_bits bit_of (suc k) b < 2 ^ b
+          → value g s' (both Add (both Mul (scratch 2) (natural 2)) (logical op n)) ≡ Some (pos (upper_bits bit_of k (suc b)))
+      added s' p h most below =
+          let count = count_most (λ i. pos (bit_at (pattern ty (v i)) k)) n in
+          let one = digit_below (at_bit k) in
+          plus (times (ap Some (p ∙ a.bits)) refl (omega (arith, most, below)))
+          (logical_is g s' op n _ h (omega (arith, count, small)) ∙ ap Some (digit_is (at_bit k)))
+          (omega (arith, most, below, one))
 
-  turns_do : (k b : ℕ) (s : Scratch) → b + k ≡ width ty → At b s → Turns g 4 k work s (At (width ty))
-  turns_do zero b s l a = let z : b ≡ width ty = omega (arith, l) in record { behind = s; is = refl; holds = subst (λ (i : ℕ). At i s) z a }
+  turns_do : (k b : ℕ) (s : Scratch) → b + k ≡ width ty → At k b s → Turns g 4 k work s (At 0 (width ty))
+  turns_do zero b s l a = let z : b ≡ width ty = omega (arith, l) in record { behind = s; is = refl; holds = subst (λ (i : ℕ). At 0 i s) z a }
   turns_do (suc k) b s l a =
-      turn_then (turn_does b s (omega (arith, l)) a)
-      (λ s' c. turns_do k (suc b) _ (omega (arith, l)) (record { bits = c.bits; weight = c.weight }))
+      turn_then (turn_does k b s l a) (λ s' c. turns_do k (suc b) _ (omega (arith, l)) (record { bits = c.bits; power = c.power }))
 
   bits_reach : (s : Scratch) → Reaches g (logical_bits ty op n e).steps (logical_bits ty op n e).value s (number ty (bits_of ty op n v))
   bits_reach s =
       let t = turns_do (width ty) 0 (with_scratch 4 (pos 0) (with_scratch 3 (pos 1) (with_scratch 2 (pos 0) s))) (omega arith)
-      (record { bits = refl; weight = refl }) in
-      let below = of_bits_below at_bit (width ty) in
+      (record { bits = refl; power = refl }) in
+      let all = all_bits bit_of (width ty) in
+      let below = upper_below bit_of (λ i. digit_below (at_bit i)) (width ty) 0 in
       let most = pow_small (width ty) (width_at_most ty) in
       assign_goes {z = pos 0} refl (assign_goes {z = pos 1} refl (step_goes (ap worked_by t.is)
-      (number_gives g ty (scratch 2) t.behind (so_far (width ty)) (ap Some t.holds.bits) (omega (arith, below, most)))))
+      (number_gives g ty (scratch 2) t.behind (of_bits bit_of (width ty)) (ap Some t.holds.bits ∙ ap (λ (x : ℕ). Some (pos x)) all)
+      (omega (arith, all, below, most)))))
 
 -- ---- the kind
 
@@ -330,18 +326,19 @@ module _ (r : Readable) (op : ℤ) (n e : ℕ) (few : n ≤ 64) (input_at : (k :
   bits_read : (ty : Ty) → 4 ≤ r.scratch → RecipeFits r (logical_bits ty op n e)
   bits_read ty o =
       let nth : (i : ℕ) → 1 ≤ i → i ≤ 4 → IsScratch r i = λ i l h. (l, omega (arith, h, o)) in
-      let digit : ℕ → Term = λ k. both Rem (both Div (pattern_term ty (input k e)) (scratch 3)) (natural 2) in
+      let digit : ℕ → Term = λ k. highest_bit ty (both Mul (input k e) (scratch 3)) in
       let width_most = width_at_most ty in
-      let joined : Reads r 32 (both Add (scratch 2) (both Mul (logical op n) (scratch 3))) =
-      both_reads (scratch_reads (omega arith) (omega (arith, o)))
-      (both_reads (logical_reads op n (omega (arith, o)) few) (scratch_reads (omega arith) (omega (arith, o)))) in
-      let doubled : Reads r 32 (both Mul (scratch 3) (natural 2)) = both_reads (scratch_reads (omega arith) (omega (arith, o)))
-      (natural_reads (omega arith)) in
-      let behind : WorksFit r (assign 2 (both Add (scratch 2) (both Mul (logical op n) (scratch 3))) ∷ assign 3 (both Mul (scratch 3) (natural 2)) ∷ []) =
-      ((nth 2 (omega arith) (omega arith), joined.fits), ((nth 3 (omega arith) (omega arith), doubled.fits), tt)) in
+      let doubled : (i : ℕ) → 1 ≤ i → i ≤ 4 → Reads r 31 (both Mul (scratch i) (natural 2)) =
+      λ i l h. both_reads (scratch_reads l (omega (arith, h, o))) (natural_reads (omega arith)) in
+      let joined : Reads r 32 (both Add (both Mul (scratch 2) (natural 2)) (logical op n)) =
+      both_reads (doubled 2 (omega arith) (omega arith)) (logical_reads op n (omega (arith, o)) few) in
+      let power : Reads r 32 (both Mul (scratch 3) (natural 2)) = both_reads (scratch_reads (omega arith) (omega (arith, o))) (natural_reads (omega arith)) in
+      let behind : WorksFit r (assign 2 (both Add (both Mul (scratch 2) (natural 2)) (logical op n)) ∷ assign 3 (both Mul (scratch 3) (natural 2)) ∷ []) =
+      ((nth 2 (omega arith) (omega arith), joined.fits), ((nth 3 (omega arith) (omega arith), power.fits), tt)) in
+      let most = span_at_most ty in
       let digits : WorksFit r (counted digit 0 n) = counted_fit r digit (omega (arith, o)) n 0
-      (λ i l. both_reads (both_reads (pattern_reads ty (input_reads (input_at i (omega (arith, l))))) (scratch_reads (omega arith) (omega (arith, o))))
-      (natural_reads (omega arith))) in
+      (λ i l. both_reads (pattern_reads ty (both_reads (input_reads (input_at i (omega (arith, l)))) (scratch_reads (omega arith) (omega (arith, o)))))
+      (natural_reads (omega (arith, most)))) in
       let value_fits : Reads r 32 (wrapped ty (scratch 2)) = wrapped_reads ty (scratch_reads (omega arith) (omega (arith, o))) in (
         (
           (nth 2 (omega arith) (omega arith), spelled 0 (omega arith)),

@@ -1,54 +1,66 @@
 -- The next states of the kinds that have a state.
-use Rattle.std.proofs.Common.{◌≡◌, ℕ, ◌+◌, ◌<◌, ◌≤◌, ◌≤ℤ◌, ◌+ℤ◌, Some, Bool, true, false, refl, ap, arith, ℤ, pos, negsuc, if◌then◌else◌, List, length}
-use Rattle.std.specs.Prelude.{nat_lt, unsigned_abs}
+use Rattle.std.proofs.Common.{◌≡◌, ℕ, ◌+◌, ◌<◌, ◌≤◌, ◌≤ℤ◌, ◌+ℤ◌, Some, Bool, true, false, refl, sym, ap, ◌∙◌, ◌%◌, ◌<ℤ◌, inl, inr, arith, ℤ, pos, negsuc, if◌then◌else◌, List, length}
+use Rattle.std.specs.Prelude.{nat_lt, int_lt}
 use Rattle.std.specs.Int.{int_rem_euclid}
+use Rattle.std.proofs.Math.Nat.{mod-eq_of_lt, mod_self}
 use Rattle.std.proofs.lemmas.Int.{ints}
 use Rattle.std.proofs.lemmas.Bool.Decides.{nat_tests}
-use Rattle.sci_base.specs.Fit.{InRange}
 use Rattle.sci_base.specs.Lists.{at}
 use Rattle.sci_forms.specs.declared.Kind.{Kind}
 use Rattle.sci_forms.specs.declared.Kind.TheVariants.{Dollar, Register, ModuloCount, GatedDelay}
 use Rattle.sci_forms.specs.declared.spec.Spec.{Spec}
-use Rattle.sci_forms.specs.Words.{param, out_type, state_len_of}
+use Rattle.sci_forms.specs.Words.{param, state_len_of}
 use Rattle.sci_kinds.specs.Table.{next_of}
 use Rattle.sci_kinds.specs.Asks.{Asks, IsState}
 use Rattle.sci_kinds.proofs.TypedLemmas.{before_one}
 use Rattle.sci_kinds.proofs.LawProofs.{asks}
-use Rattle.c_ast.specs.declared.Op.TheVariants.{Add}
+use Rattle.c_ast.specs.declared.Op.TheVariants.{Add, Mul, Lt}
 use Rattle.c_steps.specs.Laws.{Within}
-use Rattle.sci_cgen_blocks.specs.Terms.{input, state, both, value, Scratch, Readable, TermFits, IsSpelled}
-use Rattle.sci_cgen_blocks.specs.Recipes.{natural, modulo, next_term, given, IsElement}
-use Rattle.sci_cgen_blocks.specs.Laws.{NextLaw, NextReadsLaw}
-use Rattle.sci_cgen_blocks.proofs.Operators.{add_is}
-use Rattle.sci_cgen_blocks.proofs.Fitting.{modulo_is}
+use Rattle.sci_cgen_blocks.specs.Terms.{constant, input, state, both, value, Scratch, Readable, TermFits, IsSpelled}
+use Rattle.sci_cgen_blocks.specs.Recipes.{natural, next_term, given, IsElement}
+use Rattle.sci_cgen_blocks.specs.Laws.{IsCount, NextLaw, NextReadsLaw}
+use Rattle.sci_cgen_blocks.proofs.Operators.{add_is, lt_is}
+use Rattle.sci_cgen_blocks.proofs.Fitting.{cases_below, lt_yes, lt_no}
+use Rattle.sci_cgen_blocks.proofs.StateKinds.{chosen}
 use Rattle.sci_cgen_blocks.proofs.Working.{spelled}
-use Rattle.sci_cgen_blocks.proofs.Inputs.{given_first, small}
+use Rattle.sci_cgen_blocks.proofs.Inputs.{given_first}
 
 -- ---- values
+
+-- one more than a number below the base, or 0 where that is the base
+count_turns : (z b : ℤ) → pos 0 ≤ℤ z → z <ℤ b → (if int_lt (z +ℤ pos 1) b then (z +ℤ pos 1) else pos 0) ≡ int_rem_euclid (z +ℤ pos 1) b
+count_turns (pos n) (pos k) h l = elim (cases_below (pos n +ℤ pos 1) (pos k)) [
+  | inl less ↦ let small : n + 1 < k = omega (arith, ints, less) in rw (lt_yes (pos n +ℤ pos 1) (pos k) less) (ap pos (sym (mod-eq_of_lt small)))
+  | inr most ↦
+      let same : k ≡ n + 1 = omega (arith, ints, l, most) in
+      rw (lt_no (pos n +ℤ pos 1) (pos k) most) (ap pos (sym (ap (λ (i : ℕ). (n + 1) % i) same ∙ mod_self (n + 1))))
+]
+count_turns (pos n) (negsuc k) h l = absurd (omega (arith, ints, h, l))
+count_turns (negsuc n) b h l = absurd (omega (arith, ints, h))
 
 module _ (s : Spec) (x : List ℤ) (m : ℕ) (u : List ℤ) (t : Scratch) where
   moved : (b : Bool) (i : ℕ) → value (given s x m u) t (if b then state (i + 1) else input 0 0) ≡ Some (if b then at x (i + 1) else at u 0)
   moved true i = refl
   moved false i = ap Some (given_first s x m u 0)
 
-  counted : (b : ℤ) → pos 1 ≤ℤ b → b ≤ℤ pos 2147483647 → InRange (out_type s) (at x 0)
-      → value (given s x m u) t (modulo (both Add (state 0) (natural 1)) (unsigned_abs b)) ≡ Some (int_rem_euclid (at x 0 +ℤ pos 1) b)
-  counted (pos n) h k r =
-      let i = small (out_type s) (at x 0) r in
-      let w : Within (at x 0 +ℤ pos 1) = record { above = omega (arith, ints, i.0); below = omega (arith, ints, i.1) } in
-      modulo_is (add_is {x = at x 0} {y = pos 1} refl refl w) n (omega (arith, ints, h)) (omega (arith, ints, k)) w
-  counted (negsuc n) h k r = absurd (omega (arith, ints, h))
+  counted : (b : ℤ) → b ≤ℤ pos 2147483647 → pos 0 ≤ℤ at x 0 → at x 0 <ℤ b
+      → value (given s x m u) t (both Mul (both Lt (both Add (state 0) (natural 1)) (constant b)) (both Add (state 0) (natural 1)))
+      ≡ Some (int_rem_euclid (at x 0 +ℤ pos 1) b)
+  counted b k l r =
+      let w : Within (at x 0 +ℤ pos 1) = record { above = omega (arith, ints, l); below = omega (arith, ints, k, r) } in
+      let more = add_is {x = at x 0} {y = pos 1} refl refl w in
+      chosen (int_lt (at x 0 +ℤ pos 1) b) (lt_is {y = b} more refl) more w ∙ ap Some (count_turns (at x 0) b l r)
 
-  next_is : (k : Kind) → s.kind ≡ k → Asks k s → IsState s x → (i : ℕ) → i < state_len_of k s
+  next_is : (k : Kind) → s.kind ≡ k → Asks k s → IsState s x → IsCount s x → (i : ℕ) → i < state_len_of k s
       → value (given s x m u) t (next_term k s i) ≡ Some (next_of k s x m u i)
-  next_is Dollar e a st i h = ap Some (given_first s x m u i)
-  next_is GatedDelay e a st i h = ap Some (given_first s x m u i)
-  next_is Register e a st i h = moved (nat_lt (i + 1) (length s.state)) i
-  next_is ModuloCount e a st i h = counted (param s 0) a.2 a.3 (st.in_range 0 (rw e (omega arith)))
-  next_is _ e a st i h = absurd (omega (arith, h))
+  next_is Dollar e a st c i h = ap Some (given_first s x m u i)
+  next_is GatedDelay e a st c i h = ap Some (given_first s x m u i)
+  next_is Register e a st c i h = moved (nat_lt (i + 1) (length s.state)) i
+  next_is ModuloCount e a st c i h = let is = c e in counted (param s 0) a.3 is.0 is.1
+  next_is _ e a st c i h = absurd (omega (arith, h))
 
 pub next_law : NextLaw
-next_law s x m u h st f i l t = next_is s x m u t s.kind refl (asks s h) st i l
+next_law s x m u h st c f i l t = next_is s x m u t s.kind refl (asks s h) st c i l
 
 -- ---- what they read
 
@@ -64,12 +76,9 @@ next_reads Register s a i h = by_place (nat_lt (i + 1) (length s.state)) refl
     by_place true p = (omega arith, grind (arith, nat_tests))
     by_place false p = let n = a.0.ins_alike.sizes 0 (omega (arith, a.1)) in (omega (arith, a.1), omega (arith, n, a.2))
 next_reads ModuloCount s a i h =
-    let n : IsSpelled (pos (unsigned_abs (param s 0))) = spelled (unsigned_abs (param s 0)) (size_of (param s 0) a.2 a.3) in
-    ((((((omega (arith, h), omega arith), spelled 1 (omega arith)), n), n), n))
-  where
-    size_of : (b : ℤ) → pos 1 ≤ℤ b → b ≤ℤ pos 2147483647 → unsigned_abs b ≤ 9223372036854775807
-    size_of (pos n) h k = omega (arith, ints, k)
-    size_of (negsuc n) h k = absurd (omega (arith, ints, h))
+    let here : (i ≤ 0) × (0 < 1) = (omega (arith, h), omega arith) in
+    let base : IsSpelled (param s 0) = (omega (arith, ints, a.2), omega (arith, ints, a.3)) in
+    (((here, spelled 1 (omega arith)), base), (here, spelled 1 (omega arith)))
 next_reads _ s a i h = absurd (omega (arith, h))
 
 pub next_reads_law : NextReadsLaw

@@ -17,7 +17,7 @@ use Rattle.c_steps.specs.Runs.{Leads}
 use Rattle.c_steps.proofs.Memory.{put_there, put_apart, keeps_all, keeps_then, keeps_cell}
 use Rattle.c_steps.proofs.Steps.{joined_leads, cell_runs, done_leads, leads_as}
 use Rattle.sci_cgen_blocks.specs.Recipes.{next_term, delay_term, branch_term, given, from_value, inputs}
-use Rattle.sci_cgen_blocks.specs.Laws.{NextLaw, NextReadsLaw, DelayTermLaw, BranchTermLaw}
+use Rattle.sci_cgen_blocks.specs.Laws.{IsCount, NextLaw, NextReadsLaw, DelayTermLaw, BranchTermLaw}
 use Rattle.sci_cgen_blocks.specs.Texts.{Places, values, states, masks, input_place, expression, next_text, delay_expression, branch_expression}
 use Rattle.sci_cgen_blocks.specs.Meant.{Holds, IsAny, NextIs}
 use Rattle.sci_cgen_blocks.proofs.Shown.{ShowsGiven, expression_is}
@@ -64,9 +64,9 @@ module _ (env : Around) (s : Spec) (p : Places) (x : List ℤ) (m : ℕ) (u : Li
   text i = next (set (cell states (num (pos (p.state + i)))) (expression p (next_term s.kind s i))) done
 
   -- The text of the next state leaves it at the places of the state.
-  pub next_is : NextLaw → NextReadsLaw → typed s ≡ true → IsState s x → Fills s.ins u → (k : ℕ)
+  pub next_is : NextLaw → NextReadsLaw → typed s ≡ true → IsState s x → IsCount s x → Fills s.ins u → (k : ℕ)
       → NextIs s p w (next_of s.kind s x m u) (run_block env k (next_text s p) w)
-  next_is gives reads is_typed st fills k =
+  next_is gives reads is_typed st count fills k =
       leads_as (run_block env k (next_text s p) w) (λ w' h. (h.keeps, h.new)) (partly (state_len_of s.kind s) (omega arith) k)
     where
       partly : (n : ℕ) → n ≤ state_len_of s.kind s → (k : ℕ) → Leads (run_block env k (upto text n) w) (IsPart s p x m u w n)
@@ -80,7 +80,7 @@ module _ (env : Around) (s : Spec) (p : Places) (x : List ℤ) (m : ℕ) (u : Li
           (λ k' w' h. one_value n (omega (arith, l)) k' w' h
           (expression_is p (from_value s n) (given s x m u) (scratch_in w') w' (shows_from n w' h) 32 (next_term s.kind s n)
           (reads s is_typed n (omega (arith, l)))
-          ∙ gives s x m u is_typed st fills n (omega (arith, l)) (scratch_in w')))
+          ∙ gives s x m u is_typed st count fills n (omega (arith, l)) (scratch_in w')))
 
 -- ---- delays and branches
 

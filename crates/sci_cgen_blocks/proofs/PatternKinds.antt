@@ -91,7 +91,7 @@ from_low (pos a) lo b c h l n k = record { above = omega (arith, ints, h, l, n, 
 from_low (negsuc a) lo b c h l n k = record { above = omega (arith, ints, h, l, n, k); below = omega (arith, ints, h, l, n, k) }
 
 -- a number times a power of 2 is in the word, and its distance from the type's low end
-moved_within : (t : Ty) (v : ℤ) (k : ℕ) → InRange t v → k < 32 → Within (v *ℤ pos (2 ^ k)) × Within ((v *ℤ pos (2 ^ k)) -ℤ low t)
+pub moved_within : (t : Ty) (v : ℤ) (k : ℕ) → InRange t v → k < 32 → Within (v *ℤ pos (2 ^ k)) × Within ((v *ℤ pos (2 ^ k)) -ℤ low t)
 moved_within t v k r h =
     let d = ends t v r in
     let most = mul-le (unsigned_abs v) (2 ^ k) d.size 2147483648 d.most (pow_at_most k h) in

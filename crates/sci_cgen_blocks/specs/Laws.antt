@@ -1,6 +1,7 @@
 -- The ways are right: each gives what the table of kinds says, and reads nothing but what the block has. And so are the texts made of them.
-use Rattle.std.specs.Prelude.{◌≡◌, ◌≢◌, ℕ, suc, ◌+◌, ◌<◌, ℤ, pos, List, Some, None, true}
-use Rattle.sci_forms.specs.declared.Kind.TheVariants.{Sensor}
+use Rattle.std.specs.Prelude.{◌≡◌, ◌≢◌, ℕ, suc, ◌+◌, ◌<◌, ℤ, pos, ◌≤ℤ◌, ◌<ℤ◌, List, Some, None, true}
+use Rattle.sci_forms.specs.declared.Kind.TheVariants.{Sensor, ModuloCount}
+use Rattle.sci_base.specs.Lists.{at}
 use Rattle.sci_forms.specs.declared.spec.Spec.{Spec}
 use Rattle.sci_forms.specs.Ports.{total, Fills}
 use Rattle.sci_forms.specs.Words.{param, state_len_of}
@@ -32,9 +33,13 @@ CellLaw =
 abbrev pub CellReadsLaw : Type 0
 CellReadsLaw = (s : Spec) → typed s ≡ true → s.kind ≢ Sensor → WayFits (fed s) (total s.outs) (way_of s.kind s) 8
 
+-- a counter stands below its base
+abbrev pub IsCount : Spec → List ℤ → Type 0
+IsCount s x = s.kind ≡ ModuloCount → (pos 0 ≤ℤ at x 0) × (at x 0 <ℤ param s 0)
+
 abbrev pub NextLaw : Type 0
 NextLaw =
-    (s : Spec) (x : List ℤ) (m : ℕ) (u : List ℤ) → typed s ≡ true → IsState s x → Fills s.ins u
+    (s : Spec) (x : List ℤ) (m : ℕ) (u : List ℤ) → typed s ≡ true → IsState s x → IsCount s x → Fills s.ins u
     → (i : ℕ) → i < state_len_of s.kind s → (t : Scratch) → value (given s x m u) t (next_term s.kind s i) ≡ Some (next_of s.kind s x m u i)
 
 abbrev pub NextReadsLaw : Type 0
@@ -68,7 +73,7 @@ SensorLaw =
 -- From a memory that holds all inputs too the text of the next state leaves it.
 abbrev pub NextStateLaw : Type 0
 NextStateLaw =
-    (env : Around) (s : Spec) (p : Places) (x : List ℤ) (m : ℕ) (u : List ℤ) (n : ℕ) (w : World) → typed s ≡ true → IsState s x → Fills s.ins u
+    (env : Around) (s : Spec) (p : Places) (x : List ℤ) (m : ℕ) (u : List ℤ) (n : ℕ) (w : World) → typed s ≡ true → IsState s x → IsCount s x → Fills s.ins u
     → Holds s p IsAny x m u w → NextIs s p w (next_of s.kind s x m u) (run_block env n (next_text s p) w)
 
 -- and there the delay of activation output q and the branch have the values of the table

@@ -1,6 +1,6 @@
 -- How each kind's values, next states, delays and branches are worked out. What a kind means stands in its table (sci_kinds); these are ways to it that
 -- C leaves nowhere undefined.
-use Rattle.std.specs.Prelude.{◌≡◌, ℕ, zero, suc, ◌+◌, ◌-◌, ◌*◌, ◌^◌, ◌<◌, ◌≤◌, true, ℤ, pos, negsuc, List, [], ◌∷◌, ◌++◌, length, Bool, ◌&&◌, nat_lt, int_lt, if◌then◌else◌, unsigned_abs}
+use Rattle.std.specs.Prelude.{◌≡◌, ℕ, zero, suc, ◌+◌, ◌-◌, ◌*◌, ◌/◌, ◌^◌, ◌<◌, ◌≤◌, true, ℤ, pos, negsuc, List, [], ◌∷◌, ◌++◌, length, Bool, ◌&&◌, nat_lt, int_lt, if◌then◌else◌, unsigned_abs}
 use Rattle.std.specs.Int.{int_rem_euclid}
 use Rattle.sci_base.specs.declared.Ty.{Ty}
 use Rattle.sci_base.specs.declared.Ty.TheVariants.{U32}
@@ -136,22 +136,21 @@ logical op n =
 abbrev pub logical_truths : ℤ → ℕ → ℕ → Recipe
 logical_truths op n e = record { steps = set (natural 0) ∷ changed (counted (λ k. truth (input k e)) 0 n); value = logical op n }
 
--- Bit by bit: scratch 2 has the pattern so far, 3 the weight of the bit, 4 counts the bits.
+-- the highest bit of the pattern of a number
+abbrev pub highest_bit : Ty → Term → Term
+highest_bit ty t = both Div (pattern ty t) (natural (span ty / 2))
+
+-- Bit by bit, the highest first: scratch 2 has the bits so far, 3 the power of 2 that moves the next one up to the highest, 4 counts the bits.
 abbrev pub logical_bits : Ty → ℤ → ℕ → ℕ → Recipe
 logical_bits ty op n e = record {
   steps = change (assign 2 (natural 0)) ∷ change (assign 3 (natural 1)) ∷ repeat 4 (width ty) (
-      (assign 1 (natural 0) ∷ counted (λ k. both Rem (both Div (pattern ty (input k e)) (scratch 3)) (natural 2)) 0 n)
-      ++ assign 2 (both Add (scratch 2) (both Mul (logical op n) (scratch 3))) ∷ assign 3 (both Mul (scratch 3) (natural 2)) ∷ []) ∷ [];
+      (assign 1 (natural 0) ∷ counted (λ k. highest_bit ty (both Mul (input k e) (scratch 3))) 0 n)
+      ++ assign 2 (both Add (both Mul (scratch 2) (natural 2)) (logical op n)) ∷ assign 3 (both Mul (scratch 3) (natural 2)) ∷ []) ∷ [];
   value = wrapped ty (scratch 2);
 }
 
 abbrev pub logical_operation : Ty → ℤ → ℤ → ℕ → ℕ → Recipe
 logical_operation ty op b n e = if int_eq b (pos 0) then logical_truths op n e else logical_bits ty op n e
-
--- of inputs k - 1 down to 0 the last whose activation input is activated
-abbrev pub selected : ℕ → ℕ → List Step
-selected e zero = []
-selected e (suc k) = set_if (bit mask k) (input k e) ∷ selected e k
 
 -- ---- one input
 
@@ -200,7 +199,8 @@ abbrev pub flat_from : List Port → ℕ → ℕ → Term
 flat_from [] k e = input k e
 flat_from (p ∷ ps) k e = if nat_lt e (elements p) then input k e else flat_from ps (suc k) (e - elements p)
 
--- Element e of the outputs, counted through all of them. A SENSOR's is no recipe, since it asks for its value; a LOGIC's neither (way_of).
+-- Element e of the outputs, counted through all of them. A SENSOR's is no recipe, since it asks for its value; those of kinds that decide once for all elements neither
+-- (way_of).
 abbrev pub recipe_of : Kind → Spec → ℕ → Recipe
 recipe_of Const s e = plain (constant (spread s.params e))
 recipe_of Summation s e = fitted_out (out_type s) (mode_of (param s 0)) (set (natural 0) ∷ terms s e 0 (length s.ins))
@@ -226,8 +226,8 @@ recipe_of Shift s e = shift (out_type s) (param s 0) (param s 1) (input 0 e)
 recipe_of BitSet s e = with_bit (out_type s) (unsigned_abs (param s 0)) (input 0 e)
 recipe_of BitClear s e = without_bit (out_type s) (unsigned_abs (param s 0)) (input 0 e)
 recipe_of ExtractBits s e = bits (out_type s) (unsigned_abs (param s 0)) (unsigned_abs (param s 1)) (input 0 e)
-recipe_of Switch2 s e = worked_out (set (input 2 e) ∷ set_if (switches (param s 0) (param s 1) (input 1 0)) (input 0 e) ∷ [])
-recipe_of Select s e = worked_out (set (natural 0) ∷ selected e s.evtin)
+recipe_of Switch2 s e = plain (natural 0)
+recipe_of Select s e = plain (natural 0)
 recipe_of Logic s e = plain (natural 0)
 recipe_of AndLog s e = plain (both Sub (both Mul (natural 2) (both Eq mask (natural 3))) (natural 1))
 recipe_of Dollar s e = plain (state e)
@@ -266,20 +266,34 @@ abbrev pub decided : Spec → ℕ → ℕ → ℕ → Way
 decided s k zero r = row s r
 decided s k (suc n) r = if are_as s r r (2 ^ suc n) then row s r else decide (input k 0) (decided s (suc k) n (r + 2 ^ n)) (decided s (suc k) n r)
 
+-- ---- choices
+
+-- all elements of input k
+abbrev pub copied : ℕ → Way
+copied k = each (λ e. plain (input k e))
+
+-- of inputs k to k + n the first whose activation input is activated; the last is not asked about
+abbrev pub first_activated : ℕ → ℕ → Way
+first_activated k zero = copied k
+first_activated k (suc n) = decide (bit mask k) (copied k) (first_activated (suc k) n)
+
 -- ---- the ways
 
 abbrev pub way_of : Kind → Spec → Way
+way_of Switch2 s = decide (switches (param s 0) (param s 1) (input 1 0)) (copied 0) (copied 2)
+way_of Select s = first_activated 0 (s.evtin - 1)
 way_of Logic s = decided s 0 (length s.ins) 0
 way_of c s = each (recipe_of c s)
 
 -- ---- next states, delays, branches
 
 -- Value i of the next state. The values are assigned in order, so a term may read the state from value i on alone.
+-- A counter stands below its base, so that one more is the base at most.
 abbrev pub next_term : Kind → Spec → ℕ → Term
 next_term Dollar s i = input 0 i
 next_term GatedDelay s i = input 0 i
 next_term Register s i = if nat_lt (i + 1) (length s.state) then state (i + 1) else input 0 0
-next_term ModuloCount s i = modulo (both Add (state 0) (natural 1)) (unsigned_abs (param s 0))
+next_term ModuloCount s i = both Mul (both Lt (both Add (state 0) (natural 1)) (constant (param s 0))) (both Add (state 0) (natural 1))
 next_term _ s i = natural 0
 
 -- t where it is at most the most, else the most
@@ -312,8 +326,6 @@ scratch_of DeadBand s = 1
 scratch_of Convert s = 1
 scratch_of LogicalOp s = if int_eq (param s 1) (pos 0) then 1 else 4
 scratch_of Shift s = if int_eq (param s 1) (pos 0) then 0 else 1
-scratch_of Switch2 s = 1
-scratch_of Select s = 1
 scratch_of Sensor s = 1
 scratch_of _ s = 0
 

@@ -5,7 +5,8 @@ ghost use Rattle.sci_forms.specs.Words.{param as param_of};
 ghost use Rattle.sci_forms.specs.declared.Kind.TheVariants as kinds;
 ghost use Rattle.c_ast.specs.declared.Op.TheVariants as ops;
 ghost use Rattle.sci_cgen_blocks.specs.Terms.{constant, input, both as both_of};
-ghost use Rattle.sci_cgen_blocks.specs.Recipes.{natural as natural_of, plain as plain_of, result as first_scratch, set as set_of, set_if as set_if_of, terms, extremes, recipe_of};
+ghost use Rattle.sci_cgen_blocks.specs.Recipes.{natural as natural_of, plain as plain_of, result as first_scratch, set as set_of, set_if as set_if_of};
+ghost use Rattle.sci_cgen_blocks.specs.Recipes.{terms, extremes, recipe_of};
 ghost use Rattle.sci_cgen_blocks.specs.Plain.{term_of, step_of, steps_of, plain_recipe};
 
 use crate::fit_terms::fitted_out;
@@ -22,7 +23,8 @@ use std::alloc::Global;
 
 /// A signed input, added to the result.
 fn term(alloc: Global, s: &Spec, port: u32, e: u32) -> Result<Step, NoMemory>
-    ensures { IfOk result (λ x. step_of x ≡ set_of (both_of (if int_eq (param_of s.now (port + 1)) (pos 1) then ops.Add else ops.Sub) first_scratch (input port e))) }
+    ensures { IfOk result (λ x. step_of x ≡ set_of (both_of (if int_eq (param_of s.now (port + 1)) (pos 1) then ops.Add else ops.Sub) first_scratch
+        (input port e))) }
 {
     let op = if is_equal(param(s, port as usize + 1), 1) {
         Op::Add
@@ -86,7 +88,8 @@ pub(crate) fn abs_value(alloc: Global, s: &Spec, e: u32) -> Result<Recipe, NoMem
 
 /// -1, 0 or 1 by the sign.
 pub(crate) fn signum(alloc: Global, e: u32) -> Result<Recipe, NoMemory>
-    ensures { IfOk result (λ r. plain_recipe r ≡ plain_of (both_of ops.Sub (both_of ops.Gt (input 0 e) (natural_of 0)) (both_of ops.Lt (input 0 e) (natural_of 0)))) }
+    ensures { IfOk result (λ r. plain_recipe r ≡ plain_of (both_of ops.Sub (both_of ops.Gt (input 0 e) (natural_of 0))
+        (both_of ops.Lt (input 0 e) (natural_of 0)))) }
 {
     let is_positive = both(alloc, Op::Gt, Term::Input(0, e), natural(0))?;
     let is_negative = both(alloc, Op::Lt, Term::Input(0, e), natural(0))?;

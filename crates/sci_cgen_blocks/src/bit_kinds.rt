@@ -5,7 +5,8 @@ ghost use Rattle.sci_base.specs.Fit.{width};
 ghost use Rattle.sci_forms.specs.Words.{param as param_of};
 ghost use Rattle.sci_forms.specs.declared.Kind.TheVariants as kinds;
 ghost use Rattle.sci_cgen_blocks.specs.Terms.{input};
-ghost use Rattle.sci_cgen_blocks.specs.Recipes.{floor_quotient as floor_term, shifted as shifted_recipe, turned as turned_recipe, with_bit as with_bit_recipe, without_bit as without_bit_recipe, bits as bits_recipe, recipe_of};
+ghost use Rattle.sci_cgen_blocks.specs.Recipes.{floor_quotient as floor_term, shifted as shifted_recipe, turned as turned_recipe};
+ghost use Rattle.sci_cgen_blocks.specs.Recipes.{with_bit as with_bit_recipe, without_bit as without_bit_recipe, bits as bits_recipe, recipe_of};
 ghost use Rattle.sci_cgen_blocks.specs.Plain.{term_of, steps_of, plain_recipe};
 
 use crate::fit_terms::{bit, from_pattern, modulo, pattern, wrapped};

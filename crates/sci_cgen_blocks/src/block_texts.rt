@@ -8,12 +8,15 @@ ghost use Rattle.c_ast.specs.View.{exp_of, statement_of, statements_of};
 ghost use Rattle.c_steps.specs.Texts.{joined, upto};
 ghost use Rattle.c_ast.specs.Syntax.{num, set as assign, cell};
 ghost use Rattle.sci_forms.specs.declared.Kind.TheVariants as kinds;
-ghost use Rattle.sci_cgen_blocks.specs.Recipes.{recipe_of, next_term as next_by_kind};
-ghost use Rattle.sci_cgen_blocks.specs.Texts.{recipe_text, states as states_name, expression as expression_text, sensor_text, body_text, next_text, delay_expression, branch_expression};
+ghost use Rattle.sci_cgen_blocks.specs.Terms.{each};
+ghost use Rattle.sci_cgen_blocks.specs.Recipes.{recipe_of, way_of, next_term as next_by_kind};
+ghost use Rattle.sci_cgen_blocks.specs.Texts.{recipe_text, states as states_name, expression as expression_text, sensor_text, body_text, next_text};
+ghost use Rattle.sci_cgen_blocks.specs.Texts.{delay_expression, branch_expression};
 ghost use Rattle.sci_cgen_blocks.specs.Plain.{plain_places, AreFew};
 
 use crate::Layout;
 use crate::array_names::{scratch, states, values};
+use crate::choice_texts::{select, switched};
 use crate::kind_recipes::recipe;
 use crate::kind_terms::{branch_term, delay_term, next_term, state_len};
 use crate::spec_words::{param, total};
@@ -42,7 +45,7 @@ fn sensor(alloc: Global, at: &Layout, column: i64) -> Result<Vec<Stmt>, NoMemory
     Ok(vec![in alloc; more, choice]?)
 }
 
-/// Element `e` of the outputs, of a block that is neither a sensor nor a table of truth.
+/// Element `e` of the outputs, of a block whose elements each have a recipe.
 fn push_element(
     alloc: Global,
     out: &mut Vec<Stmt>,
@@ -53,19 +56,20 @@ fn push_element(
     requires is_typed { typed s.now ≡ true }
     requires few { AreFew s.now (plain_places at.now) }
     requires own { s.now.kind ≢ kinds.Sensor }
-    requires single { s.now.kind ≢ kinds.Logic }
+    requires single { way_of s.now.kind s.now ≡ each (recipe_of s.now.kind s.now) }
     requires element { e < total s.now.outs }
-    ensures { OnOk result (statements_of out.new.items ≡ joined (statements_of out.old.items) (recipe_text (plain_places at.now) e (recipe_of s.now.kind s.now e))) }
+    ensures { OnOk result (statements_of out.new.items ≡ joined (statements_of out.old.items)
+        (recipe_text (plain_places at.now) e (recipe_of s.now.kind s.now e))) }
 {
     push_recipe(alloc, out, at, e, &recipe(alloc, s, e)?)
 }
 
-/// The values of a block that is neither a sensor nor a table of truth.
+/// The values of a block whose elements each have a recipe.
 fn elements(alloc: Global, s: &Spec, at: &Layout) -> Result<Vec<Stmt>, NoMemory>
     requires is_typed { typed s.now ≡ true }
     requires few { AreFew s.now (plain_places at.now) }
     requires own { s.now.kind ≢ kinds.Sensor }
-    requires single { s.now.kind ≢ kinds.Logic }
+    requires single { way_of s.now.kind s.now ≡ each (recipe_of s.now.kind s.now) }
     ensures { IfOk result (λ v. statements_of v.items ≡ upto (λ e. recipe_text (plain_places at.now) e (recipe_of s.now.kind s.now e)) (total s.now.outs)) }
 {
     let mut out = Vec::new(alloc);
@@ -77,7 +81,7 @@ fn elements(alloc: Global, s: &Spec, at: &Layout) -> Result<Vec<Stmt>, NoMemory>
 
 /// The statements that work out a block's values from its inputs, its state and its mask, and leave them at the places of its outputs; a
 /// block that has no value stops the run.
-#[tactic(auto, using(crate::proofs::KindSpelled::values_of_other))]
+#[tactic(auto, using(crate::proofs::KindSpelled::values_of_other, crate::proofs::KindSpelled::way_of_other))]
 pub fn block_body(alloc: Global, s: &Spec, at: &Layout) -> Result<Vec<Stmt>, NoMemory>
     requires is_typed { typed s.now ≡ true }
     requires few { AreFew s.now (plain_places at.now) }
@@ -85,6 +89,10 @@ pub fn block_body(alloc: Global, s: &Spec, at: &Layout) -> Result<Vec<Stmt>, NoM
 {
     if let Kind::Sensor = s.kind {
         sensor(alloc, at, param(s, 0))
+    } else if let Kind::Switch2 = s.kind {
+        switched(alloc, s, at)
+    } else if let Kind::Select = s.kind {
+        select(alloc, s, at)
     } else if let Kind::Logic = s.kind {
         table(alloc, s, at)
     } else {
@@ -97,7 +105,8 @@ fn next_value(alloc: Global, s: &Spec, at: &Layout, i: u32) -> Result<Stmt, NoMe
     requires is_typed { typed s.now ≡ true }
     requires value { i < state_len_of s.now.kind s.now }
     requires small { i < 2 ^ 31 }
-    ensures { IfOk result (λ x. statement_of x ≡ assign (cell states_name (num (pos (at.now.state + i)))) (expression_text (plain_places at.now) (next_by_kind s.now.kind s.now i))) }
+    ensures { IfOk result (λ x. statement_of x ≡ assign (cell states_name (num (pos (at.now.state + i))))
+        (expression_text (plain_places at.now) (next_by_kind s.now.kind s.now i))) }
 {
     let value = expression(alloc, at, &next_term(alloc, s, i)?)?;
     let place = Target::At(states(), Expr::Num(at.state as i64 + i as i64));

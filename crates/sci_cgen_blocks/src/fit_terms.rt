@@ -3,7 +3,9 @@ ghost use Rattle.std.specs.Prelude.{◌≡◌, ◌<◌, ◌≤◌, ◌++◌, ◌
 ghost use Rattle.c_ast.specs.declared.Op.TheVariants as ops;
 ghost use Rattle.sci_base.specs.Fit.{low, high};
 ghost use Rattle.sci_cgen_blocks.specs.Terms.{constant, both as both_of};
-ghost use Rattle.sci_cgen_blocks.specs.Recipes.{result as first_scratch, modulo as modulo_term, wrapped as wrapped_term, pattern as pattern_term, bit as bit_term, fit_steps, fitted_out as fitted_recipe, from_pattern as from_pattern_recipe};
+ghost use Rattle.sci_cgen_blocks.specs.Recipes.{result as first_scratch, modulo as modulo_term, wrapped as wrapped_term, pattern as pattern_term};
+ghost use Rattle.sci_cgen_blocks.specs.Recipes.{bit as bit_term, highest_bit as highest_term};
+ghost use Rattle.sci_cgen_blocks.specs.Recipes.{fit_steps, fitted_out as fitted_recipe, from_pattern as from_pattern_recipe};
 ghost use Rattle.sci_cgen_blocks.specs.Plain.{term_of, steps_of, plain_recipe};
 
 use crate::recipe_parts::{
@@ -54,6 +56,14 @@ pub(crate) fn bit(alloc: Global, pattern: Term, k: u32) -> Result<Term, NoMemory
 {
     let moved = both(alloc, Op::Div, pattern, natural(power(k)))?;
     both(alloc, Op::Rem, moved, natural(2))
+}
+
+/// The highest bit of the pattern of a number.
+pub(crate) fn highest_bit(alloc: Global, ty: Ty, t: Term) -> Result<Term, NoMemory>
+    ensures { IfOk result (λ r. term_of r ≡ highest_term ty (term_of t)) }
+{
+    let bits = pattern(alloc, ty, t)?;
+    both(alloc, Op::Div, bits, natural(span(ty) / 2))
 }
 
 /// Whether the first scratch number is below a type.

@@ -14,7 +14,7 @@ use crate::arithmetic_kinds::{
     summation,
 };
 use crate::bit_kinds::{bit_clear, bit_set, extract_bits, shift};
-use crate::logical_kinds::{and_of_both, logical_operation, related, select, switched};
+use crate::logical_kinds::{and_of_both, logical_operation, related};
 use crate::recipe_parts::{Recipe, Term, both, natural, plain};
 use crate::spec_words::{inputs, param, spread};
 use c_ast::Op;
@@ -83,13 +83,13 @@ pub(crate) fn recipe(alloc: Global, s: &Spec, e: u32) -> Result<Recipe, NoMemory
         Kind::BitSet => bit_set(alloc, s, e),
         Kind::BitClear => bit_clear(alloc, s, e),
         Kind::ExtractBits => extract_bits(alloc, s, e),
-        Kind::Switch2 => switched(alloc, s, e),
-        Kind::Select => select(alloc, s, e),
         Kind::AndLog => and_of_both(alloc),
         Kind::Dollar => Ok(plain(alloc, Term::State(e))),
         Kind::Register | Kind::ModuloCount => Ok(plain(alloc, Term::State(0))),
         Kind::GatedDelay => gated(alloc, e),
-        Kind::Logic
+        Kind::Switch2
+        | Kind::Select
+        | Kind::Logic
         | Kind::Sensor
         | Kind::EvtDly
         | Kind::EvtVarDly

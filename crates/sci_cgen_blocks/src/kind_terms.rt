@@ -1,13 +1,13 @@
 // Next states, delays and branches.
-ghost use Rattle.std.specs.Prelude.{true, unsigned_abs, nat_lt, if◌then◌else◌, ◌≡◌, ◌<◌, ◌≤◌, ◌-◌, ◌+◌, ◌^◌, pos, length, IfOk};
+ghost use Rattle.std.specs.Prelude.{true, nat_lt, if◌then◌else◌, ◌≡◌, ◌<◌, ◌≤◌, ◌-◌, ◌+◌, ◌^◌, pos, length, IfOk};
 ghost use Rattle.c_ast.specs.declared.Op.TheVariants as ops;
 ghost use Rattle.sci_forms.specs.Typed.{typed};
 ghost use Rattle.sci_forms.specs.Words.{state_len_of};
-ghost use Rattle.sci_cgen_blocks.specs.Terms.{input, state, both as both_of};
-ghost use Rattle.sci_cgen_blocks.specs.Recipes.{natural as natural_of, modulo as modulo_of, at_most as at_most_term, next_term as next_by_kind, delay_term as delay_by_kind, branch_term as branch_by_kind, scratch_of as scratch_by_kind};
+ghost use Rattle.sci_cgen_blocks.specs.Terms.{constant, input, state, both as both_of};
+ghost use Rattle.sci_cgen_blocks.specs.Recipes.{natural as natural_of, at_most as at_most_term, next_term as next_by_kind, delay_term as delay_by_kind};
+ghost use Rattle.sci_cgen_blocks.specs.Recipes.{branch_term as branch_by_kind, scratch_of as scratch_by_kind};
 ghost use Rattle.sci_cgen_blocks.specs.Plain.{term_of};
 
-use crate::fit_terms::modulo;
 use crate::recipe_parts::{Term, both, natural};
 use crate::spec_words::param;
 use c_ast::Op;
@@ -72,15 +72,15 @@ fn moved_up(s: &Spec, i: u32) -> Term
 
 /// One more, from 0 again at the base.
 fn counted_on(alloc: Global, base: i64) -> Result<Term, NoMemory>
-    requires { unsigned_abs base ≤ 4294967296 }
-    ensures { IfOk result (λ t. term_of t ≡ modulo_of (both_of ops.Add (state 0) (natural_of 1)) (unsigned_abs base)) }
+    ensures { IfOk result (λ t. term_of t ≡ both_of ops.Mul (both_of ops.Lt (both_of ops.Add (state 0) (natural_of 1)) (constant base))
+        (both_of ops.Add (state 0) (natural_of 1))) }
 {
     let more = both(alloc, Op::Add, Term::State(0), natural(1))?;
-    modulo(alloc, more, base.unsigned_abs())
+    let is_below = both(alloc, Op::Lt, more.copy(alloc)?, Term::Constant(base))?;
+    both(alloc, Op::Mul, is_below, more)
 }
 
 /// Value `i` of the next state.
-#[tactic(auto, using(crate::proofs::KindBounds::count_base))]
 pub(crate) fn next_term(alloc: Global, s: &Spec, i: u32) -> Result<Term, NoMemory>
     requires is_typed { typed s.now ≡ true }
     requires small { i < 2 ^ 31 }
@@ -137,7 +137,8 @@ fn at_most(alloc: Global, most: u64) -> Result<Term, NoMemory>
 
 /// The input as a delay: -1 where it is negative.
 fn delay_by_input(alloc: Global) -> Result<Term, NoMemory>
-    ensures { IfOk result (λ t. term_of t ≡ both_of ops.Sub (both_of ops.Mul (both_of ops.Ge (input 0 0) (natural_of 0)) (at_most_term 2147483647 (input 0 0))) (both_of ops.Lt (input 0 0) (natural_of 0))) }
+    ensures { IfOk result (λ t. term_of t ≡ both_of ops.Sub (both_of ops.Mul (both_of ops.Ge (input 0 0) (natural_of 0))
+        (at_most_term 2147483647 (input 0 0))) (both_of ops.Lt (input 0 0) (natural_of 0))) }
 {
     let some = both(alloc, Op::Ge, Term::Input(0, 0), natural(0))?;
     let ticks = both(alloc, Op::Mul, some, at_most(alloc, 2147483647)?)?;
@@ -197,7 +198,8 @@ fn branch_by_sign(alloc: Global) -> Result<Term, NoMemory>
 
 /// The branch of the input's number, brought within 1 to `count`.
 fn branch_by_number(alloc: Global, count: u32) -> Result<Term, NoMemory>
-    ensures { IfOk result (λ t. term_of t ≡ both_of ops.Add (both_of ops.Mul (both_of ops.Ge (input 0 0) (natural_of 1)) (at_most_term count (input 0 0))) (both_of ops.Lt (input 0 0) (natural_of 1))) }
+    ensures { IfOk result (λ t. term_of t ≡ both_of ops.Add (both_of ops.Mul (both_of ops.Ge (input 0 0) (natural_of 1))
+        (at_most_term count (input 0 0))) (both_of ops.Lt (input 0 0) (natural_of 1))) }
 {
     let some = both(alloc, Op::Ge, Term::Input(0, 0), natural(1))?;
     let number = both(alloc, Op::Mul, some, at_most(alloc, count as u64)?)?;
@@ -260,8 +262,6 @@ pub fn scratch_of(s: &Spec) -> u32
         | Kind::Saturation
         | Kind::DeadBand
         | Kind::Convert
-        | Kind::Switch2
-        | Kind::Select
         | Kind::Sensor => 1,
         Kind::LogicalOp => if is_equal(param(s, 1), 0) { 1 } else { 4 },
         Kind::Shift => if is_equal(param(s, 1), 0) { 0 } else { 1 },
@@ -274,6 +274,8 @@ pub fn scratch_of(s: &Spec) -> u32
         | Kind::BitSet
         | Kind::BitClear
         | Kind::ExtractBits
+        | Kind::Switch2
+        | Kind::Select
         | Kind::Logic
         | Kind::AndLog
         | Kind::Dollar

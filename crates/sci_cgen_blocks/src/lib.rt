@@ -8,6 +8,7 @@ pub mod array_names;
 mod bit_kinds;
 mod block_layout;
 mod block_texts;
+mod choice_texts;
 mod fit_terms;
 mod kind_recipes;
 mod kind_terms;

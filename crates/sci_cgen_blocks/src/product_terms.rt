@@ -2,7 +2,9 @@
 ghost use Rattle.std.specs.Prelude.{◌≡◌, ◌<◌, ◌≤◌, ◌++◌, ◌^◌, IfOk, OnOk};
 ghost use Rattle.c_ast.specs.declared.Op.TheVariants as ops;
 ghost use Rattle.sci_cgen_blocks.specs.Terms.{both as both_of};
-ghost use Rattle.sci_cgen_blocks.specs.Recipes.{natural as natural_of, halves_product as halves_term, product_is_large as is_large_term, product_fits as fits_term, large_product as large_steps, product as product_recipe, quotient as quotient_recipe};
+ghost use Rattle.sci_cgen_blocks.specs.Recipes.{natural as natural_of, halves_product as halves_term, product_is_large as is_large_term};
+ghost use Rattle.sci_cgen_blocks.specs.Recipes.{product_fits as fits_term, large_product as large_steps, product as product_recipe};
+ghost use Rattle.sci_cgen_blocks.specs.Recipes.{quotient as quotient_recipe};
 ghost use Rattle.sci_cgen_blocks.specs.Plain.{term_of, steps_of, plain_recipe};
 
 use crate::fit_terms::fitted_out;

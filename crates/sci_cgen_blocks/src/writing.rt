@@ -4,8 +4,10 @@ ghost use Rattle.c_ast.specs.Syntax.{bin, choice, loop, done, tell, stop, num, s
 ghost use Rattle.c_ast.specs.declared.Bound.TheVariants as bounds;
 ghost use Rattle.c_ast.specs.View.{exp_of, statement_of, statements_of};
 ghost use Rattle.c_steps.specs.Texts.{number as number_text, place, joined};
-ghost use Rattle.sci_cgen_blocks.specs.Texts.{values as values_name, expression as expression_text, steps_text, work_statement, works_text, step_statement, recipe_text};
-ghost use Rattle.sci_cgen_blocks.specs.Plain.{term_of, work_of, works_of, step_of, steps_of, word_of, plain_recipe, plain_places, AreSpelled, AreWorksSpelled, IsStepSpelled, AreStepsSpelled, IsRecipeSpelled, IsWorkSpelled};
+ghost use Rattle.sci_cgen_blocks.specs.Texts.{values as values_name, expression as expression_text, steps_text, work_statement, works_text};
+ghost use Rattle.sci_cgen_blocks.specs.Texts.{step_statement, recipe_text};
+ghost use Rattle.sci_cgen_blocks.specs.Plain.{term_of, work_of, works_of, step_of, steps_of, word_of, plain_recipe, plain_places, AreSpelled};
+ghost use Rattle.sci_cgen_blocks.specs.Plain.{AreWorksSpelled, IsStepSpelled, AreStepsSpelled, IsRecipeSpelled, IsWorkSpelled};
 
 use crate::Layout;
 use crate::array_names::{masks, scratch, states, values};
@@ -164,7 +166,8 @@ fn push_steps(
 /// An element of the outputs becomes what a term is.
 pub(crate) fn assigned(alloc: Global, at: &Layout, e: u32, value: &Term) -> Result<Stmt, NoMemory>
     requires { AreSpelled (term_of value.now) }
-    ensures { IfOk result (λ s. statement_of s ≡ assign (cell values_name (num (pos (at.now.outs + e)))) (expression_text (plain_places at.now) (term_of value.now))) }
+    ensures { IfOk result (λ s. statement_of s ≡ assign (cell values_name (num (pos (at.now.outs + e))))
+        (expression_text (plain_places at.now) (term_of value.now))) }
 {
     let value = expression(alloc, at, value)?;
     let place = Target::At(values(), Expr::Num(at.outs as i64 + e as i64));

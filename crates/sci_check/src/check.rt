@@ -6,9 +6,12 @@ ghost use Rattle.sci_forms.specs.Forms.{first_not};
 ghost use Rattle.sci_forms.specs.Form.{has_delay, has_state};
 ghost use Rattle.sci_forms.specs.Names.{by_name};
 ghost use Rattle.sci_base.specs.Stops.{Stops};
-ghost use Rattle.sci_check.specs.Check.{is_integer, integer_at, date_ok, shape, cols_ok, types_len_ok, firing_len_ok, counts_broken, lengths_broken, forms_broken, not_integer, side_broken, types_broken, bad, params_broken, state_broken, events_broken, feed_by, feed_of, list_broken, part_broken, feed_broken, values_broken, active_broken, broken, columns_at, declared_port, declared_ports, kept, spec_of, checked, checked_kind, judged};
+ghost use Rattle.sci_check.specs.Check.{is_integer, integer_at, date_ok, shape, cols_ok, types_len_ok, firing_len_ok, counts_broken, lengths_broken};
+ghost use Rattle.sci_check.specs.Check.{forms_broken, not_integer, side_broken, types_broken, bad, params_broken, state_broken, events_broken, feed_by};
+ghost use Rattle.sci_check.specs.Check.{feed_of, list_broken, part_broken, feed_broken, values_broken, active_broken, broken, columns_at, declared_port};
+ghost use Rattle.sci_check.specs.Check.{declared_ports, kept, spec_of, checked, checked_kind, judged};
 
-use sci_base::{BlockFields, Dep, Ints, NoMemory, Part, Place, Rule, Stop, Truths};
+use sci_base::{BlockFields, Dep, Ints, NoMemory, Part, Place, Rule, Stop, Truths, limits};
 use sci_forms::values::{
     between, first_fed, first_param, first_state, first_unfed, own_feed, params_len_ok,
     state_len_ok, within,
@@ -147,7 +150,7 @@ fn date_ok(kind: Kind, firing: &[i64]) -> bool
     requires { has_delay kind ≡ true → 0 < length firing.now }
     ensures { result ≡ date_ok kind firing.now }
 {
-    !kind.has_delay() || firing[0] <= 2147483647
+    !kind.has_delay() || firing[0] <= limits::DELAY
 }
 
 /// The parameters.

@@ -1,5 +1,6 @@
 -- What the banks have counted, all together.
 use Rattle.std.specs.Prelude.{ℕ, ◌≡◌, ◌≤◌, ◌+◌, true, List, if◌then◌else◌}
+use Rattle.sci_base.specs.declared.limits.TheConstants.{EVENTS}
 use Rattle.sci_net.specs.Parts.{Parts}
 use Rattle.sci_net.specs.Net.{IsNet}
 use Rattle.sci_reaction.specs.Memory.{Columns}
@@ -15,7 +16,7 @@ use Rattle.sci_commands.specs.Counts.{CountsEnded, CountsStopped}
 -- Where the run of a net of at most 1,000,000 events has ended, the sum of what the banks of all kinds have counted is how many blocks were active, over all its reactions.
 abbrev pub CountsAddUp : Type 0
 CountsAddUp =
-    (n : Parts) (i : Columns) (until limit : ℕ) (banks : List Meaning) → IsNet n → limit ≤ 1000000 → IsFull banks → (h : CountsEnded n i until limit banks)
+    (n : Parts) (i : Columns) (until limit : ℕ) (banks : List Meaning) → IsNet n → limit ≤ EVENTS → IsFull banks → (h : CountsEnded n i until limit banks)
     → total_outs banks ≡ all_activations n h.last
 
 -- Behind a reaction of a source, from this state, that stopped the run: the sum is at least how many blocks were active in the reactions before, and
@@ -27,5 +28,5 @@ pub record AreStoppedWithin (n : Parts) (source : ℕ) (from : State) (banks : L
 
 abbrev pub StoppedCountsAddUp : Type 0
 StoppedCountsAddUp =
-    (n : Parts) (i : Columns) (until limit : ℕ) (banks : List Meaning) → IsNet n → limit ≤ 1000000 → IsFull banks → (h : CountsStopped n i until limit banks)
+    (n : Parts) (i : Columns) (until limit : ℕ) (banks : List Meaning) → IsNet n → limit ≤ EVENTS → IsFull banks → (h : CountsStopped n i until limit banks)
     → AreStoppedWithin n h.source h.from banks

@@ -1,5 +1,6 @@
 -- The C of a diagram is nowhere without meaning, however long it and its input file are.
-use Rattle.std.specs.Prelude.{ℕ, ℤ, ◌≡◌, ◌≤◌, ◌^◌, ◌⊎◌, List, [], ◌∷◌}
+use Rattle.std.specs.Prelude.{ℕ, ℤ, ◌≡◌, ◌≤◌, ◌⊎◌, List, [], ◌∷◌}
+use Rattle.sci_base.specs.declared.limits.TheConstants.{TICKS, EVENTS}
 use Rattle.sci_io.specs.Files.{Files}
 use Rattle.sci_needs.specs.Needs.{needs_of}
 use Rattle.sci_verdict.specs.Verdict.{Plan, Accepts}
@@ -11,8 +12,8 @@ use Rattle.sci_commands.specs.Due.{Due}
 -- The diagram's bytes are accepted, and this answer of ccode is due of them. The input file's bytes are no columns, or these have what the diagram's
 -- sensors need.
 pub record IsGeneratedOf (d : List ℕ) (until limit : ℕ) (diagram inputs : List ℕ) (coded : Answer) : Type 0 where
-  pub until_within : until ≤ 2 ^ 62
-  pub limit_within : limit ≤ 1000000
+  pub until_within : until ≤ TICKS
+  pub limit_within : limit ≤ EVENTS
   pub plan : Plan
   pub accepted : Accepts diagram plan
   pub code_files : Files

@@ -1,5 +1,5 @@
 -- What a bulk diagram comes to.
-use Rattle.std.proofs.Common.{◌≡◌, ◌<◌, ◌≤◌, ◌^◌, min, ℕ, zero, suc, ℤ, List, [], length, Contains, refl, sym, ◌∙◌, ap, subst, arith, Result, Ok, Err, Bool}
+use Rattle.std.proofs.Common.{◌≡◌, ◌<◌, ◌≤◌, ◌^◌, min, ℕ, zero, suc, ℤ, List, [], length, Contains, refl, sym, ◌∙◌, ap, subst, arith, Result, Ok, Err, false}
 use Rattle.std.specs.Prelude.{IfOk}
 use Rattle.sci_base.specs.Plain.{Violation, violation_of}
 use Rattle.sci_base.specs.declared.stop.Stop.{Stop}
@@ -94,49 +94,49 @@ tallied_at_end r banks os (Stopped word) h = h.3
 abbrev pub HasRun : Parts → Running → Type 0
 HasRun n r = (os : List Obs) × IsRun n [] (2 ^ 62) 1000 os × IsTallied r.store os
 
-abbrev WritesRun : Parts → Columns → (a b : Bool) → Result RunEnd Failed → Type 0
-WritesRun n i a b q = (os : List Obs) → IsRun n i (2 ^ 62) 1000 os → Writes (direct None 0 a) (direct None 0 b) (text os) q
+abbrev WritesRun : Parts → Columns → Result RunEnd Failed → Type 0
+WritesRun n i q = (os : List Obs) → IsRun n i (2 ^ 62) 1000 os → Writes (direct None 0 false) (direct None 0 false) (text os) q
 
 abbrev FinishesRun : Parts → Columns → Running → List Meaning → Result RunEnd Failed → Type 0
 FinishesRun n i r banks q = IfOk q (λ e. (os : List Obs) × IsRun n i (2 ^ 62) 1000 os × IsFinished i (2 ^ 62) 1000 r banks os e)
 
-ran_to : (n : Parts) (r : Running) (banks : List Meaning) (a b : Bool) (os : List Obs) (q : Result RunEnd Failed) → Writes (direct None 0 a) (direct None 0 b) (text os) q → FinishesRun n [] r banks q → HasRun n r
-ran_to n r banks a b os (Ok e) w h = (h.0, h.1, tallied_at_end r banks h.0 e h.2)
-ran_to n r banks a b os (Err e) w h = absurd (omega (arith, w.cause))
+ran_to : (n : Parts) (r : Running) (banks : List Meaning) (os : List Obs) (q : Result RunEnd Failed) → Writes (direct None 0 false) (direct None 0 false) (text os) q → FinishesRun n [] r banks q → HasRun n r
+ran_to n r banks os (Ok e) w h = (h.0, h.1, tallied_at_end r banks h.0 e h.2)
+ran_to n r banks os (Err e) w h = absurd (omega (arith, w.cause))
 
-ran_sure : (n m : Parts) (rows : List (List Entry)) (r : Running) (banks : List Meaning) (a b : Bool) (q : Result RunEnd Failed) → m ≡ n → IsNet n → IsPlan n rows → WritesRun m [] a b q → FinishesRun m [] r banks q → HasRun n r
-ran_sure n m rows r banks a b q same net plan written finished =
+ran_sure : (n m : Parts) (rows : List (List Entry)) (r : Running) (banks : List Meaning) (q : Result RunEnd Failed) → m ≡ n → IsNet n → IsPlan n rows → WritesRun m [] q → FinishesRun m [] r banks q → HasRun n r
+ran_sure n m rows r banks q same net plan written finished =
     let trace = some_trace n [] net plan.free (2 ^ 62) 1000 in
     let os = trace.0 in
     let run = subst (λ (k : Parts). IsRun k [] (2 ^ 62) 1000 os) (sym same) trace.1 in
-    subst (λ (k : Parts). HasRun k r) same (ran_to m r banks a b os q (written os run) finished)
+    subst (λ (k : Parts). HasRun k r) same (ran_to m r banks os q (written os run) finished)
 
-pub has_run : (n m : Parts) (i : Columns) (rows : List (List Entry)) (r : Running) (banks : List Meaning) (a b : Bool) (q : Result RunEnd Failed) → i ≡ [] → m ≡ n → IsNet n → IsPlan n rows
-    → ((os : List Obs) → IsRun m i (2 ^ 62) 1000 os → Writes (direct None 0 a) (direct None 0 b) (text os) q)
+pub has_run : (n m : Parts) (i : Columns) (rows : List (List Entry)) (r : Running) (banks : List Meaning) (q : Result RunEnd Failed) → i ≡ [] → m ≡ n → IsNet n → IsPlan n rows
+    → ((os : List Obs) → IsRun m i (2 ^ 62) 1000 os → Writes (direct None 0 false) (direct None 0 false) (text os) q)
     → IfOk q (λ e. (os : List Obs) × IsRun m i (2 ^ 62) 1000 os × IsFinished i (2 ^ 62) 1000 r banks os e) → HasRun n r
-has_run n m i rows r banks a b q none same net plan written finished =
-    ran_sure n m rows r banks a b q same net plan (subst (λ (cs : Columns). WritesRun m cs a b q) none written) (subst (λ (cs : Columns). FinishesRun m cs r banks q) none finished)
+has_run n m i rows r banks q none same net plan written finished =
+    ran_sure n m rows r banks q same net plan (subst (λ (cs : Columns). WritesRun m cs q) none written) (subst (λ (cs : Columns). FinishesRun m cs r banks q) none finished)
 
 -- ---- the counts of the banks
 
-counts_to : (n m : Parts) (r : Running) (banks : List Meaning) (a b : Bool) (os : List Obs) (q : Result RunEnd Failed) → r.fixed.net ≡ n → IsNet n → Writes (direct None 0 a) (direct None 0 b) (text os) q → FinishesRun m [] r banks q
+counts_to : (n m : Parts) (r : Running) (banks : List Meaning) (os : List Obs) (q : Result RunEnd Failed) → r.fixed.net ≡ n → IsNet n → Writes (direct None 0 false) (direct None 0 false) (text os) q → FinishesRun m [] r banks q
     → CountsRun n [] (2 ^ 62) 1000 banks
-counts_to n m r banks a b os (Ok e) same net w h = run_counts n [] (2 ^ 62) 1000 r banks h.0 e h.2 same net (omega arith)
-counts_to n m r banks a b os (Err e) same net w h = absurd (omega (arith, w.cause))
+counts_to n m r banks os (Ok e) same net w h = run_counts n [] (2 ^ 62) 1000 r banks h.0 e h.2 same net (omega arith)
+counts_to n m r banks os (Err e) same net w h = absurd (omega (arith, w.cause))
 
-counts_sure : (n m : Parts) (rows : List (List Entry)) (r : Running) (banks : List Meaning) (a b : Bool) (q : Result RunEnd Failed) → m ≡ n → IsNet n → IsPlan n rows → WritesRun m [] a b q → FinishesRun m [] r banks q → r.fixed.net ≡ m
+counts_sure : (n m : Parts) (rows : List (List Entry)) (r : Running) (banks : List Meaning) (q : Result RunEnd Failed) → m ≡ n → IsNet n → IsPlan n rows → WritesRun m [] q → FinishesRun m [] r banks q → r.fixed.net ≡ m
     → CountsRun n [] (2 ^ 62) 1000 banks
-counts_sure n m rows r banks a b q same net plan written finished stays =
+counts_sure n m rows r banks q same net plan written finished stays =
     let trace = some_trace n [] net plan.free (2 ^ 62) 1000 in
     let os = trace.0 in
     let run = subst (λ (k : Parts). IsRun k [] (2 ^ 62) 1000 os) (sym same) trace.1 in
-    counts_to n m r banks a b os q (stays ∙ same) net (written os run) finished
+    counts_to n m r banks os q (stays ∙ same) net (written os run) finished
 
-pub has_counts : (n m : Parts) (i : Columns) (rows : List (List Entry)) (r : Running) (banks : List Meaning) (a b : Bool) (q : Result RunEnd Failed) → i ≡ [] → m ≡ n → IsNet n → IsPlan n rows
-    → ((os : List Obs) → IsRun m i (2 ^ 62) 1000 os → Writes (direct None 0 a) (direct None 0 b) (text os) q)
+pub has_counts : (n m : Parts) (i : Columns) (rows : List (List Entry)) (r : Running) (banks : List Meaning) (q : Result RunEnd Failed) → i ≡ [] → m ≡ n → IsNet n → IsPlan n rows
+    → ((os : List Obs) → IsRun m i (2 ^ 62) 1000 os → Writes (direct None 0 false) (direct None 0 false) (text os) q)
     → IfOk q (λ e. (os : List Obs) × IsRun m i (2 ^ 62) 1000 os × IsFinished i (2 ^ 62) 1000 r banks os e) → r.fixed.net ≡ m → CountsRun n [] (2 ^ 62) 1000 banks
-has_counts n m i rows r banks a b q none same net plan written finished stays =
-    counts_sure n m rows r banks a b q same net plan (subst (λ (cs : Columns). WritesRun m cs a b q) none written) (subst (λ (cs : Columns). FinishesRun m cs r banks q) none finished) stays
+has_counts n m i rows r banks q none same net plan written finished stays =
+    counts_sure n m rows r banks q same net plan (subst (λ (cs : Columns). WritesRun m cs q) none written) (subst (λ (cs : Columns). FinishesRun m cs r banks q) none finished) stays
 
 pub bulk_counts : (seed size : ℕ) (c : Checked) (banks : List Meaning) → TreeAccepts (bulk_tree seed size) (plan_of c) → CountsRun c.net [] (2 ^ 62) 1000 banks → CountsBulk seed size banks
 bulk_counts seed size c banks accepted counts = (plan_of c, accepted, counts)

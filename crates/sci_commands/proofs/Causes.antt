@@ -2,7 +2,7 @@
 use Rattle.std.proofs.Common.{◌≡◌, ◌≤◌, ◌<◌, ◌++◌, ℕ, List, [], ◌∷◌, ◌⊎◌, inl, inr, refl, sym, ◌∙◌, ap, arith}
 use Rattle.std.proofs.lemmas.List.{append-nil}
 use Rattle.sci_bank.specs.Bank.{Meaning}
-use Rattle.sci_io.specs.Causes.{Rose}
+use Rattle.sci_io.specs.Causes.{Rose, counted}
 use Rattle.sci_io.specs.Files.{FolderState}
 use Rattle.sci_io.specs.Taken.{SinkState}
 use Rattle.sci_commands.specs.Words.{Request, Spells, NoCommand, files_of}
@@ -49,10 +49,13 @@ asked_in_order words bytes old new a (inr h) = order_of words bytes old new a h.
 abbrev pub Split : Answer → SinkState → SinkState → SinkState → SinkState → ℕ → Type 0
 Split a out out' err err' s = ((s ≡ a.status) × Given out out' a.out × Given err err' a.err) ⊎ ((s ≡ 4) × (Rose out.faults out'.faults ⊎ Rose err.faults err'.faults))
 
+one_more_rose : (before now : ℕ) → now ≡ counted before → Rose before now
+one_more_rose before now is = omega (arith, is)
+
 pub split : (a : Answer) (out out' err err' : SinkState) (s : ℕ) → Written a out out' err err' s → Split a out out' err err' s
 split a out out' err err' s (inl h) = inl h
-split a out out' err err' s (inr (inl (is, h, told))) = inr (is, inl h.1.2)
-split a out out' err err' s (inr (inr h)) = inr (h.0, inr h.2.1.2)
+split a out out' err err' s (inr (inl (is, h, told))) = inr (is, inl (one_more_rose out.faults out'.faults h.1.2))
+split a out out' err err' s (inr (inr h)) = inr (h.0, inr (one_more_rose err.faults err'.faults h.2.1.2))
 
 pub untouched : (old new : SinkState) (t : List ℕ) → t ≡ [] → Given old new t → new ≡ old
 untouched old new t none (inl h) = h.1

@@ -1,9 +1,9 @@
 -- From the steps of writing to what is left on the two sinks.
 use Rattle.std.proofs.Common.{◌≡◌, ◌≢◌, ◌≤◌, ◌<◌, ℕ, List, [], ◌∷◌, ◌++◌, ◌⊎◌, length, inl, inr, refl, sym, ◌∙◌, ap, subst, arith, codes, decimal, Bool}
 use Rattle.std.proofs.lemmas.List.{append-nil}
-use Rattle.std.specs.Prelude.{Result, Ok, Err, OnOk, OnErr}
+use Rattle.std.specs.Prelude.{Result, Ok, Err, OnOk, OnErr, true}
 use Rattle.sci_base.specs.Plain.{Violation}
-use Rattle.sci_io.specs.Causes.{Rose}
+use Rattle.sci_io.specs.Causes.{counted}
 use Rattle.sci_io.specs.declared.sink.Failed.{Failed}
 use Rattle.sci_io.specs.Taken.{SinkState, Advances, TakesFront, Writes}
 use Rattle.sci_io.proofs.Advance.{then_writes, same_text, all_taken}
@@ -39,15 +39,16 @@ flushed {old = old} {new = new} t r (Ok y) x is first second empty =
     (all_taken (subst (λ (l : List ℕ). Advances old.taken new.taken (old.held ++ t) l) empty w.ok), empty, w.quiet)
 flushed {old = old} {new = new} t r (Err f) x is first second empty =
     let w : Writes old new t (Err f) = same_text (append-nil t) (then_writes t [] r (Err f) x is first second) in
-    (w.cut, w.dropped, w.cause)
+    (w.cut, w.dropped, w.cause, w.fails)
 
 -- a text was cut, and the sink was not flushed
 pub not_flushed : {T E U F : Type 0} {old new : SinkState} (t : List ℕ) (r : Result T E) (s : Result U F) (e : E) (f : F) → r ≡ Err e → s ≡ Err f → Writes old new t r → Gives old new t s
 not_flushed {old = old} {new = new} t r s e f is was w =
     let cut = subst (λ q. OnErr q (TakesFront old.taken new.taken (old.held ++ t))) is w.cut in
-    let rose = subst (λ q. OnErr q (Rose old.faults new.faults)) is w.cause in
+    let one_more = subst (λ q. OnErr q (new.faults ≡ counted old.faults)) is w.cause in
+    let fails = subst (λ q. OnErr q (new.failing ≡ true)) is w.fails in
     let none = subst (λ q. OnErr q (new.held ≡ [])) is w.dropped in
-    subst (λ q. Gives old new t q) (sym was) (cut, none, rose)
+    subst (λ q. Gives old new t q) (sym was) (cut, none, one_more, fails)
 
 pub none_given : (s : SinkState) → Given s s []
 none_given s = inl (refl, refl)

@@ -1,5 +1,6 @@
 -- What is due of a bulk diagram: its counts and those of its run.
-use Rattle.std.specs.Prelude.{ℕ, ◌≡◌, ◌^◌, List, [], ◌++◌, length, codes, decimal, Result, Ok, Err}
+use Rattle.std.specs.Prelude.{ℕ, ◌≡◌, List, [], ◌++◌, length, codes, decimal, Result, Ok, Err}
+use Rattle.sci_base.specs.declared.limits.TheConstants.{TICKS}
 use Rattle.sci_base.specs.Stops.{StopsBy}
 use Rattle.sci_base.specs.declared.stop.Stop.{Stop}
 use Rattle.sci_base.specs.declared.observation.Obs.{Obs}
@@ -28,7 +29,7 @@ pub record IsBulkLine (seed size : ℕ) (line : List ℕ) : Type 0 where
   pub plan : Plan
   pub accepted : TreeAccepts (bulk seed size) plan
   pub observed : List Obs
-  pub run : IsRun plan.net [] (2 ^ 62) 1000 observed
+  pub run : IsRun plan.net [] TICKS 1000 observed
   pub told : line ≡ run_line plan observed
 
 -- it is told

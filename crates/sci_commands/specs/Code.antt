@@ -1,5 +1,6 @@
 -- What is due of a diagram as C: the text of a program that means the trace of its net.
 use Rattle.std.specs.Prelude.{ℕ, ◌≡◌, ◌≤◌, ◌^◌, pos, List}
+use Rattle.sci_base.specs.declared.limits.TheConstants.{TICKS}
 use Rattle.sci_base.specs.declared.observation.Obs.{Obs}
 use Rattle.sci_net.specs.Parts.{Parts}
 use Rattle.sci_reaction.specs.Memory.{Columns, AreColumns}
@@ -21,7 +22,7 @@ use Rattle.sci_commands.specs.Answer.{Answer, prints}
 -- never undefined.
 abbrev pub MeansRun : Parts → Whole → Type 0
 MeansRun n p =
-    (i : Columns) (until limit : ℕ) (st : State) (how : Ending) (os : List Obs) → AreColumns n i → until ≤ 2 ^ 62 → limit ≤ 2 ^ 51
+    (i : Columns) (until limit : ℕ) (st : State) (how : Ending) (os : List Obs) → AreColumns n i → until ≤ TICKS → limit ≤ 2 ^ 51
     → Finish n i until limit st how os
     → meaning p i (pos until) (pos limit) ≡ record { seen = os; how = answer_by how }
 

@@ -1,5 +1,6 @@
 -- How often the banks have computed outputs behind a run that is over.
-use Rattle.std.specs.Prelude.{ℕ, ℤ, ◌≡◌, ◌+◌, ◌≤◌, ◌^◌, ◌⊎◌, List, [], ◌∷◌}
+use Rattle.std.specs.Prelude.{ℕ, ℤ, ◌≡◌, ◌+◌, ◌≤◌, ◌⊎◌, List, [], ◌∷◌}
+use Rattle.sci_base.specs.declared.limits.TheConstants.{TICKS}
 use Rattle.sci_base.specs.declared.observation.Obs.{Obs}
 use Rattle.sci_base.specs.declared.observation.EndWord.{EndWord}
 use Rattle.sci_base.specs.declared.observation.StopWord.{StopWord}
@@ -60,7 +61,7 @@ CountsSimulation until limit [] banks = ⊥
 
 -- of the bulk diagram
 abbrev pub CountsBulk : (seed size : ℕ) → List Meaning → Type 0
-CountsBulk seed size banks = (p : Plan) × TreeAccepts (bulk_tree seed size) p × CountsRun p.net [] (2 ^ 62) 1000 banks
+CountsBulk seed size banks = (p : Plan) × TreeAccepts (bulk_tree seed size) p × CountsRun p.net [] TICKS 1000 banks
 
 -- the banks have counted the run of `simulate`, of `vcd` and of `bulk`; nothing is said of other commands
 abbrev pub CountsRunOf : Request → (bytes : List (List ℕ)) → List Meaning → Type 0

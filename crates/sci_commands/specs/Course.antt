@@ -1,5 +1,6 @@
 -- The course of a command: its files, one after the other, each read and judged by its rules, and then what is due.
 use Rattle.std.specs.Prelude.{ℕ, ◌≡◌, ◌≤◌, ◌<◌, ◌⊎◌, pos, length, List, [], ◌∷◌, Some, None}
+use Rattle.sci_base.specs.declared.limits.TheConstants.{DIAGRAM_BYTES, INPUT_BYTES, TEXT_BYTES}
 use Rattle.sci_base.specs.Plain.{Violation}
 use Rattle.sci_base.specs.declared.refusal.Rule.TheVariants.{FileTooLong}
 use Rattle.sci_io.specs.Files.{Files, file_named}
@@ -17,21 +18,21 @@ pub record Slot : Type 0 where
 
 -- a diagram, an input file, and a C file
 abbrev pub diagram_slot : Slot
-diagram_slot = record { which = 1; longest = 16777216 }
+diagram_slot = record { which = 1; longest = DIAGRAM_BYTES }
 
 abbrev pub inputs_slot : Slot
-inputs_slot = record { which = 2; longest = 16777216 }
+inputs_slot = record { which = 2; longest = INPUT_BYTES }
 
 abbrev pub c_slot : Slot
-c_slot = record { which = 1; longest = 67108864 }
+c_slot = record { which = 1; longest = TEXT_BYTES }
 
 -- a third file: a trace, or what was saved of a run
 abbrev pub third_slot : Slot
-third_slot = record { which = 3; longest = 67108864 }
+third_slot = record { which = 3; longest = TEXT_BYTES }
 
 -- a dump
 abbrev pub dump_slot : Slot
-dump_slot = record { which = 1; longest = 67108864 }
+dump_slot = record { which = 1; longest = TEXT_BYTES }
 
 -- the file is too long
 abbrev pub too_long : Slot → Violation

@@ -1,5 +1,6 @@
 -- What is told of the dump of a run is what its outputs hold.
-use Rattle.std.specs.Prelude.{ℕ, ℤ, ◌≡◌, ◌≤◌, ◌+◌, ◌-◌, ◌^◌, length, List, [], ◌∷◌, ◌++◌}
+use Rattle.std.specs.Prelude.{ℕ, ℤ, ◌≡◌, ◌≤◌, ◌+◌, ◌-◌, length, List, [], ◌∷◌, ◌++◌}
+use Rattle.sci_base.specs.declared.limits.TheConstants.{TICKS, EVENTS}
 use Rattle.sci_base.specs.Lists.{at}
 use Rattle.sci_io.specs.Files.{Files}
 use Rattle.sci_forms.specs.declared.spec.Spec.{Spec}
@@ -38,8 +39,8 @@ held_text n m = block_texts m.held 1 n.specs
 
 -- Of a diagram's and an input file's bytes this answer is due of vcd, which is no refusal, and whose bytes are no more than a dump's file may have.
 pub record IsDumped (d i : List ℕ) (until limit : ℕ) (diagram inputs : List ℕ) (dumped : Answer) : Type 0 where
-  pub until_within : until ≤ 2 ^ 62
-  pub limit_within : limit ≤ 1000000
+  pub until_within : until ≤ TICKS
+  pub limit_within : limit ≤ EVENTS
   pub files : Files
   pub names : List (List ℕ)
   pub due : Due files (spelled (dump d i until limit)) (diagram ∷ inputs ∷ []) names dumped
@@ -62,9 +63,9 @@ held_at r tick = prints (held_text r.plan.net (memory_at (first_memory r.plan.ne
 -- There is such a run; and of any, this is due of vcdat on the bytes that vcd writes, at each tick, and nothing else is.
 pub record TellsRun (until limit : ℕ) (diagram inputs : List ℕ) (dumped : Answer) : Type 0 where
   pub some : RunsThrough until limit diagram inputs
-  pub told : (run : RunsThrough until limit diagram inputs) (files : Files) (v : List ℕ) (tick : ℕ) → tick ≤ 2 ^ 62 → Holds files v dumped.out
+  pub told : (run : RunsThrough until limit diagram inputs) (files : Files) (v : List ℕ) (tick : ℕ) → tick ≤ TICKS → Holds files v dumped.out
       → Due files (spelled (dump_at v tick)) (dumped.out ∷ []) (v ∷ []) (held_at run tick)
-  pub only : (run : RunsThrough until limit diagram inputs) (files : Files) (v : List ℕ) (tick : ℕ) (names : List (List ℕ)) (a : Answer) → tick ≤ 2 ^ 62
+  pub only : (run : RunsThrough until limit diagram inputs) (files : Files) (v : List ℕ) (tick : ℕ) (names : List (List ℕ)) (a : Answer) → tick ≤ TICKS
       → Due files (spelled (dump_at v tick)) (dumped.out ∷ []) names a → a ≡ held_at run tick
 
 abbrev pub DumpTellsRun : Type 0

@@ -1,5 +1,6 @@
 -- The answers that a prepared command may write, and what it needs for it.
-use Rattle.std.specs.Prelude.{true, ◌≡◌, ◌≤◌, ◌<◌, ◌^◌, List, length, pos, Result, Ok, Err}
+use Rattle.std.specs.Prelude.{true, ◌≡◌, ◌≤◌, ◌<◌, List, length, pos, Result, Ok, Err}
+use Rattle.sci_base.specs.declared.limits.TheConstants.{TICKS, EVENTS}
 use Rattle.sci_base.specs.Plain.{violation_of}
 use Rattle.sci_io.specs.Files.{FolderState}
 use Rattle.sci_base.specs.declared.observation.Obs.{Obs}
@@ -58,8 +59,8 @@ pub record IsReadyToRun (banks : List Meaning) (s : Simulation) : Type 0 where
   pub start : IsAtStart s.ready.fixed.net s.ready banks
   pub net : IsNet s.ready.fixed.net
   pub columns : AreColumns s.ready.fixed.net s.inputs
-  pub until : s.until ≤ 2 ^ 62
-  pub limit : s.limit ≤ 1000000
+  pub until : s.until ≤ TICKS
+  pub limit : s.limit ≤ EVENTS
   pub trace : (os : List Obs) × IsRun s.ready.fixed.net s.inputs s.until s.limit os
 
 -- so does a net of which no source has a loop, and nothing of its dump is written
@@ -73,8 +74,8 @@ pub record IsReadyToGoOn (banks : List Meaning) (s : ResumedRun) : Type 0 where
   pub at : IsAt s.run.ready banks (state_of (saved_of s.image))
   pub started : s.run.ready.started ≡ true
   pub columns : AreColumns s.run.ready.fixed.net s.run.inputs
-  pub until : s.run.until ≤ 2 ^ 62
-  pub limit : s.run.limit ≤ 1000000
+  pub until : s.run.until ≤ TICKS
+  pub limit : s.run.limit ≤ EVENTS
   pub rest : (os : List Obs) × IsRest s.run.ready.fixed.net s.run.inputs s.run.until s.run.limit (state_of (saved_of s.image)) os
 
 -- what it needs is there: a text isn't empty, schedules have a row for each source, a simulation can run with these banks, a program has a text,
@@ -86,7 +87,7 @@ IsPrepared banks ReadFault = Unit {0}
 IsPrepared banks Memory = Unit {0}
 IsPrepared banks (Print text) = 0 < length text.now
 IsPrepared banks (Tell t) = HasRows t
-IsPrepared banks (RunC program columns until limit) = (until ≤ 2 ^ 62) × (limit ≤ 1000000)
+IsPrepared banks (RunC program columns until limit) = (until ≤ TICKS) × (limit ≤ EVENTS)
 IsPrepared banks (Code program) = IsWhole (whole_of program)
 IsPrepared banks (Bulk counts) = Unit {0}
 IsPrepared banks (Simulate s) = IsReadyToRun banks s

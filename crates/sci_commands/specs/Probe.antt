@@ -1,8 +1,9 @@
--- A sink that fails at the first piece, and tells the first byte of it.
-use Rattle.std.specs.Prelude.{ℕ, ◌-◌, ◌^◌, [], ◌∷◌, Option, Some, None, Bool}
+-- A sink that fails at each piece, and tells the first byte of the first one.
+use Rattle.std.specs.Prelude.{ℕ, [], ◌∷◌, Option, Some, None, Bool}
+use Rattle.sci_io.specs.Causes.{counted}
 use Rattle.sci_io.specs.Taken.{SinkState, direct}
 
--- it took nothing and did not fail; or it took this byte and failed, and its count of faults stands at its end
-abbrev pub probe_state : Option ℕ → Bool → SinkState
-probe_state None begun = direct (Some []) 0 begun
-probe_state (Some first) begun = direct (Some (first ∷ [])) (2 ^ 64 - 1) begun
+-- it took nothing and did not fail; or it took this byte, and failed at the first piece and at so many more
+abbrev pub probe_state : Option ℕ → (more : ℕ) → Bool → SinkState
+probe_state None more failing = direct (Some []) 0 failing
+probe_state (Some first) more failing = direct (Some (first ∷ [])) (counted more) failing

@@ -1,5 +1,6 @@
 -- The C of a diagram runs as the diagram does.
-use Rattle.std.specs.Prelude.{ℕ, ℤ, ◌≡◌, ◌≤◌, ◌^◌, ◌⊎◌, length, List, [], ◌∷◌}
+use Rattle.std.specs.Prelude.{ℕ, ℤ, ◌≡◌, ◌≤◌, ◌⊎◌, length, List, [], ◌∷◌}
+use Rattle.sci_base.specs.declared.limits.TheConstants.{TICKS, EVENTS}
 use Rattle.sci_io.specs.Files.{Files}
 use Rattle.sci_needs.specs.Needs.{needs_of}
 use Rattle.sci_verdict.specs.Verdict.{Plan, Accepts}
@@ -12,8 +13,8 @@ use Rattle.sci_commands.specs.Due.{Due}
 -- Of a diagram's and an input file's bytes this answer is due of simulate, which is no refusal, and this one of ccode, whose bytes are no more than a
 -- C file may have.
 pub record AreAnswers (d i : List ℕ) (until limit : ℕ) (diagram inputs : List ℕ) (simulated coded : Answer) : Type 0 where
-  pub until_within : until ≤ 2 ^ 62
-  pub limit_within : limit ≤ 1000000
+  pub until_within : until ≤ TICKS
+  pub limit_within : limit ≤ EVENTS
   pub files : Files
   pub names : List (List ℕ)
   pub due : Due files (spelled (simulate d i until limit)) (diagram ∷ inputs ∷ []) names simulated
@@ -41,8 +42,8 @@ CodeRunsOnlySo =
 -- The diagram's bytes are accepted, the input file's bytes have what its sensors need, and this answer of ccode is due of the diagram, whose bytes are no more than a C
 -- file may have.
 pub record IsGenerated (d : List ℕ) (until limit : ℕ) (diagram inputs : List ℕ) (coded : Answer) : Type 0 where
-  pub until_within : until ≤ 2 ^ 62
-  pub limit_within : limit ≤ 1000000
+  pub until_within : until ≤ TICKS
+  pub limit_within : limit ≤ EVENTS
   pub plan : Plan
   pub accepted : Accepts diagram plan
   pub columns : List (List ℤ)

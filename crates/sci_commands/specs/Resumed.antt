@@ -1,5 +1,6 @@
 -- A run that was saved goes on as the whole run does.
-use Rattle.std.specs.Prelude.{ℕ, ◌≡◌, ◌≤◌, ◌^◌, ◌++◌, List, [], ◌∷◌}
+use Rattle.std.specs.Prelude.{ℕ, ◌≡◌, ◌+◌, ◌≤◌, ◌++◌, List, [], ◌∷◌}
+use Rattle.sci_base.specs.declared.limits.TheConstants.{TICKS, EVENTS}
 use Rattle.sci_base.specs.declared.observation.Obs.{Obs}
 use Rattle.sci_io.specs.Files.{Files}
 use Rattle.sci_trace.specs.Lines.{text}
@@ -11,10 +12,10 @@ use Rattle.sci_commands.specs.Due.{Due}
 
 -- Of a diagram's and an input file's bytes this answer is due of simulate, and this one of save: the state of the run behind its k-th reaction.
 pub record IsSavedRun (d i : List ℕ) (until limit k : ℕ) (diagram inputs : List ℕ) (simulated saved : Answer) : Type 0 where
-  pub until_within : until ≤ 2 ^ 62
-  pub limit_within : limit ≤ 1000000
+  pub until_within : until ≤ TICKS
+  pub limit_within : limit ≤ EVENTS
   pub least : 1 ≤ k
-  pub most : k ≤ 1000001
+  pub most : k ≤ EVENTS + 1
   pub files : Files
   pub names : List (List ℕ)
   pub due : Due files (spelled (simulate d i until limit)) (diagram ∷ inputs ∷ []) names simulated

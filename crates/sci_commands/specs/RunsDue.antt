@@ -1,5 +1,6 @@
 -- What is due of a run, wherever simulate is due to do it.
-use Rattle.std.specs.Prelude.{ℕ, ◌≡◌, ◌<◌, ◌≤◌, ◌^◌, List, [], ◌∷◌}
+use Rattle.std.specs.Prelude.{ℕ, ◌≡◌, ◌<◌, ◌+◌, ◌≤◌, List, [], ◌∷◌}
+use Rattle.sci_base.specs.declared.limits.TheConstants.{TICKS, EVENTS}
 use Rattle.sci_base.specs.declared.observation.Obs.{Obs}
 use Rattle.sci_io.specs.Files.{Files}
 use Rattle.sci_run.specs.Observed.{reactions}
@@ -10,8 +11,8 @@ use Rattle.sci_commands.specs.Due.{Due}
 
 -- Of a diagram's and an input file's bytes this answer is due of simulate, which is no refusal.
 pub record IsSimulatedRun (files : Files) (d i : List ℕ) (until limit : ℕ) (diagram inputs : List ℕ) (simulated : Answer) : Type 0 where
-  pub until_within : until ≤ 2 ^ 62
-  pub limit_within : limit ≤ 1000000
+  pub until_within : until ≤ TICKS
+  pub limit_within : limit ≤ EVENTS
   pub names : List (List ℕ)
   pub due : Due files (spelled (simulate d i until limit)) (diagram ∷ inputs ∷ []) names simulated
   pub done : IsDone simulated.status
@@ -28,7 +29,7 @@ pub record IsDueBehind (k : ℕ) (files : Files) (d i : List ℕ) (until limit :
 abbrev pub SaveIsDue : Type 0
 SaveIsDue =
     (files : Files) (d i : List ℕ) (until limit k : ℕ) (diagram inputs : List ℕ) (simulated : Answer) → IsSimulatedRun files d i until limit diagram inputs simulated
-    → 1 ≤ k → k ≤ 1000001 → (saved : Answer) × IsDueBehind k files d i until limit diagram inputs simulated saved
+    → 1 ≤ k → k ≤ EVENTS + 1 → (saved : Answer) × IsDueBehind k files d i until limit diagram inputs simulated saved
 
 -- .. and a dump of vcd, with the same status.
 abbrev pub DumpIsDue : Type 0

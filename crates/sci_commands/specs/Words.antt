@@ -1,5 +1,6 @@
 -- The words of the command line.
-use Rattle.std.specs.Prelude.{ℕ, ◌≡◌, ◌≤◌, ◌^◌, List, [], ◌∷◌, Option, Some, None, codes, decimal}
+use Rattle.std.specs.Prelude.{ℕ, ◌≡◌, ◌+◌, ◌≤◌, List, [], ◌∷◌, Option, Some, None, codes, decimal}
+use Rattle.sci_base.specs.declared.limits.TheConstants.{TICKS, EVENTS}
 use Rattle.sci_commands.specs.declared.command.Report.{Report}
 use Rattle.sci_commands.specs.declared.command.Report.TheVariants.{Check, Map, Schedule}
 use Rattle.sci_commands.specs.declared.words.Runs.{Runs}
@@ -52,16 +53,16 @@ spelled (dump_at v tick) = codes "vcdat" ∷ v ∷ decimal tick ∷ []
 -- its numbers are in their bounds
 abbrev pub InBounds : Request → Type 0
 InBounds (report r d) = Unit {0}
-InBounds (simulate d i until limit) = (until ≤ 2 ^ 62) × (limit ≤ 1000000)
-InBounds (judge d i v until limit) = (until ≤ 2 ^ 62) × (limit ≤ 1000000)
-InBounds (save d i until limit k) = (until ≤ 2 ^ 62) × (limit ≤ 1000000) × (1 ≤ k) × (k ≤ 1000001)
-InBounds (resume d i s until limit) = (until ≤ 2 ^ 62) × (limit ≤ 1000000)
+InBounds (simulate d i until limit) = (until ≤ TICKS) × (limit ≤ EVENTS)
+InBounds (judge d i v until limit) = (until ≤ TICKS) × (limit ≤ EVENTS)
+InBounds (save d i until limit k) = (until ≤ TICKS) × (limit ≤ EVENTS) × (1 ≤ k) × (k ≤ EVENTS + 1)
+InBounds (resume d i s until limit) = (until ≤ TICKS) × (limit ≤ EVENTS)
 InBounds (code d) = Unit {0}
-InBounds (run_c c i until limit) = (until ≤ 2 ^ 62) × (limit ≤ 1000000)
+InBounds (run_c c i until limit) = (until ≤ TICKS) × (limit ≤ EVENTS)
 InBounds host = Unit {0}
 InBounds (bulk seed size) = (seed ≤ 4294967295) × (1 ≤ size) × (size ≤ 2000)
-InBounds (dump d i until limit) = (until ≤ 2 ^ 62) × (limit ≤ 1000000)
-InBounds (dump_at v tick) = tick ≤ 2 ^ 62
+InBounds (dump d i until limit) = (until ≤ TICKS) × (limit ≤ EVENTS)
+InBounds (dump_at v tick) = tick ≤ TICKS
 
 -- these words are this command
 abbrev pub Spells : List (List ℕ) → Request → Type 0

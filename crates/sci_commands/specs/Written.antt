@@ -1,7 +1,7 @@
 -- What a call leaves on its two sinks.
-use Rattle.std.specs.Prelude.{ℕ, ◌≡◌, ◌≢◌, ◌⊎◌, ◌++◌, List, []}
+use Rattle.std.specs.Prelude.{ℕ, ◌≡◌, ◌≢◌, ◌⊎◌, ◌++◌, List, [], true}
 use Rattle.std.specs.Io.KnownBytes.{Appends}
-use Rattle.sci_io.specs.Causes.{Rose}
+use Rattle.sci_io.specs.Causes.{counted}
 use Rattle.sci_io.specs.Taken.{SinkState, TakesFront}
 use Rattle.sci_commands.specs.Answer.{Answer, write_fault_line}
 
@@ -9,9 +9,9 @@ use Rattle.sci_commands.specs.Answer.{Answer, write_fault_line}
 abbrev pub Took : SinkState → SinkState → List ℕ → Type 0
 Took old new text = Appends old.taken new.taken (old.held ++ text) × (new.held ≡ []) × (new.faults ≡ old.faults)
 
--- it failed, gave on a front of these, and holds nothing
+-- it gave on a front of these and holds nothing; one call of it failed, and that was the last one
 abbrev pub Cut : SinkState → SinkState → List ℕ → Type 0
-Cut old new text = TakesFront old.taken new.taken (old.held ++ text) × (new.held ≡ []) × Rose old.faults new.faults
+Cut old new text = TakesFront old.taken new.taken (old.held ++ text) × (new.held ≡ []) × (new.faults ≡ counted old.faults) × (new.failing ≡ true)
 
 -- a text was given whole; where none was due, the sink is as it was
 abbrev pub Given : SinkState → SinkState → List ℕ → Type 0

@@ -1,5 +1,6 @@
 // A bulk diagram: made, judged and run.
-ghost use Rattle.std.specs.Prelude.{◌≤◌, ◌^◌, List, [], IfOk};
+ghost use Rattle.std.specs.Prelude.{◌≤◌, List, [], IfOk};
+ghost use Rattle.sci_base.specs.declared.limits.TheConstants.{TICKS};
 ghost use Rattle.sci_base.specs.declared.observation.Obs.{Obs};
 ghost use Rattle.sci_bulk.specs.Bulk.{bulk};
 ghost use Rattle.sci_run.specs.Run.{IsRun};
@@ -13,7 +14,7 @@ ghost use Rattle.sci_commands.specs.Counts.{CountsRun, CountsBulk};
 
 use sci_bank::Bank;
 use sci_bank::library::Library;
-use sci_base::{NoMemory, Stop};
+use sci_base::{NoMemory, Stop, limits};
 use sci_bulk::bulk_diagram;
 use sci_io::SureSink;
 use sci_net::Net;
@@ -24,7 +25,7 @@ use sci_verdict::{Checked, check_diagram};
 use std::alloc::Global;
 
 /// What is counted of a bulk diagram and of its run.
-#[derive(Clone, Copy, Debug, PartialEq, Eq)]
+#[derive(Clone, Copy)]
 pub struct BulkCounts {
     /// Blocks of the net.
     pub blocks: u32,
@@ -59,15 +60,15 @@ fn run_net<B: Bank>(
 ) -> Result<Ready, NoMemory>
     requires plan { IsPlan net (rows_of schedule) }
     requires full { IsFull lib.old }
-    ensures ran { IfOk result (λ r. (os : List Obs) × IsRun net [] (2 ^ 62) 1000 os × IsTallied r.store os) }
-    ensures counts_run { IfOk result (λ r. CountsRun net [] (2 ^ 62) 1000 lib.new) }
+    ensures ran { IfOk result (λ r. (os : List Obs) × IsRun net [] TICKS 1000 os × IsTallied r.store os) }
+    ensures counts_run { IfOk result (λ r. CountsRun net [] TICKS 1000 lib.new) }
     ensures full { IsFull lib.new }
 {
     net.well_formed();
     let mut ready = Ready::new(alloc, net, schedule, lib)?;
     let inputs = Inputs::of(Vec::new(alloc));
-    let mut nowhere = SureSink::new();
-    let _ = ready.run(lib, &inputs, 1 << 62, 1000, &mut nowhere);
+    let mut nowhere = SureSink;
+    let _ = ready.run(lib, &inputs, limits::TICKS, 1000, &mut nowhere);
     Ok(ready)
 }
 

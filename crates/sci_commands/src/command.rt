@@ -1,5 +1,5 @@
 /// What is told of a diagram.
-#[derive(Clone, Copy, Debug, Drop, PartialEq, Eq)]
+#[derive(Clone, Copy, Drop)]
 pub enum Report {
     /// How many blocks, sources, schedule entries and guards it has.
     Check,

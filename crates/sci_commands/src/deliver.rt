@@ -1,4 +1,5 @@
-ghost use Rattle.std.specs.Prelude.{◌≡◌, ◌≢◌, false, ◌≤◌, ◌<◌, ◌^◌, IsTrue, IfOk, [], length, pos};
+ghost use Rattle.std.specs.Prelude.{◌≡◌, ◌≢◌, false, ◌≤◌, ◌<◌, IsTrue, IfOk, [], length, pos};
+ghost use Rattle.sci_base.specs.declared.limits.TheConstants.{TICKS, EVENTS};
 ghost use Rattle.sci_bank.specs.Library.{IsFull};
 ghost use Rattle.sci_base.specs.Plain.{violation_of};
 ghost use Rattle.sci_commands.specs.Line.{refused_line};
@@ -152,7 +153,8 @@ fn print_verdict<O: Sink, E: Sink>(verdict: Verdict, out: &mut O, err: &mut E) -
 #[tactic(auto, using(crate::proofs::Saving::saved_some, crate::proofs::Giving::told_written, crate::proofs::Giving::told_cut))]
 fn print_saved<O: Sink, E: Sink>(saved: &SavedRun, out: &mut O, err: &mut E) -> u8
     requires { IsShaped saved.now.ready.fixed.net (saved_of saved.now.image) }
-    ensures { Written (prints (saved_text saved.now.ready.fixed.net (saved_of saved.now.image))) (O.state out.old) (O.state out.new) (E.state err.old) (E.state err.new) result }
+    ensures { Written (prints (saved_text saved.now.ready.fixed.net (saved_of saved.now.image))) (O.state out.old) (O.state out.new)
+        (E.state err.old) (E.state err.new) result }
 {
     match give_saved(saved, out) {
         Ok(()) => 0,
@@ -328,8 +330,8 @@ fn run_out<O: Sink>(
     limit: u64,
     out: &mut O,
 ) -> Result<CEnd, RunStop>
-    requires until { until ≤ 2 ^ 62 }
-    requires limit { limit ≤ 1000000 }
+    requires until { until ≤ TICKS }
+    requires limit { limit ≤ EVENTS }
     ensures { RunsOut (meaning (whole_of program.now) inputs.now (pos until) (pos limit)) (O.state out.old) (O.state out.new) result }
 {
     let end = run(alloc, program, inputs, until, limit, out)?;
@@ -349,8 +351,8 @@ fn print_run<O: Sink>(
     limit: u64,
     out: &mut O,
 ) -> Result<CEnd, RunStop>
-    requires until { until ≤ 2 ^ 62 }
-    requires limit { limit ≤ 1000000 }
+    requires until { until ≤ TICKS }
+    requires limit { limit ≤ EVENTS }
     ensures { RanC (meaning (whole_of program.now) inputs.now (pos until) (pos limit)) (O.state out.old) (O.state out.new) result }
 {
     match silent_end(alloc, program, inputs, until, limit) {

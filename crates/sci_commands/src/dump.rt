@@ -1,5 +1,6 @@
 // The file of a value change dump.
 ghost use Rattle.std.specs.Prelude.{◌≤◌, length};
+ghost use Rattle.sci_base.specs.declared.limits.TheConstants.{TEXT_BYTES};
 ghost use Rattle.sci_commands.specs.Dump.{AcceptsDump, BreaksDump};
 ghost use Rattle.sci_commands.specs.Judged.{IsJudged};
 
@@ -10,7 +11,7 @@ use std::alloc::Global;
 
 // The dump that a file's bytes spell.
 fn dump_of(alloc: Global, bytes: &[u8]) -> Result<Dump, Stop>
-    requires { length bytes.now ≤ 67108864 }
+    requires { length bytes.now ≤ TEXT_BYTES }
     ensures { IsJudged AcceptsDump BreaksDump bytes.now result }
 {
     match read_vcd(alloc, bytes) {
@@ -32,7 +33,7 @@ impl Rules for DumpRules {
 
     const LONGEST: usize = limits::TEXT_BYTES;
 
-    ghost LONGEST = { 67108864 };
+    ghost LONGEST = { TEXT_BYTES };
 
     ghost accepts = { λ _ bytes dump. AcceptsDump bytes dump };
 

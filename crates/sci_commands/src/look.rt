@@ -1,5 +1,6 @@
 // One file of a command: its bytes, its limit and its rules.
 ghost use Rattle.std.specs.Prelude.{◌≡◌, ◌≤◌, []};
+ghost use Rattle.sci_base.specs.declared.limits.TheConstants.{TEXT_BYTES};
 ghost use Rattle.sci_commands.specs.Course.{third_slot};
 ghost use Rattle.sci_commands.specs.Judge.{IsBytes, BreaksNothing};
 ghost use Rattle.sci_commands.specs.Look.{IsFile, IsLooked, IsRefusal, IsTooLong};
@@ -13,7 +14,7 @@ use std::alloc::Global;
 const LONGEST_TEXT: usize = limits::TEXT_BYTES;
 
 /// Why a file's bytes don't come.
-#[derive(Clone, Copy, Debug, PartialEq, Eq)]
+#[derive(Clone, Copy)]
 pub enum FileStop {
     /// It has more bytes than the limit.
     TooLong,
@@ -52,7 +53,7 @@ fn file<F: Folder>(
     name: &str,
     limit: usize,
 ) -> Result<Vec<u8>, FileStop>
-    requires { limit ≤ 67108864 }
+    requires { limit ≤ TEXT_BYTES }
     ensures file { IsFile limit (F.state folder.old) (F.state folder.new) name.now result }
     ensures kept { (F.state folder.new).files ≡ (F.state folder.old).files }
 {
@@ -81,7 +82,7 @@ pub fn refused_by(alloc: Global, rule: Rule, detail: &[i64]) -> LookStop
 
 // The refusal of a file that is too long: which one of the command it is, and its limit.
 fn file_too_long(alloc: Global, which: u32, limit: usize) -> LookStop
-    requires { limit ≤ 67108864 }
+    requires { limit ≤ TEXT_BYTES }
     ensures { IsTooLong (record { which = which; longest = limit }) result }
 {
     refused_by(alloc, Rule::FileTooLong, &[i64::from(which), limit as i64])
@@ -108,7 +109,8 @@ pub fn look<F: Folder, R: Rules>(
     which: u32,
     rules: &R,
 ) -> Result<R::Made, LookStop>
-    ensures looked { IsLooked (R.accepts rules.now) (R.breaks rules.now) (record { which = which; longest = R.LONGEST }) (F.state folder.old) (F.state folder.new) name.now result }
+    ensures looked { IsLooked (R.accepts rules.now) (R.breaks rules.now) (record { which = which; longest = R.LONGEST }) (F.state folder.old)
+        (F.state folder.new) name.now result }
     ensures kept { (F.state folder.new).files ≡ (F.state folder.old).files }
 {
     match file(alloc, folder, name, R::LONGEST) {

@@ -1,5 +1,6 @@
 // A command with all that it needs: its files are looked at, and nothing is written.
-ghost use Rattle.std.specs.Prelude.{◌≡◌, ◌≤◌, ◌^◌, List, map, string_bytes};
+ghost use Rattle.std.specs.Prelude.{◌≡◌, ◌+◌, ◌≤◌, List, map, string_bytes};
+ghost use Rattle.sci_base.specs.declared.limits.TheConstants.{TICKS, EVENTS};
 ghost use Rattle.sci_bank.specs.Bank.{Meaning};
 ghost use Rattle.sci_bank.specs.Library.{IsFull};
 ghost use Rattle.sci_io.specs.Files.{FolderState};
@@ -107,8 +108,8 @@ fn for_simulate<F: Folder, B: Bank>(
     limit: u64,
     lib: &mut Library<B>,
 ) -> Result<Prepared, LookStop>
-    requires until { until ≤ 2 ^ 62 }
-    requires limit { limit ≤ 1000000 }
+    requires until { until ≤ TICKS }
+    requires limit { limit ≤ EVENTS }
     requires full { IsFull lib.old }
     ensures looks { LooksAt (F.state folder.old) (F.state folder.new) lib.new (simulate file.now inputs_file.now until limit) result }
     ensures kept { (F.state folder.new).files ≡ (F.state folder.old).files }
@@ -134,8 +135,8 @@ fn for_judge<F: Folder, B: Bank>(
     limit: u64,
     lib: &mut Library<B>,
 ) -> Result<Prepared, LookStop>
-    requires until { until ≤ 2 ^ 62 }
-    requires limit { limit ≤ 1000000 }
+    requires until { until ≤ TICKS }
+    requires limit { limit ≤ EVENTS }
     requires full { IsFull lib.old }
     ensures looks { LooksAt (F.state folder.old) (F.state folder.new) lib.new (judge file.now inputs_file.now trace_file.now until limit) result }
     ensures kept { (F.state folder.new).files ≡ (F.state folder.old).files }
@@ -150,8 +151,8 @@ fn for_judge<F: Folder, B: Bank>(
 
 // The refusal of a run that has no reaction behind this one: it has so many.
 fn ended_by(alloc: Global, reaction: u64, count: u64) -> LookStop
-    requires reaction { reaction ≤ 1000001 }
-    requires count { count ≤ 1000001 }
+    requires reaction { reaction ≤ EVENTS + 1 }
+    requires count { count ≤ EVENTS + 1 }
     ensures { IsRefusal (run_ended reaction count) result }
 {
     refused_by(alloc, Rule::RunEnded, &[reaction as i64, count as i64])
@@ -167,10 +168,10 @@ fn for_save<F: Folder, B: Bank>(
     reaction: u64,
     lib: &mut Library<B>,
 ) -> Result<Prepared, LookStop>
-    requires until { until ≤ 2 ^ 62 }
-    requires limit { limit ≤ 1000000 }
+    requires until { until ≤ TICKS }
+    requires limit { limit ≤ EVENTS }
     requires least { 1 ≤ reaction }
-    requires most { reaction ≤ 1000001 }
+    requires most { reaction ≤ EVENTS + 1 }
     requires full { IsFull lib.old }
     ensures looks { LooksAt (F.state folder.old) (F.state folder.new) lib.new (save file.now inputs_file.now until limit reaction) result }
     ensures kept { (F.state folder.new).files ≡ (F.state folder.old).files }
@@ -196,8 +197,8 @@ fn for_resume<F: Folder, B: Bank>(
     limit: u64,
     lib: &mut Library<B>,
 ) -> Result<Prepared, LookStop>
-    requires until { until ≤ 2 ^ 62 }
-    requires limit { limit ≤ 1000000 }
+    requires until { until ≤ TICKS }
+    requires limit { limit ≤ EVENTS }
     requires full { IsFull lib.old }
     ensures looks { LooksAt (F.state folder.old) (F.state folder.new) lib.new (resume file.now inputs_file.now saved_file.now until limit) result }
     ensures kept { (F.state folder.new).files ≡ (F.state folder.old).files }
@@ -257,8 +258,8 @@ fn for_run_c<F: Folder>(
     until: u64,
     limit: u64,
 ) -> Result<Prepared, LookStop>
-    requires until { until ≤ 2 ^ 62 }
-    requires limit { limit ≤ 1000000 }
+    requires until { until ≤ TICKS }
+    requires limit { limit ≤ EVENTS }
     ensures looks { (banks : List Meaning) → LooksAt (F.state folder.old) (F.state folder.new) banks (run_c file.now inputs_file.now until limit) result }
     ensures kept { (F.state folder.new).files ≡ (F.state folder.old).files }
 {
@@ -279,8 +280,8 @@ fn for_dump<F: Folder, B: Bank>(
     limit: u64,
     lib: &mut Library<B>,
 ) -> Result<Prepared, LookStop>
-    requires until { until ≤ 2 ^ 62 }
-    requires limit { limit ≤ 1000000 }
+    requires until { until ≤ TICKS }
+    requires limit { limit ≤ EVENTS }
     requires full { IsFull lib.old }
     ensures looks { LooksAt (F.state folder.old) (F.state folder.new) lib.new (dump file.now inputs_file.now until limit) result }
     ensures kept { (F.state folder.new).files ≡ (F.state folder.old).files }
@@ -399,7 +400,8 @@ pub fn prepare<F: Folder, B: Bank>(
     lib: &mut Library<B>,
 ) -> Prepared
     requires { IsFull lib.old }
-    ensures reaches { (a : Answer) → IsAnswerOf result a → ReachesCounted (map string_bytes words.now) (F.state folder.old) (F.state folder.new) a (LeavesBanks result lib.new) }
+    ensures reaches { (a : Answer) → IsAnswerOf result a → ReachesCounted (map string_bytes words.now) (F.state folder.old) (F.state folder.new) a
+        (LeavesBanks result lib.new) }
     ensures prepared { IsPrepared lib.new result }
     ensures lacks { MayLack result → Reaches (map string_bytes words.now) (F.state folder.old) (F.state folder.new) no_memory }
     ensures kept { (F.state folder.new).files ≡ (F.state folder.old).files }

@@ -1,5 +1,6 @@
 // The rules of each kind of file.
 ghost use Rattle.std.specs.Prelude.{◌≤◌, ◌<◌, ◌^◌, pos, [], ◌∷◌, length};
+ghost use Rattle.sci_base.specs.declared.limits.TheConstants.{DIAGRAM_BYTES, INPUT_BYTES, TEXT_BYTES};
 ghost use Rattle.sci_commands.specs.Program.{BreaksC};
 ghost use Rattle.sci_base.specs.Stops.{IsViolation};
 ghost use Rattle.sci_commands.specs.Judged.{IsJudged, AcceptsProgram};
@@ -38,7 +39,7 @@ pub trait Rules {
         requires { length bytes.now ≤ LONGEST }
         ensures { IsJudged (accepts self.now) (breaks self.now) bytes.now result };
 
-    ghost within: { LONGEST ≤ 67108864 };
+    ghost within: { LONGEST ≤ TEXT_BYTES };
 }
 
 /// The rules of a diagram's file, of which this is told.
@@ -56,7 +57,7 @@ impl Rules for DiagramRules {
 
     const LONGEST: usize = limits::DIAGRAM_BYTES;
 
-    ghost LONGEST = { 16777216 };
+    ghost LONGEST = { DIAGRAM_BYTES };
 
     ghost accepts = { λ s bytes told. AcceptsTold s.report bytes told };
 
@@ -82,7 +83,7 @@ impl Rules for PlanRules {
 
     const LONGEST: usize = limits::DIAGRAM_BYTES;
 
-    ghost LONGEST = { 16777216 };
+    ghost LONGEST = { DIAGRAM_BYTES };
 
     ghost accepts = { λ _ bytes checked. AcceptsChecked bytes checked };
 
@@ -105,7 +106,7 @@ pub fn blame(alloc: Global, rule: Rule, at: usize) -> Stop
 
 // The program that a C file's bytes spell.
 fn program_of(alloc: Global, bytes: &[u8]) -> Result<Program, Stop>
-    requires { length bytes.now ≤ 67108864 }
+    requires { length bytes.now ≤ TEXT_BYTES }
     ensures { IsJudged AcceptsProgram BreaksC bytes.now result }
 {
     match parse(alloc, bytes) {
@@ -128,7 +129,7 @@ impl Rules for CRules {
 
     const LONGEST: usize = limits::TEXT_BYTES;
 
-    ghost LONGEST = { 67108864 };
+    ghost LONGEST = { TEXT_BYTES };
 
     ghost accepts = { λ _ bytes program. AcceptsProgram bytes program };
 
@@ -157,7 +158,7 @@ impl Rules for ColumnRules {
 
     const LONGEST: usize = limits::INPUT_BYTES;
 
-    ghost LONGEST = { 16777216 };
+    ghost LONGEST = { INPUT_BYTES };
 
     ghost accepts = { λ s bytes columns. AcceptsColumns (map needed_of s.needs.items) bytes columns };
 

@@ -1,5 +1,6 @@
 // A run that is saved, and one that goes on from what was saved.
 ghost use Rattle.std.specs.Prelude.{◌≤◌, length};
+ghost use Rattle.sci_base.specs.declared.limits.TheConstants.{TEXT_BYTES};
 ghost use Rattle.sci_save.specs.Saved.{saved_of};
 ghost use Rattle.sci_save.specs.Text.{saved_text};
 ghost use Rattle.sci_save.specs.Valid.{IsShaped};
@@ -26,7 +27,7 @@ pub struct SavedRun {
 
 // What the bytes save of a run of the net on these columns.
 fn image_of(alloc: Global, net: &Net, inputs: &Inputs, bytes: &[u8]) -> Result<Image, Stop>
-    requires { length bytes.now ≤ 67108864 }
+    requires { length bytes.now ≤ TEXT_BYTES }
     ensures { IsJudged (AcceptsImage net.now inputs.now) (BreaksSaved net.now inputs.now) bytes.now result }
 {
     match read_save(alloc, net, inputs, bytes) {
@@ -51,7 +52,7 @@ impl Rules for SavedRules {
 
     const LONGEST: usize = limits::TEXT_BYTES;
 
-    ghost LONGEST = { 67108864 };
+    ghost LONGEST = { TEXT_BYTES };
 
     ghost accepts = { λ s bytes image. AcceptsImage s.net s.inputs bytes image };
 

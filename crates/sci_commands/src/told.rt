@@ -1,5 +1,6 @@
 // What is told of a diagram's file.
 ghost use Rattle.std.specs.Prelude.{◌≤◌, length};
+ghost use Rattle.sci_base.specs.declared.limits.TheConstants.{DIAGRAM_BYTES};
 ghost use Rattle.sci_verdict.specs.Verdict.{Breaks};
 ghost use Rattle.sci_commands.specs.Judged.{IsJudged, AcceptsTold};
 
@@ -22,7 +23,7 @@ pub enum Told {
 
 /// What is told of a diagram's bytes, or the first rule that they break. Schedules are built only where they are told.
 pub fn report_on(alloc: Global, report: Report, bytes: &[u8]) -> Result<Told, Stop>
-    requires { length bytes.now ≤ 16777216 }
+    requires { length bytes.now ≤ DIAGRAM_BYTES }
     ensures { IsJudged (AcceptsTold report) Breaks bytes.now result }
 {
     match report {

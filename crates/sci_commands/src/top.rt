@@ -22,7 +22,8 @@ pub fn top<F: Folder, O: Sink, E: Sink, B: Bank>(
     lib: &mut Library<B>,
 ) -> u8
     requires { IsFull lib.old }
-    ensures meets { Meets (map string_bytes words.now) (F.state folder.old) (F.state folder.new) (O.state out.old) (O.state out.new) (E.state err.old) (E.state err.new) lib.new result }
+    ensures meets { Meets (map string_bytes words.now) (F.state folder.old) (F.state folder.new) (O.state out.old) (O.state out.new)
+        (E.state err.old) (E.state err.new) lib.new result }
     ensures kept { (F.state folder.new).files ≡ (F.state folder.old).files }
     ensures full { IsFull lib.new }
 {

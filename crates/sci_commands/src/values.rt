@@ -26,7 +26,8 @@ fn put_number<S: Sink>(value: i64, out: &mut S) -> Result<(), Failed>
 fn put_signal<S: Sink>(dump: &Dump, signal: u32, tick: u64, out: &mut S) -> Result<(), Failed>
     requires least { 1 ≤ signal }
     requires most { signal ≤ length dump.now.signals }
-    ensures { Writes (S.state out.old) (S.state out.new) (signal_text (slice_index_or dump.now.signals (signal - 1) no_signal) (value_at dump.now signal tick)) result }
+    ensures { Writes (S.state out.old) (S.state out.new) (signal_text (slice_index_or dump.now.signals (signal - 1) no_signal)
+        (value_at dump.now signal tick)) result }
 {
     dump.write_name(signal, out)?;
     put_number(dump.at(signal, tick), out)

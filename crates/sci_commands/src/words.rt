@@ -1,4 +1,5 @@
-ghost use Rattle.std.specs.Prelude.{◌≡◌, ◌≢◌, ◌≤◌, ◌^◌, [], ◌∷◌, ℕ, codes, decimal, map, string_bytes, IfSome, IfNone};
+ghost use Rattle.std.specs.Prelude.{◌≡◌, ◌≢◌, ◌≤◌, [], ◌∷◌, ℕ, codes, decimal, map, string_bytes, IfSome, IfNone};
+ghost use Rattle.sci_base.specs.declared.limits.TheConstants.{TICKS, EVENTS};
 ghost use Rattle.sci_commands.specs.declared.command.Report.{Report};
 ghost use Rattle.sci_commands.specs.declared.words.Runs.{Runs};
 ghost use Rattle.sci_commands.specs.Words.{Parses, report_word, run_word};
@@ -31,8 +32,8 @@ fn canonical(text: &str, most: u64) -> Option<u64>
 /// The last date and the most events of a run.
 fn bounds_of(until: &str, limit: &str) -> Option<(u64, u64)>
     ensures some { IfSome result (λ b. (until.now ≡ decimal b.0) × (limit.now ≡ decimal b.1)) }
-    ensures small { IfSome result (λ b. (b.0 ≤ 2 ^ 62) × (b.1 ≤ 1000000)) }
-    ensures none { IfNone result ((t n : ℕ) → t ≤ 2 ^ 62 → n ≤ 1000000 → until.now ≡ decimal t → limit.now ≢ decimal n) }
+    ensures small { IfSome result (λ b. (b.0 ≤ TICKS) × (b.1 ≤ EVENTS)) }
+    ensures none { IfNone result ((t n : ℕ) → t ≤ TICKS → n ≤ EVENTS → until.now ≡ decimal t → limit.now ≢ decimal n) }
 {
     let until = canonical(until, limits::TICKS)?;
     let limit = canonical(limit, limits::EVENTS)?;
@@ -40,7 +41,7 @@ fn bounds_of(until: &str, limit: &str) -> Option<(u64, u64)>
 }
 
 /// What is run on two files, the last date and the most events.
-#[derive(Clone, Copy, Debug, PartialEq, Eq)]
+#[derive(Clone, Copy)]
 pub enum Runs {
     Simulate,
     RunC,
@@ -101,7 +102,7 @@ fn of_save<'a>(
     ensures { Parses (codes "save" ∷ diagram.now ∷ inputs.now ∷ until.now ∷ limit.now ∷ reaction.now ∷ []) result }
 {
     let (until, limit) = bounds_of(until, limit)?;
-    let reaction = canonical(reaction, 1_000_001)?;
+    let reaction = canonical(reaction, limits::EVENTS + 1)?;
     if reaction == 0 {
         return None;
     }
@@ -178,7 +179,7 @@ fn of_bulk<'a>(seed: &str, size: &str) -> Option<Command<'a>>
 fn of_dump_at<'a>(file: &'a str, tick: &str) -> Option<Command<'a>>
     ensures { Parses (codes "vcdat" ∷ file.now ∷ tick.now ∷ []) result }
 {
-    let tick = canonical(tick, 1 << 62)?;
+    let tick = canonical(tick, limits::TICKS)?;
     Some(Command::DumpAt(file, tick))
 }
 

@@ -1,5 +1,6 @@
 -- How many objects a tree has over all levels, where an object counts with those within it; how many blocks that are neither superblocks nor pass-through nor tag objects; how many links.
 use Rattle.std.specs.Prelude.{ℕ, ◌+◌, pos, [], ◌∷◌, nat_le, if◌then◌else◌, Ok, Err}
+use Rattle.sci_base.specs.declared.limits.TheConstants.{BLOCKS, LINKS}
 use Rattle.sci_base.specs.declared.refusal.Rule.{Rule}
 use Rattle.sci_base.specs.declared.refusal.Rule.TheVariants.{TooManyBlocks, TooManyLinks}
 use Rattle.sci_base.specs.Plain.{Violation}
@@ -57,4 +58,4 @@ too_many rule n = record { rule = rule; place = []; detail = pos n ∷ [] }
 
 -- the tree, where it has not too many blocks and then not too many links
 unfoldable pub counted : Objects → Outcome Objects
-counted os = if nat_le (blocks_in os) 2048 then (if nat_le (links_in os) 16384 then Ok os else Err (too_many TooManyLinks (links_in os))) else Err (too_many TooManyBlocks (blocks_in os))
+counted os = if nat_le (blocks_in os) BLOCKS then (if nat_le (links_in os) LINKS then Ok os else Err (too_many TooManyLinks (links_in os))) else Err (too_many TooManyBlocks (blocks_in os))

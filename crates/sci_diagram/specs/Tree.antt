@@ -2,6 +2,7 @@
 use Rattle.std.specs.Prelude.{ℕ, zero, suc, ◌+◌, ℤ, pos, negsuc, List, [], ◌∷◌, ◌++◌, length, Bool, true, false, ◌&&◌, ◌||◌, not, int_lt, codes, if◌then◌else◌, Option, Some, None, is_some, option_and_then, Ok, Err}
 use Rattle.std.specs.List.{list_all}
 use Rattle.std.specs.Str.{bytes_eq}
+use Rattle.sci_base.specs.declared.limits.TheConstants.{LEVELS}
 use Rattle.serde_json.specs.Data.{Data, null, boolean, number, string, array, object, Items, no_items, item}
 use Rattle.serde_json.specs.Find.{get, as_str, as_array, as_object}
 use Rattle.sci_base.specs.declared.refusal.Rule.TheVariants.{MissingField, WrongField, TooDeep}
@@ -23,7 +24,7 @@ abbrev pub wrong : List ℕ → ℤ → Violation
 wrong at code = record { rule = WrongField; place = at; detail = code ∷ [] }
 
 abbrev pub too_deep : List ℕ → Violation
-too_deep at = record { rule = TooDeep; place = at; detail = pos 16 ∷ [] }
+too_deep at = record { rule = TooDeep; place = at; detail = pos LEVELS ∷ [] }
 
 -- a field that must be there
 abbrev pub required : {A : Type 0} → List ℕ → ℤ → Field A → Outcome A
@@ -247,4 +248,4 @@ diagram_at (suc left) at d = list_of at d >>= walk (diagram_at left) at 1
 
 -- the tree of the whole value, or the first failure
 abbrev pub tree : Data → Outcome Objects
-tree = diagram_at 16 []
+tree = diagram_at LEVELS []

@@ -31,7 +31,7 @@ pub struct BlockObj {
 }
 
 /// A link from one port to another.
-#[derive(Clone, Copy, Debug, Drop, PartialEq, Eq)]
+#[derive(Clone, Copy, Drop)]
 pub struct LinkObj {
     pub from: End,
     pub to: End,
@@ -40,7 +40,7 @@ pub struct LinkObj {
 }
 
 /// An end of a link: a port of an object of the same diagram.
-#[derive(Clone, Copy, Debug, Drop, PartialEq, Eq)]
+#[derive(Clone, Copy, Drop)]
 pub struct End {
     /// The object's position, from 1.
     pub block: i64,

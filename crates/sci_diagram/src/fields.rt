@@ -9,7 +9,7 @@ ghost use Rattle.sci_base.specs.Stops.{IsViolation, Stops};
 ghost use Rattle.sci_diagram.specs.Count.{too_many};
 
 use crate::table::Fields;
-use sci_base::{Rule, Stop};
+use sci_base::{Rule, Stop, limits};
 use sci_json::FieldStop;
 use std::alloc::Global;
 
@@ -110,7 +110,7 @@ fn all_small(xs: &[i64]) -> bool
 pub(crate) fn too_deep(alloc: Global, at: &[u32]) -> Stop
     ensures { IsViolation (too_deep at.now) result }
 {
-    Stop::by(alloc, Rule::TooDeep, at, &[16])
+    Stop::by(alloc, Rule::TooDeep, at, &[i64::from(limits::LEVELS)])
 }
 
 /// The refusal of a count.

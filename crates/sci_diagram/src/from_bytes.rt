@@ -1,4 +1,5 @@
 ghost use Rattle.std.specs.Prelude.{◌≡◌, ◌≤◌, Ok, Some, IfOk, IfErr, length, ◌<◌, ◌^◌};
+ghost use Rattle.sci_base.specs.declared.limits.TheConstants.{DIAGRAM_BYTES};
 ghost use Rattle.sci_json.specs.View.{view};
 ghost use Rattle.sci_diagram.specs.Objects.{diagram_view};
 ghost use Rattle.sci_diagram.specs.Reading.{judge_value, IsRead};
@@ -20,7 +21,7 @@ use std::alloc::Global;
 /// the objects and of their fields, an absent field, a field of another form, and a superblock at level 17 (rules 2 to 4);
 /// too many blocks, and too many links (rules 5 and 6).
 pub fn read(alloc: Global, bytes: &[u8]) -> Result<Diagram, Stop>
-    requires short { length bytes.now ≤ 16777216 }
+    requires short { length bytes.now ≤ DIAGRAM_BYTES }
     ensures { IsRead bytes.now result }
 {
     let mut scratch = Scratch::new(alloc);
@@ -37,7 +38,7 @@ fn read_value(alloc: Global, v: &Value<'_, '_>) -> Result<Diagram, Stop>
     ensures ok { IfOk result (λ d. judge_value (Some (view v.now)) ≡ Ok (diagram_view d)) }
     ensures stop { IfErr result (λ e. Stops (judge_value (Some (view v.now))) e) }
 {
-    let d = read_diagram(alloc, v, &[], 16)?;
+    let d = read_diagram(alloc, v, &[], limits::LEVELS)?;
     within_counts(alloc, d)
 }
 

@@ -12,7 +12,7 @@ use sci_json::document::Value;
 use std::alloc::Global;
 
 /// What an object is.
-#[derive(Clone, Copy, Debug, PartialEq, Eq, Drop)]
+#[derive(Clone, Copy, Drop)]
 pub enum Sort {
     Block,
     Link,
@@ -21,7 +21,7 @@ pub enum Sort {
 }
 
 /// What a block is, as far as it decides which fields of its model are looked at.
-#[derive(Clone, Copy, Debug, PartialEq, Eq, Drop)]
+#[derive(Clone, Copy, PartialEq, Eq, Drop)]
 pub enum Role {
     /// A block of some kind.
     Kind,

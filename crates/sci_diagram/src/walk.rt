@@ -1,4 +1,5 @@
 ghost use Rattle.std.specs.Prelude.{◌≡◌, ◌^◌, ◌<◌, ◌≤◌, Ok, IfOk, IfErr, pos, codes, map, Some, None, string_bytes, if◌then◌else◌};
+ghost use Rattle.sci_base.specs.declared.limits.TheConstants.{LEVELS};
 ghost use Rattle.sci_json.specs.View.{view, items_view};
 ghost use Rattle.sci_json.specs.Field.{field};
 ghost use Rattle.sci_diagram.specs.Objects.{objects_of, object_view, block_view, diagram_view};
@@ -30,7 +31,7 @@ pub(crate) fn read_diagram(
     left: u32,
 ) -> Result<Diagram, Stop>
     requires light { weight (view v.now) < 2 ^ 32 }
-    requires levels { left ≤ 16 }
+    requires levels { left ≤ LEVELS }
     ensures ok { IfOk result
         (λ d. diagram_at left at.now (view v.now) ≡ Ok (diagram_view d)) }
     ensures stop { IfErr result (λ e. Stops (diagram_at left at.now (view v.now)) e) }
@@ -52,7 +53,7 @@ fn read_objs(
     left: u32,
 ) -> Result<Vec<Obj>, Stop>
     requires light { items_weight (items_view items) < 2 ^ 32 }
-    requires levels { left ≤ 16 }
+    requires levels { left ≤ LEVELS }
     ensures ok { IfOk result (λ os. walk (diagram_at left) at.now 1 (items_view items.entry)
         ≡ Ok (objects_of (map object_view os.items))) }
     ensures stop { IfErr result
@@ -70,7 +71,7 @@ fn read_objs(
 #[cycle(walk)]
 fn read_obj(alloc: Global, v: &Value<'_, '_>, at: &[u32], left: u32) -> Result<Obj, Stop>
     requires light { weight (view v.now) < 2 ^ 32 }
-    requires levels { left ≤ 16 }
+    requires levels { left ≤ LEVELS }
     ensures ok { IfOk result
         (λ o. read_object (diagram_at left) at.now (view v.now) ≡ Ok (object_view o)) }
     ensures stop { IfErr result
@@ -86,7 +87,7 @@ fn read_obj(alloc: Global, v: &Value<'_, '_>, at: &[u32], left: u32) -> Result<O
 #[tactic(auto, using(sci_base::proofs::Stopping::stops_then, crate::proofs::Told::told_then), unfolding(crate::specs::Tree::read_object))]
 fn obj_of(alloc: Global, v: &Fields<'_, '_, '_>, at: &[u32], left: u32) -> Result<Obj, Stop>
     requires light { weight (view v.now) < 2 ^ 32 }
-    requires levels { left ≤ 16 }
+    requires levels { left ≤ LEVELS }
     ensures ok { IfOk result
         (λ o. read_object (diagram_at left) at.now (view v.now) ≡ Ok (object_view o)) }
     ensures stop { IfErr result
@@ -110,7 +111,7 @@ fn read_block(
     left: u32,
 ) -> Result<BlockObj, Stop>
     requires light { weight (view v.now) < 2 ^ 32 }
-    requires levels { left ≤ 16 }
+    requires levels { left ≤ LEVELS }
     ensures ok { IfOk result
         (λ b. read_block (diagram_at left) at.now (view v.now) ≡ Ok (block_view b)) }
     ensures stop { IfErr result
@@ -134,7 +135,7 @@ fn block_of(
     left: u32,
 ) -> Result<BlockObj, Stop>
     requires light { weight (view model.now) < 2 ^ 32 }
-    requires levels { left ≤ 16 }
+    requires levels { left ≤ LEVELS }
     ensures ok { IfOk result
         (λ b. modelled (diagram_at left) at.now (string_bytes gui) (view model.now) ≡ Ok (block_view b)) }
     ensures stop { IfErr result

@@ -1,5 +1,6 @@
 // Diagrams as they are drawn: their blocks, their tags, and the flat net.
 ghost use Rattle.std.specs.Prelude.{◌≤◌, length};
+ghost use Rattle.sci_base.specs.declared.limits.TheConstants.{DIAGRAM_BYTES};
 
 use crate::print::{show_feeds, show_stop};
 use sci_base::Stop;
@@ -13,7 +14,7 @@ use std::io;
 
 /// The blocks of a diagram whose objects and links break no rule.
 fn parts_of(alloc: Global, bytes: &[u8]) -> Result<Vec<Part>, Stop>
-    requires { length bytes.now ≤ 16777216 }
+    requires { length bytes.now ≤ DIAGRAM_BYTES }
 {
     match read(alloc, bytes) {
         Ok(diagram) => {
@@ -27,7 +28,7 @@ fn parts_of(alloc: Global, bytes: &[u8]) -> Result<Vec<Part>, Stop>
 
 /// Prints the blocks of a diagram.
 pub fn show_parts(rt: &impl Print, alloc: Global, bytes: &[u8]) -> anyhow::Result<()>
-    requires { length bytes.now ≤ 16777216 }
+    requires { length bytes.now ≤ DIAGRAM_BYTES }
 {
     match parts_of(alloc, bytes) {
         Ok(parts) => {
@@ -61,7 +62,7 @@ pub fn show_pass_through(rt: &impl Print, gui: &str) -> io::Result<()> {
 
 /// Which tag object of a diagram serves which.
 fn servings_of(alloc: Global, bytes: &[u8]) -> Result<Vec<Serving>, Stop>
-    requires { length bytes.now ≤ 16777216 }
+    requires { length bytes.now ≤ DIAGRAM_BYTES }
 {
     match read(alloc, bytes) {
         Ok(diagram) => serve(alloc, &diagram),
@@ -71,7 +72,7 @@ fn servings_of(alloc: Global, bytes: &[u8]) -> Result<Vec<Serving>, Stop>
 
 /// Prints how many objects are served, and by which each is.
 pub fn show_tags(rt: &impl Print, alloc: Global, bytes: &[u8]) -> anyhow::Result<()>
-    requires { length bytes.now ≤ 16777216 }
+    requires { length bytes.now ≤ DIAGRAM_BYTES }
 {
     match servings_of(alloc, bytes) {
         Ok(servings) => {
@@ -90,7 +91,7 @@ pub fn show_tags(rt: &impl Print, alloc: Global, bytes: &[u8]) -> anyhow::Result
 
 /// The flat net of a diagram.
 fn flat_of(alloc: Global, bytes: &[u8]) -> Result<Flat, Stop>
-    requires { length bytes.now ≤ 16777216 }
+    requires { length bytes.now ≤ DIAGRAM_BYTES }
 {
     match read(alloc, bytes) {
         Ok(diagram) => flatten(alloc, &diagram),
@@ -100,7 +101,7 @@ fn flat_of(alloc: Global, bytes: &[u8]) -> Result<Flat, Stop>
 
 /// Prints the flat net of a diagram.
 pub fn show_flat(rt: &impl Print, alloc: Global, bytes: &[u8]) -> anyhow::Result<()>
-    requires { length bytes.now ≤ 16777216 }
+    requires { length bytes.now ≤ DIAGRAM_BYTES }
 {
     match flat_of(alloc, bytes) {
         Ok(net) => {

@@ -7,6 +7,7 @@
 #![tactic(auto)]
 
 ghost use Rattle.std.specs.Prelude.{◌≤◌, length, IfOk};
+ghost use Rattle.sci_base.specs.declared.limits.TheConstants.{DIAGRAM_BYTES};
 
 mod drawn;
 mod planned;
@@ -15,16 +16,17 @@ mod read;
 mod typed;
 
 use anyhow::{Context, bail};
+use sci_base::limits;
 use sci_table::{first_word, written_out};
 use std::alloc::Global;
 use std::io;
 
 /// The bytes of a diagram that are few enough to be read.
 fn short(text: &str) -> anyhow::Result<&[u8]>
-    ensures { IfOk result (λ bytes. length bytes.now ≤ 16777216) }
+    ensures { IfOk result (λ bytes. length bytes.now ≤ DIAGRAM_BYTES) }
 {
     let bytes = text.as_bytes();
-    if bytes.len() > 16777216 {
+    if bytes.len() > limits::DIAGRAM_BYTES {
         bail!("the diagram is too long");
     }
     Ok(bytes)
@@ -32,7 +34,7 @@ fn short(text: &str) -> anyhow::Result<&[u8]>
 
 /// Prints what a question about the bytes of a diagram gives.
 fn answer(rt: &impl Print, alloc: Global, asked: &str, bytes: &[u8]) -> anyhow::Result<()>
-    requires { length bytes.now ≤ 16777216 }
+    requires { length bytes.now ≤ DIAGRAM_BYTES }
 {
     match asked {
         "read" => read::show(rt, alloc, bytes),

@@ -1,5 +1,6 @@
 // The verdict on a diagram, and its schedules.
 ghost use Rattle.std.specs.Prelude.{◌≤◌, length};
+ghost use Rattle.sci_base.specs.declared.limits.TheConstants.{DIAGRAM_BYTES};
 
 use crate::print::show_stop;
 use crate::typed::show_source;
@@ -11,7 +12,7 @@ use std::io;
 
 /// Prints the schedule of each source of a diagram, and how long they are together.
 pub fn show(rt: &impl Print, alloc: Global, bytes: &[u8]) -> anyhow::Result<()>
-    requires { length bytes.now ≤ 16777216 }
+    requires { length bytes.now ≤ DIAGRAM_BYTES }
 {
     match check(alloc, bytes) {
         Ok(checked) => {

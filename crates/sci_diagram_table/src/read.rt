@@ -1,5 +1,6 @@
 // Diagrams as they are read.
 ghost use Rattle.std.specs.Prelude.{◌≤◌, length};
+ghost use Rattle.sci_base.specs.declared.limits.TheConstants.{DIAGRAM_BYTES};
 
 use crate::print::show_stop;
 use sci_diagram::{Obj, is_pass_through, is_tag, read};
@@ -7,7 +8,7 @@ use std::alloc::Global;
 
 /// Prints the objects of a diagram.
 pub fn show(rt: &impl Print, alloc: Global, bytes: &[u8]) -> anyhow::Result<()>
-    requires { length bytes.now ≤ 16777216 }
+    requires { length bytes.now ≤ DIAGRAM_BYTES }
 {
     match read(alloc, bytes) {
         Ok(diagram) => {

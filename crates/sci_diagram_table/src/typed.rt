@@ -1,5 +1,6 @@
 // Typed nets, and what activates each block and waits for which.
 ghost use Rattle.std.specs.Prelude.{◌≡◌, ◌+◌, ◌<◌, ◌≤◌, length};
+ghost use Rattle.sci_base.specs.declared.limits.TheConstants.{DIAGRAM_BYTES};
 ghost use Rattle.sci_net.specs.Sources.{sources_of};
 ghost use Rattle.sci_inherit.specs.Origins.{AreOrigins};
 
@@ -18,7 +19,7 @@ use std::io;
 
 /// Prints the typed net of a diagram: of each block the sizes and types of the outputs.
 pub fn show(rt: &impl Print, alloc: Global, bytes: &[u8]) -> anyhow::Result<()>
-    requires { length bytes.now ≤ 16777216 }
+    requires { length bytes.now ≤ DIAGRAM_BYTES }
 {
     match typed_net(alloc, bytes) {
         Ok(net) => {
@@ -49,7 +50,7 @@ fn show_outs(rt: &impl Print, net: &Net, block: u32) -> io::Result<()>
 
 /// The typed net of a diagram that breaks no rule.
 fn net_of(alloc: Global, bytes: &[u8]) -> anyhow::Result<Net>
-    requires { length bytes.now ≤ 16777216 }
+    requires { length bytes.now ≤ DIAGRAM_BYTES }
 {
     match typed_net(alloc, bytes) {
         Ok(net) => Ok(net),
@@ -59,7 +60,7 @@ fn net_of(alloc: Global, bytes: &[u8]) -> anyhow::Result<Net>
 
 /// Prints the activation outputs that reach each block, and whether start activates it.
 pub fn show_reach(rt: &impl Print, alloc: Global, bytes: &[u8]) -> anyhow::Result<()>
-    requires { length bytes.now ≤ 16777216 }
+    requires { length bytes.now ≤ DIAGRAM_BYTES }
 {
     let net = net_of(alloc, bytes)?;
     let Ok(reach) = reach_by_block(alloc, &net) else {
@@ -78,7 +79,7 @@ pub fn show_reach(rt: &impl Print, alloc: Global, bytes: &[u8]) -> anyhow::Resul
 
 /// Prints the blocks that each block waits for.
 pub fn show_waits(rt: &impl Print, alloc: Global, bytes: &[u8]) -> anyhow::Result<()>
-    requires { length bytes.now ≤ 16777216 }
+    requires { length bytes.now ≤ DIAGRAM_BYTES }
 {
     let net = net_of(alloc, bytes)?;
     let Ok(reach) = origins(alloc, &net) else {
@@ -98,7 +99,7 @@ pub fn show_waits(rt: &impl Print, alloc: Global, bytes: &[u8]) -> anyhow::Resul
 
 /// Prints what the sources and the branches of a diagram activate.
 pub fn show_origins(rt: &impl Print, alloc: Global, bytes: &[u8]) -> anyhow::Result<()>
-    requires { length bytes.now ≤ 16777216 }
+    requires { length bytes.now ≤ DIAGRAM_BYTES }
 {
     let net = net_of(alloc, bytes)?;
     let Ok(reach) = origins(alloc, &net) else {
@@ -183,7 +184,7 @@ fn table_at(alloc: Global, net: &Net, source: u32) -> Result<DepTable, NoMemory>
 
 /// Prints for each source its possible blocks, and what each depends on.
 pub fn show_tables(rt: &impl Print, alloc: Global, bytes: &[u8]) -> anyhow::Result<()>
-    requires { length bytes.now ≤ 16777216 }
+    requires { length bytes.now ≤ DIAGRAM_BYTES }
 {
     let net = net_of(alloc, bytes)?;
     println!(rt; "")?;
@@ -207,7 +208,7 @@ fn show_table(rt: &impl Print, table: &DepTable) -> io::Result<()> {
 
 /// Prints how many values the widest block of a diagram takes.
 pub fn show_longest(rt: &impl Print, alloc: Global, bytes: &[u8]) -> anyhow::Result<()>
-    requires { length bytes.now ≤ 16777216 }
+    requires { length bytes.now ≤ DIAGRAM_BYTES }
 {
     let net = net_of(alloc, bytes)?;
     let Ok(places) = Places::new(alloc, &net) else {

@@ -4,6 +4,3 @@
 mod events;
 
 pub use events::{Event, Events};
-
-#[cfg(test)]
-mod tests;

@@ -1,3 +1,4 @@
+pub mod Bounds
 pub mod Blocks
 pub mod PendingEvents
 pub mod Nets

@@ -1,5 +1,5 @@
 -- The verdict on a text, and what is answered of it, worked out by hand.
-use Rattle.std.proofs.Common.{◌≡◌, ℕ, zero, suc, ◌≤◌, true, inl, inr, ⊎_elim, pos, List, [], ◌∷◌, length, slice_index, codes, Option, Some, None, refl, sym, ap, ◌∙◌, lit≤, arith}
+use Rattle.std.proofs.Common.{◌≡◌, ℕ, zero, suc, ◌≤◌, true, false, inl, inr, ⊎_elim, pos, List, [], ◌∷◌, length, slice_index, codes, Option, Some, None, refl, sym, ap, ◌∙◌, lit≤, arith}
 use Rattle.std.specs.Fmt.{digits}
 use Rattle.sci_base.specs.Plain.{Violation}
 use Rattle.sci_base.specs.declared.observation.Obs.TheVariants.{Start, Stop}
@@ -80,13 +80,13 @@ beginning h = let short = ap length h.0 in omega (arith, short)
 
 -- two bytes agreed, and the third was another
 abbrev compared : Compared
-compared = record { text = due; at = 2; lines = 1; wrong = Some 99; faults = 1; begun = true }
+compared = record { text = due; at = 2; lines = 1; wrong = Some 99; faults = 1; failing = true }
 
 three_taken : taken_by compared ≡ codes "a\nc"
 three_taken = refl
 
 -- a whole text was given, and no call failed
-whole_given : WasGiven due (record compared { at = 4; lines = 2; wrong = None; faults = 0 })
+whole_given : WasGiven due (record compared { at = 4; lines = 2; wrong = None; faults = 0; failing = false })
 whole_given = inl (refl, refl)
 
 -- what was given up to a fault isn't the whole

@@ -1,6 +1,7 @@
 -- What a diagram that is read has: its numbers are in range.
 use Rattle.std.specs.Prelude.{◌≡◌, ℕ, ◌+◌, ◌<◌, ◌≤◌, ◌^◌, true, length}
 use Rattle.std.specs.List.{list_all}
+use Rattle.sci_base.specs.declared.limits.TheConstants.{BLOCKS}
 use Rattle.sci_base.specs.Plain.{Fields}
 use Rattle.sci_diagram.specs.Objects.{Object, block, superblock, link, text, deleted, Objects, no_objects, object}
 use Rattle.sci_diagram.specs.Count.{blocks_in}
@@ -48,6 +49,6 @@ abbrev mutual
 -- ports, and numbers are in range
 pub record IsReady (t : Objects) : Type 0 where
   pub short : AreListsShort t
-  pub few : blocks_in t ≤ 2048
+  pub few : blocks_in t ≤ BLOCKS
   pub few_ports : ports_in t < 2 ^ 32
   pub small : AreSmall t

@@ -1,6 +1,7 @@
 // The ports of one class of all blocks, and which of another class they reach.
 ghost use Rattle.std.specs.Prelude.{◌≡◌, ◌+◌, ◌<◌, ◌≤◌, ◌^◌, ◌++◌, All, Contains, IfOk, OnOk, map, length, slice_index, ℕ};
 ghost use Rattle.std.specs.List.{range_with_len};
+ghost use Rattle.sci_base.specs.declared.limits.TheConstants.{BLOCKS};
 ghost use Rattle.sci_flat.specs.Chain.{AllWithin};
 ghost use Rattle.sci_flat.specs.Lists.{lists_of};
 ghost use Rattle.sci_flat.specs.Reached.{IsWanted};
@@ -67,7 +68,7 @@ impl Ends {
         class: PortClass,
     ) -> Result<Ends, NoMemory>
         requires inside { All (IsInside ports) seats.now }
-        requires few { length seats.now ≤ 2048 }
+        requires few { length seats.now ≤ BLOCKS }
         ensures numbers { IfOk result (λ r. r.numbers.items ≡ numbers_of class seats.now) }
         ensures feeds { IfOk result (λ r. r.feeds.items ≡ ends_of class 1 seats.now) }
     {
@@ -110,7 +111,7 @@ pub(crate) fn feeding_of(
     requires within { AllWithin ports steps.now }
     requires successors { AreSuccessors steps.now ports successors.now }
     requires inside { All (IsInside ports) seats.now }
-    requires few { length seats.now ≤ 2048 }
+    requires few { length seats.now ≤ BLOCKS }
     ensures { IfOk result (λ r. AreFeeding seats.now steps.now ports from to r.feeds.items (lists_of r.lists)) }
 {
     let sources = Ends::of(alloc, ports, seats, from)?;
@@ -144,7 +145,7 @@ pub(crate) fn sharing_of(
     requires within { AllWithin ports steps.now }
     requires successors { AreSuccessors steps.now ports successors.now }
     requires inside { All (IsInside ports) seats.now }
-    requires few { length seats.now ≤ 2048 }
+    requires few { length seats.now ≤ BLOCKS }
     ensures { IfOk result (λ r. AreSharing seats.now steps.now ports r) }
 {
     let sources = Ends::of(alloc, ports, seats, PortClass::ActivationOutput)?;

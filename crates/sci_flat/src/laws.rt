@@ -1,5 +1,6 @@
 // What the definitions of flattening say of each other.
 ghost use Rattle.std.specs.Prelude.{◌≡◌, ℕ, List, length, ◌≤◌};
+ghost use Rattle.sci_base.specs.declared.limits.TheConstants.{DIAGRAM_BYTES};
 ghost use Rattle.sci_diagram.specs.Objects.{Objects};
 ghost use Rattle.sci_diagram.specs.Reading.{Accepts};
 ghost use Rattle.sci_base.specs.Plain.{Violation};
@@ -11,7 +12,7 @@ ghost use Rattle.sci_flat.specs.Tagged.{DrawnAlone};
 
 /// Every diagram that is read from a file has what flattening asks of it.
 pub fn read_is_ready()
-    ensures { (bytes : List ℕ) (t : Objects) → length bytes ≤ 16777216 → Accepts bytes t → IsReady t }
+    ensures { (bytes : List ℕ) (t : Objects) → length bytes ≤ DIAGRAM_BYTES → Accepts bytes t → IsReady t }
 {}
 
 /// No tree both has a flat net and breaks a rule.

@@ -30,7 +30,8 @@ pub(crate) fn wires(
 ) -> Result<Vec<Vec<Wire>>, Stop>
     requires specs { length specs.now ≡ length seats.now }
     requires paths { length paths.now ≡ length seats.now }
-    requires inside { (b k : ℕ) → b < length seats.now → k < count (seat_of seats.now b) Input → start (seat_of seats.now b) Input + k < length feeding.now.lists.items }
+    requires inside { (b k : ℕ) → b < length seats.now → k < count (seat_of seats.now b) Input
+        → start (seat_of seats.now b) Input + k < length feeding.now.lists.items }
     requires there { (b k : ℕ) → b < length seats.now → k < count (seat_of seats.now b) Input
         → All (λ i. i < length feeding.now.feeds.items) (input_list (lists_of feeding.now.lists) (seat_of seats.now b) k) }
     ensures wires { IfOk result (λ r. AllWired feeding.now.feeds.items (lists_of feeding.now.lists) seats.now specs.now (length seats.now) (rows_of r.items)) }
@@ -54,7 +55,8 @@ pub(crate) fn wires(
 
 /// The numbers of the lists of all activation inputs.
 fn number_rows(alloc: Global, origins: &[u32], seats: &[Seat]) -> Result<Vec<Vec<u32>>, NoMemory>
-    requires { (b p : ℕ) → b < length seats.now → p < count (seat_of seats.now b) ActivationInput → start (seat_of seats.now b) ActivationInput + p < length origins.now }
+    requires { (b p : ℕ) → b < length seats.now → p < count (seat_of seats.now b) ActivationInput
+        → start (seat_of seats.now b) ActivationInput + p < length origins.now }
     ensures { IfOk result (λ r. AllNumbers origins.now seats.now (length seats.now) (rows_of r.items)) }
 {
     let mut rows = Vec::with_capacity(alloc, seats.len())?;
@@ -66,7 +68,8 @@ fn number_rows(alloc: Global, origins: &[u32], seats: &[Seat]) -> Result<Vec<Vec
 
 /// The activation outputs that feed each activation input.
 pub(crate) fn feeds(alloc: Global, sharing: &Sharing, seats: &[Seat]) -> Result<Feeds, NoMemory>
-    requires inside { (b p : ℕ) → b < length seats.now → p < count (seat_of seats.now b) ActivationInput → start (seat_of seats.now b) ActivationInput + p < length sharing.now.origins.items }
+    requires inside { (b p : ℕ) → b < length seats.now → p < count (seat_of seats.now b) ActivationInput
+        → start (seat_of seats.now b) ActivationInput + p < length sharing.now.origins.items }
     requires within { All (λ o. o < length sharing.now.lists.items) sharing.now.origins.items }
     requires under { (q : ℕ) → All (λ i. i < length sharing.now.feeds.items) (list_at (lists_of sharing.now.lists) q) }
     ensures { IfOk result (AllFed sharing.now.feeds.items (shared (lists_of sharing.now.lists) sharing.now.origins.items) seats.now (length seats.now)) }

@@ -1,5 +1,6 @@
 -- What each kind asks of its blocks, kind by kind, as the table of docs/FORMAT.md tells it; and what follows from one column of it.
 use Rattle.std.specs.Prelude.{ℕ, ℤ, pos, negsuc, Bool, true, false, nat_eq, ◌||◌}
+use Rattle.sci_base.specs.declared.limits.TheConstants.{PORTS, DELAY}
 use Rattle.sci_forms.specs.declared.Kind.{Kind}
 use Rattle.sci_forms.specs.declared.Kind.TheVariants.{Const, Summation, GainBlk, Product, AbsValue, Signum, MaxMin, Saturation, DeadBand, Convert, Mux, Demux, Extractor, LogicalOp, RelationalOp, Shift, BitSet, BitClear, ExtractBits, Switch2, Select, Logic, AndLog, Dollar, SampHold, Register, ModuloCount, GatedDelay, Sensor, EvtDly, EvtVarDly, IfThEl, ESelect, Halt}
 use Rattle.sci_forms.specs.declared.form.Form.{Form}
@@ -27,7 +28,7 @@ exactly n = From n n
 
 -- from two on, as many as a block may have
 abbrev pub many : Count
-many = From 2 64
+many = From 2 PORTS
 
 abbrev pub one : Param → Params
 one p = record { count = Exactly 1; first = p; second = Any; third = Any }
@@ -73,7 +74,7 @@ form Convert = record usual { params = one Mode; types = AnyOutput }
 form Mux = record usual { ins = many; sizes = Stacked }
 form Demux = record usual { outs = many; sizes = Cut }
 form Extractor = record usual { params = each PerRow Element; sizes = Chosen }
-form LogicalOp = record usual { ins = From 1 64; params = two Operation Flag }
+form LogicalOp = record usual { ins = From 1 PORTS; params = two Operation Flag }
 form RelationalOp = record usual { ins = exactly 2; params = one (Between (pos 0) (pos 5)); types = AnyOutput }
 form Shift = record usual { params = two Places Flag }
 form BitSet = record usual { params = one Bit }
@@ -89,7 +90,7 @@ form Register = record usual { feedthrough = NoInput; role = State Moving; holds
 form ModuloCount = record usual { ins = exactly 0; evtin = exactly 1; feedthrough = NoInput; params = one Base; role = State Counter; holds_state = true; sizes = Scalars }
 form GatedDelay = record usual { ins = exactly 2; feedthrough = SecondInput; role = State Elements; types = AnySecond; sizes = ScalarSecond }
 form Sensor = record usual { ins = exactly 0; evtin = exactly 1; feedthrough = NoInput; params = one (Between (pos 1) (pos 255)); role = Senses; sizes = Scalars }
-form EvtDly = record usual { ins = exactly 0; outs = exactly 0; evtin = exactly 1; evtout = exactly 1; feedthrough = NoInput; params = one (Between (negsuc 0) (pos 2147483647)); role = Delay }
+form EvtDly = record usual { ins = exactly 0; outs = exactly 0; evtin = exactly 1; evtout = exactly 1; feedthrough = NoInput; params = one (Between (negsuc 0) DELAY); role = Delay }
 form EvtVarDly = record usual { outs = exactly 0; evtin = exactly 1; evtout = exactly 1; feedthrough = NoInput; role = Delay; sizes = Scalars }
 form IfThEl = record usual { outs = exactly 0; evtout = exactly 2; role = Branch; sizes = Scalars }
 form ESelect = record usual { outs = exactly 0; evtout = many; role = Branch; sizes = Scalars }

@@ -1,5 +1,6 @@
 -- What the forms of kinds ask of a block: counts of ports, feedthrough, parameters, state, types and sizes.
 use Rattle.std.specs.Prelude.{ℕ, zero, suc, ◌+◌, ◌-◌, ◌*◌, ◌^◌, ℤ, pos, negsuc, ◌-ℤ◌, List, [], ◌∷◌, ◌++◌, length, Bool, true, false, ◌&&◌, ◌||◌, not, nat_eq, nat_lt, nat_le, int_lt, int_le, if◌then◌else◌, Option, Some, None, is_none, unsigned_abs}
+use Rattle.sci_base.specs.declared.limits.TheConstants.{DELAY}
 use Rattle.sci_base.specs.declared.Ty.{Ty}
 use Rattle.sci_base.specs.Fit.{int_eq, in_range, width}
 use Rattle.sci_base.specs.Lists.{at, truth_at}
@@ -147,7 +148,7 @@ state_ok c ps xs k = is_state_value (role_of c) ps xs k
 
 -- the first date of an activation output
 abbrev pub firing_ok : ℤ → Bool
-firing_ok v = int_le v (pos 2147483647)
+firing_ok v = int_le v DELAY
 
 -- ---- types
 

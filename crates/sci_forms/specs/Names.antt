@@ -1,5 +1,5 @@
 -- The kinds' names and numbers.
-use Rattle.std.specs.Prelude.{ℕ, List, Option, Some, None, nat_eq, if◌then◌else◌, codes, bytes_eq}
+use Rattle.std.specs.Prelude.{ℕ, List, [], ◌∷◌, Option, Some, None, nat_eq, if◌then◌else◌, codes, bytes_eq}
 use Rattle.sci_forms.specs.declared.Kind.{Kind}
 use Rattle.sci_forms.specs.declared.Kind.TheVariants.{Const, Summation, GainBlk, Product, AbsValue, Signum, MaxMin, Saturation, DeadBand, Convert, Mux, Demux, Extractor, LogicalOp, RelationalOp, Shift, BitSet, BitClear, ExtractBits, Switch2, Select, Logic, AndLog, Dollar, SampHold, Register, ModuloCount, GatedDelay, Sensor, EvtDly, EvtVarDly, IfThEl, ESelect, Halt}
 
@@ -74,6 +74,10 @@ number_of EvtVarDly = 31
 number_of IfThEl = 32
 number_of ESelect = 33
 number_of Halt = 34
+
+-- all kinds, in the order of their numbers
+abbrev pub all_kinds : List Kind
+all_kinds = Const ∷ Summation ∷ GainBlk ∷ Product ∷ AbsValue ∷ Signum ∷ MaxMin ∷ Saturation ∷ DeadBand ∷ Convert ∷ Mux ∷ Demux ∷ Extractor ∷ LogicalOp ∷ RelationalOp ∷ Shift ∷ BitSet ∷ BitClear ∷ ExtractBits ∷ Switch2 ∷ Select ∷ Logic ∷ AndLog ∷ Dollar ∷ SampHold ∷ Register ∷ ModuloCount ∷ GatedDelay ∷ Sensor ∷ EvtDly ∷ EvtVarDly ∷ IfThEl ∷ ESelect ∷ Halt ∷ []
 
 -- the kind of a name
 abbrev pub by_name : List ℕ → Option Kind

@@ -1,5 +1,6 @@
 -- The rules on types and sizes of a spec whose ports are known, and typed specs.
 use Rattle.std.specs.Prelude.{ℕ, ◌+◌, ℤ, pos, List, length, Bool, ◌&&◌, nat_eq, nat_le, int_le, if◌then◌else◌, Option, is_none}
+use Rattle.sci_base.specs.declared.limits.TheConstants.{PORT_ELEMENTS}
 use Rattle.sci_base.specs.Lists.{at}
 use Rattle.sci_forms.specs.declared.Kind.{Kind}
 use Rattle.sci_forms.specs.declared.forms.Counts.{Counts}
@@ -77,7 +78,7 @@ known_in s k = is_known (port_at s.ins k)
 
 -- an output has at most 256 elements
 abbrev pub known_out : Spec → ℕ → Bool
-known_out s k = is_known (port_at s.outs k) && nat_le (elements (port_at s.outs k)) 256
+known_out s k = is_known (port_at s.outs k) && nat_le (elements (port_at s.outs k)) PORT_ELEMENTS
 
 abbrev pub known_of : Spec → Bool
 known_of s =

@@ -6,7 +6,7 @@ use sci_base::{Rule, Stop};
 use std::alloc::Global;
 
 /// The numbers that a refusal shows.
-#[derive(Clone, Copy, Debug, Drop, PartialEq, Eq)]
+#[derive(Clone, Copy, Drop)]
 pub enum Detail {
     Empty,
     Pair(i64, i64),
@@ -14,7 +14,7 @@ pub enum Detail {
 }
 
 /// A rule that a block breaks.
-#[derive(Clone, Copy, Debug, Drop, PartialEq, Eq)]
+#[derive(Clone, Copy, Drop)]
 pub struct Broken {
     pub rule: Rule,
     pub detail: Detail,

@@ -3,9 +3,10 @@ ghost use Rattle.std.specs.Prelude.{◌≡◌};
 ghost use Rattle.sci_forms.specs.Form.{form, role_of, is_sensor, is_halt, is_sync, has_delay, has_state, remembers, feeds, reads_mask, one, two, three, each};
 
 use crate::Kind;
+use sci_base::limits;
 
 /// How many ports of a class a block has.
-#[derive(Clone, Copy, Debug, Drop, PartialEq, Eq)]
+#[derive(Clone, Copy, Drop)]
 pub enum Count {
     /// So many, at least and at most.
     Between(usize, usize),
@@ -14,7 +15,7 @@ pub enum Count {
 }
 
 /// Which inputs have direct feedthrough: within a reaction the outputs, or the branch that is taken, depend on their values.
-#[derive(Clone, Copy, Debug, Drop, PartialEq, Eq)]
+#[derive(Clone, Copy, Drop)]
 pub enum Feedthrough {
     /// None of them.
     None,
@@ -25,7 +26,7 @@ pub enum Feedthrough {
 }
 
 /// What a state is.
-#[derive(Clone, Copy, Debug, Drop, PartialEq, Eq)]
+#[derive(Clone, Copy, Drop)]
 pub enum Memory {
     /// A value for each element of the output, in its type; `dstate` has these, or one for all.
     Elements,
@@ -36,7 +37,7 @@ pub enum Memory {
 }
 
 /// What a kind's blocks do beside giving values.
-#[derive(Clone, Copy, Debug, Drop, PartialEq, Eq)]
+#[derive(Clone, Copy, Drop)]
 pub enum Role {
     /// They give values alone.
     Values,
@@ -53,7 +54,7 @@ pub enum Role {
 }
 
 /// How many parameters a block has.
-#[derive(Clone, Copy, Debug, Drop, PartialEq, Eq)]
+#[derive(Clone, Copy, Drop)]
 pub enum ParamCount {
     /// So many.
     Exactly(usize),
@@ -68,7 +69,7 @@ pub enum ParamCount {
 }
 
 /// What a parameter is.
-#[derive(Clone, Copy, Debug, Drop, PartialEq, Eq)]
+#[derive(Clone, Copy, Drop)]
 pub enum Param {
     /// Any number.
     Any,
@@ -99,7 +100,7 @@ pub enum Param {
 }
 
 /// The parameters: how many, and what the first, the second and each one behind these are.
-#[derive(Clone, Copy, Debug, Drop, PartialEq, Eq)]
+#[derive(Clone, Copy, Drop)]
 pub struct Params {
     pub count: ParamCount,
     pub first: Param,
@@ -108,7 +109,7 @@ pub struct Params {
 }
 
 /// The types of the ports.
-#[derive(Clone, Copy, Debug, Drop, PartialEq, Eq)]
+#[derive(Clone, Copy, Drop)]
 pub enum Types {
     /// One type for all.
     Alike,
@@ -123,7 +124,7 @@ pub enum Types {
 }
 
 /// The sizes of the ports.
-#[derive(Clone, Copy, Debug, Drop, PartialEq, Eq)]
+#[derive(Clone, Copy, Drop)]
 pub enum Sizes {
     /// One size for all.
     Alike,
@@ -140,7 +141,7 @@ pub enum Sizes {
 }
 
 /// Whether it means something which activation inputs are activated.
-#[derive(Clone, Copy, Debug, Drop, PartialEq, Eq)]
+#[derive(Clone, Copy, Drop)]
 pub enum Mask {
     /// No.
     Unread,
@@ -151,7 +152,7 @@ pub enum Mask {
 }
 
 /// What a kind asks of its blocks.
-#[derive(Clone, Copy, Debug, Drop, PartialEq, Eq)]
+#[derive(Clone, Copy, Drop)]
 pub struct Form {
     pub ins: Count,
     pub outs: Count,
@@ -175,7 +176,7 @@ const TWO: Count = Count::Between(2, 2);
 
 const THREE: Count = Count::Between(3, 3);
 /// From two on, as many as a block may have.
-const MANY: Count = Count::Between(2, 64);
+const MANY: Count = Count::Between(2, limits::PORTS as usize);
 
 /// Parameters of which the first is so, and no other is there.
 const fn one(first: Param) -> Params
@@ -317,7 +318,7 @@ impl Kind {
                 ..USUAL
             },
             Kind::LogicalOp => Form {
-                ins: Count::Between(1, 64),
+                ins: Count::Between(1, limits::PORTS as usize),
                 params: two(Param::Operation, Param::Flag),
                 ..USUAL
             },
@@ -423,7 +424,7 @@ impl Kind {
                 evtin: ONE,
                 evtout: ONE,
                 feedthrough: Feedthrough::None,
-                params: one(Param::Between(-1, 2147483647)),
+                params: one(Param::Between(-1, limits::DELAY)),
                 role: Role::Delay,
                 ..USUAL
             },

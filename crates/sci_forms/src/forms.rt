@@ -1,13 +1,15 @@
 // The kinds' names and numbers, and their counts of ports.
 ghost use Rattle.std.specs.Prelude.{◌≡◌, IsTrue};
-ghost use Rattle.sci_forms.specs.Names.{name_of, number_of, by_name, kind_at};
+ghost use Rattle.std.specs.Array.Iter.{array_into_iter_items};
+ghost use Rattle.sci_forms.specs.Names.{name_of, number_of, by_name, kind_at, all_kinds};
 ghost use Rattle.sci_forms.specs.Forms.{counts_of, least_of, most_of};
 
 use crate::Kind;
 use crate::form::Count;
+use std::array;
 
 /// The least and the most of each class of ports.
-#[derive(Clone, Copy, Debug, Drop, PartialEq, Eq)]
+#[derive(Clone, Copy, Drop)]
 pub struct Counts {
     pub ins_least: usize,
     pub ins_most: usize,
@@ -23,47 +25,59 @@ pub struct Counts {
 pub const KINDS: u8 = 34;
 
 impl Kind {
+    /// All kinds, in the order of their numbers.
+    pub fn iter() -> array::IntoIter<Kind, 34>
+        ensures { array_into_iter_items result ≡ all_kinds }
+    {
+        [
+            Kind::Const,
+            Kind::Summation,
+            Kind::GainBlk,
+            Kind::Product,
+            Kind::AbsValue,
+            Kind::Signum,
+            Kind::MaxMin,
+            Kind::Saturation,
+            Kind::DeadBand,
+            Kind::Convert,
+            Kind::Mux,
+            Kind::Demux,
+            Kind::Extractor,
+            Kind::LogicalOp,
+            Kind::RelationalOp,
+            Kind::Shift,
+            Kind::BitSet,
+            Kind::BitClear,
+            Kind::ExtractBits,
+            Kind::Switch2,
+            Kind::Select,
+            Kind::Logic,
+            Kind::AndLog,
+            Kind::Dollar,
+            Kind::SampHold,
+            Kind::Register,
+            Kind::ModuloCount,
+            Kind::GatedDelay,
+            Kind::Sensor,
+            Kind::EvtDly,
+            Kind::EvtVarDly,
+            Kind::IfThEl,
+            Kind::ESelect,
+            Kind::Halt,
+        ]
+        .into_iter()
+    }
+
     /// The kind of a name.
     pub fn by_name(s: &str) -> Option<Kind>
         ensures { result ≡ by_name s.now }
     {
-        match s {
-            "CONST_m" => Some(Kind::Const),
-            "SUMMATION" => Some(Kind::Summation),
-            "GAINBLK" => Some(Kind::GainBlk),
-            "PRODUCT" => Some(Kind::Product),
-            "ABS_VALUE" => Some(Kind::AbsValue),
-            "SIGNUM" => Some(Kind::Signum),
-            "MAXMIN" => Some(Kind::MaxMin),
-            "SATURATION" => Some(Kind::Saturation),
-            "DEADBAND" => Some(Kind::DeadBand),
-            "CONVERT" => Some(Kind::Convert),
-            "MUX" => Some(Kind::Mux),
-            "DEMUX" => Some(Kind::Demux),
-            "EXTRACTOR" => Some(Kind::Extractor),
-            "LOGICAL_OP" => Some(Kind::LogicalOp),
-            "RELATIONALOP" => Some(Kind::RelationalOp),
-            "SHIFT" => Some(Kind::Shift),
-            "BITSET" => Some(Kind::BitSet),
-            "BITCLEAR" => Some(Kind::BitClear),
-            "EXTRACTBITS" => Some(Kind::ExtractBits),
-            "SWITCH2_m" => Some(Kind::Switch2),
-            "SELECT_m" => Some(Kind::Select),
-            "LOGIC" => Some(Kind::Logic),
-            "ANDLOG_f" => Some(Kind::AndLog),
-            "DOLLAR_m" => Some(Kind::Dollar),
-            "SAMPHOLD_m" => Some(Kind::SampHold),
-            "REGISTER" => Some(Kind::Register),
-            "Modulo_Count" => Some(Kind::ModuloCount),
-            "GATED_DELAY" => Some(Kind::GatedDelay),
-            "SENSOR" => Some(Kind::Sensor),
-            "EVTDLY_c" => Some(Kind::EvtDly),
-            "EVTVARDLY" => Some(Kind::EvtVarDly),
-            "IFTHEL_f" => Some(Kind::IfThEl),
-            "ESELECT_f" => Some(Kind::ESelect),
-            "HALT_f" => Some(Kind::Halt),
-            _ => None,
+        for kind in Kind::iter() {
+            if s == kind.name() {
+                return Some(kind);
+            }
         }
+        None
     }
 
     /// The name of the kind.
@@ -112,42 +126,7 @@ impl Kind {
     pub fn number(self) -> u8
         ensures { result ≡ number_of self }
     {
-        match self {
-            Kind::Const => 1,
-            Kind::Summation => 2,
-            Kind::GainBlk => 3,
-            Kind::Product => 4,
-            Kind::AbsValue => 5,
-            Kind::Signum => 6,
-            Kind::MaxMin => 7,
-            Kind::Saturation => 8,
-            Kind::DeadBand => 9,
-            Kind::Convert => 10,
-            Kind::Mux => 11,
-            Kind::Demux => 12,
-            Kind::Extractor => 13,
-            Kind::LogicalOp => 14,
-            Kind::RelationalOp => 15,
-            Kind::Shift => 16,
-            Kind::BitSet => 17,
-            Kind::BitClear => 18,
-            Kind::ExtractBits => 19,
-            Kind::Switch2 => 20,
-            Kind::Select => 21,
-            Kind::Logic => 22,
-            Kind::AndLog => 23,
-            Kind::Dollar => 24,
-            Kind::SampHold => 25,
-            Kind::Register => 26,
-            Kind::ModuloCount => 27,
-            Kind::GatedDelay => 28,
-            Kind::Sensor => 29,
-            Kind::EvtDly => 30,
-            Kind::EvtVarDly => 31,
-            Kind::IfThEl => 32,
-            Kind::ESelect => 33,
-            Kind::Halt => 34,
-        }
+        self as u8
     }
 
     /// The kind of a number.

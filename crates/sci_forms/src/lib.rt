@@ -20,10 +20,10 @@ pub use spec::Spec;
 
 /// The kinds of block, in the order of their numbers, each with the name that a diagram's `gui` has. In what follows u1, u2, ..
 /// are a block's inputs, y1, y2, .. its outputs and x its state; operations go element by element.
-#[derive(Clone, Copy, Debug, Drop, PartialEq, Eq)]
+#[derive(Clone, Copy, Drop)]
 pub enum Kind {
     /// `CONST_m`: y is the parameters.
-    Const,
+    Const = 1,
     /// `SUMMATION`: the sum of the inputs, each with its sign, fitted once.
     Summation,
     /// `GAINBLK`: u1 times a number.

@@ -8,7 +8,7 @@ use std::marker::Model;
 
 /// A regular port: its size and the code of its type, 3 to 8 for the integer types. A number below 0 stands for an unknown,
 /// the same for each port of the block that has this number; a size of 0 is an unknown of its own.
-#[derive(Clone, Copy, Debug, Drop, PartialEq, Eq)]
+#[derive(Clone, Copy, Drop)]
 pub struct Port {
     pub rows: i64,
     pub cols: i64,

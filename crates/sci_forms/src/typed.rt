@@ -1,12 +1,16 @@
 // The rules on types and sizes of a spec, and whether a spec is typed.
-ghost use Rattle.std.specs.Prelude.{◌≡◌, ◌<◌, ◌≤◌, ◌^◌, ◌+◌, ◌∷◌, [], pos, length, ℕ, ℤ, IfSome, None, Some, true, not, ◌&&◌, ◌||◌, int_le, nat_le, nat_eq, ◌-ℤ◌, if◌then◌else◌};
+ghost use Rattle.std.specs.Prelude.{◌≡◌, ◌<◌, ◌≤◌, ◌^◌, ◌+◌, ◌∷◌, [], pos, length, ℕ, ℤ, IfSome, None, Some, true, not, ◌&&◌, ◌||◌, int_le, nat_le};
+ghost use Rattle.std.specs.Prelude.{nat_eq, ◌-ℤ◌, if◌then◌else◌};
 ghost use Rattle.sci_base.specs.Fit.{in_range, int_eq, width};
 ghost use Rattle.sci_base.specs.Lists.{at};
 ghost use Rattle.sci_forms.specs.Ports.{port_at, elements, type_of, sum_rows};
-ghost use Rattle.sci_forms.specs.Forms.{first_not, counts_of, state_len_ok, firing_ok, first_port, any_in, any_out, type_wanted, in_type_ok, out_type_ok, param_fits, state_fits, is_scalar, same_size, is_column, as_first, suits, in_size_ok, out_size_ok, is_spread, params_spread, state_spread, names_element, index_ok};
+ghost use Rattle.sci_forms.specs.Forms.{first_not, counts_of, state_len_ok, firing_ok, first_port, any_in, any_out, type_wanted, in_type_ok, out_type_ok};
+ghost use Rattle.sci_forms.specs.Forms.{param_fits, state_fits, is_scalar, same_size, is_column, as_first, suits, in_size_ok, out_size_ok, is_spread};
+ghost use Rattle.sci_forms.specs.Forms.{params_spread, state_spread, names_element, index_ok};
 ghost use Rattle.sci_forms.specs.Form.{has_state, has_delay};
 ghost use Rattle.sci_forms.specs.Words.{state_len_of, held_of};
-ghost use Rattle.sci_forms.specs.Typed.{is_known, known_in, known_out, known_of, param_fits_at, state_fits_at, types_broken_of, sizes_broken_of, type_not_here, value_not_here, wrong_size, wrong_shape, formed_of, feed_ok, counted, typed};
+ghost use Rattle.sci_forms.specs.Typed.{is_known, known_in, known_out, known_of, param_fits_at, state_fits_at, types_broken_of, sizes_broken_of};
+ghost use Rattle.sci_forms.specs.Typed.{type_not_here, value_not_here, wrong_size, wrong_shape, formed_of, feed_ok, counted, typed};
 
 use crate::Kind;
 use crate::broken::{Broken, Detail};
@@ -400,7 +404,8 @@ impl Spec {
     }
 
     fn has_firing(&self) -> bool
-        ensures { result ≡ (if has_delay self.now.kind then nat_eq (length self.now.firing) 1 && firing_ok (at self.now.firing 0) else nat_eq (length self.now.firing) 0) }
+        ensures { result ≡ (if has_delay self.now.kind then nat_eq (length self.now.firing) 1
+            && firing_ok (at self.now.firing 0) else nat_eq (length self.now.firing) 0) }
     {
         if self.kind.has_delay() {
             self.firing.len() == 1 && self.firing.at(0) <= 2147483647

@@ -5,7 +5,8 @@ ghost use Rattle.sci_base.specs.Fit.{int_eq};
 ghost use Rattle.sci_forms.specs.declared.Kind.TheVariants.{Logic as LogicKind, ModuloCount as CountKind};
 ghost use Rattle.sci_forms.specs.declared.form.Param.{Param};
 ghost use Rattle.sci_forms.specs.declared.form.Param.TheVariants.{High, LastBit};
-ghost use Rattle.sci_forms.specs.Forms.{by_place, is_param, between, is_sign, is_operation, params_len_ok, param_ok, state_len_ok, state_ok, within, first_not, fed, unfed, own_feed};
+ghost use Rattle.sci_forms.specs.Forms.{by_place, is_param, between, is_sign, is_operation, params_len_ok, param_ok, state_len_ok, state_ok, within};
+ghost use Rattle.sci_forms.specs.Forms.{first_not, fed, unfed, own_feed};
 
 use crate::Kind;
 use crate::form::{Memory, Param, ParamCount, Params, Role};

@@ -3,6 +3,7 @@ use Rattle.std.specs.Prelude.{ℕ, ◌+◌, ℤ, pos, List, [], ◌∷◌, ◌++
 use Rattle.std.specs.List.{list_any}
 use Rattle.std.specs.Option.{option_eq}
 use Rattle.std.specs.Str.{bytes_eq}
+use Rattle.sci_base.specs.declared.limits.TheConstants.{TAGS}
 use Rattle.sci_base.specs.declared.refusal.Rule.{Rule}
 use Rattle.sci_base.specs.declared.refusal.Rule.TheVariants.{TagShape, TagTwice, TagMissing, TooManyTags}
 use Rattle.sci_base.specs.Plain.{Violation}
@@ -110,7 +111,7 @@ abbrev pub by_tag : Rule → List ℕ → Tag → Violation
 by_tag rule place t = record { rule = rule; place = place; detail = pos t.number ∷ [] }
 
 abbrev pub few_enough : ℕ → Outcome (Unit {0})
-few_enough n = if nat_le n 1024 then Ok tt else Err (too_many_tags n)
+few_enough n = if nat_le n TAGS then Ok tt else Err (too_many_tags n)
 
 -- one more that gives a tag: no earlier one gives the same tag there
 abbrev pub given_once : Tags → Giving → Outcome Tags

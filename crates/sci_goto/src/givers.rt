@@ -101,8 +101,10 @@ impl Givers {
         scope: Scope,
     ) -> Result<(), Stop>
         requires { t.now.form ≡ Gives tag scope }
-        ensures ok { (ss : List Standing) (tags : Tags) → length ss ≡ n → HoldsGivers self.old ss tags.givers → OnOk result (IsJoined self.new (ss ++ standing_of t.now ∷ []) (given_once tags (giving (standing_of t.now) tag scope))) }
-        ensures stop { (ss : List Standing) (tags : Tags) → HoldsGivers self.old ss tags.givers → IfErr result (λ e. Stops (given_once tags (giving (standing_of t.now) tag scope)) e) }
+        ensures ok { (ss : List Standing) (tags : Tags) → length ss ≡ n → HoldsGivers self.old ss tags.givers
+            → OnOk result (IsJoined self.new (ss ++ standing_of t.now ∷ []) (given_once tags (giving (standing_of t.now) tag scope))) }
+        ensures stop { (ss : List Standing) (tags : Tags) → HoldsGivers self.old ss tags.givers
+            → IfErr result (λ e. Stops (given_once tags (giving (standing_of t.now) tag scope)) e) }
     {
         let key = ScopedTag::of(alloc, tag, scope, t.around.path.as_slice())?;
         match self.positions.insert(key, n)? {
@@ -113,8 +115,10 @@ impl Givers {
 
     /// Takes the `n`-th of the tag objects.
     fn add(&mut self, alloc: Global, n: usize, t: &PlacedTag) -> Result<(), Stop>
-        ensures ok { (ss : List Standing) (tags : Tags) → length ss ≡ n → HoldsGivers self.old ss tags.givers → OnOk result (IsJoined self.new (ss ++ standing_of t.now ∷ []) (joined tags (standing_of t.now) t.now.form)) }
-        ensures stop { (ss : List Standing) (tags : Tags) → HoldsGivers self.old ss tags.givers → IfErr result (λ e. Stops (joined tags (standing_of t.now) t.now.form) e) }
+        ensures ok { (ss : List Standing) (tags : Tags) → length ss ≡ n → HoldsGivers self.old ss tags.givers
+            → OnOk result (IsJoined self.new (ss ++ standing_of t.now ∷ []) (joined tags (standing_of t.now) t.now.form)) }
+        ensures stop { (ss : List Standing) (tags : Tags) → HoldsGivers self.old ss tags.givers
+            → IfErr result (λ e. Stops (joined tags (standing_of t.now) t.now.form) e) }
     {
         match t.form {
             TagForm::WrongPorts => Err(ill_formed(alloc, t, 1)),

@@ -32,7 +32,8 @@ fn add_block(
     position: u32,
     tags: &mut Vec<PlacedTag>,
 ) -> Result<(), NoMemory>
-    ensures { OnOk result (map standing_of tags.new.items ≡ map standing_of tags.old.items ++ standing_as at.now (at.now ++ position ∷ []) (form_of (pass_through gui.now) (fields_of f.now))) }
+    ensures { OnOk result (map standing_of tags.new.items ≡ map standing_of tags.old.items
+        ++ standing_as at.now (at.now ++ position ∷ []) (form_of (pass_through gui.now) (fields_of f.now))) }
 {
     match TagForm::of(gui, f) {
         None => Ok(()),
@@ -58,7 +59,8 @@ fn add_inside(
     tags: &mut Vec<PlacedTag>,
 ) -> Result<(), NoMemory>
     requires short { AreListsShort (diagram_view inner.now) }
-    ensures { OnOk result (map standing_of tags.new.items ≡ map standing_of tags.old.items ++ standing_in (at.now ++ position ∷ []) 1 (diagram_view inner.now)) }
+    ensures { OnOk result (map standing_of tags.new.items ≡ map standing_of tags.old.items
+        ++ standing_in (at.now ++ position ∷ []) 1 (diagram_view inner.now)) }
 {
     let here = child(alloc, at, position)?;
     add_diagram(alloc, inner, here.as_slice(), tags)
@@ -75,7 +77,8 @@ fn add_object(
     tags: &mut Vec<PlacedTag>,
 ) -> Result<(), NoMemory>
     requires short { IsInsideShort (object_view obj.now) }
-    ensures { OnOk result (map standing_of tags.new.items ≡ map standing_of tags.old.items ++ object_standing at.now (at.now ++ position ∷ []) (object_view obj.now)) }
+    ensures { OnOk result (map standing_of tags.new.items ≡ map standing_of tags.old.items
+        ++ object_standing at.now (at.now ++ position ∷ []) (object_view obj.now)) }
 {
     match obj {
         Obj::Block(b) => match &b.inner {

@@ -35,8 +35,10 @@ fn serving_of(
     n: usize,
     t: &PlacedTag,
 ) -> Result<Option<Serving>, Stop>
-    ensures ok { (ss : List Standing) (gs : List Giving) → HoldsGivers givers.now ss gs → n < length ss → standing_at ss n ≡ standing_of t.now → IfOk result (λ o. Serve ss gs (takings_as (standing_of t.now) t.now.form) (option_to_list o)) }
-    ensures stop { (ss : List Standing) (gs : List Giving) → HoldsGivers givers.now ss gs → IfErr result (λ e. Stops (all_served gs (takings_as (standing_of t.now) t.now.form)) e) }
+    ensures ok { (ss : List Standing) (gs : List Giving) → HoldsGivers givers.now ss gs → n < length ss → standing_at ss n ≡ standing_of t.now
+        → IfOk result (λ o. Serve ss gs (takings_as (standing_of t.now) t.now.form) (option_to_list o)) }
+    ensures stop { (ss : List Standing) (gs : List Giving) → HoldsGivers givers.now ss gs
+        → IfErr result (λ e. Stops (all_served gs (takings_as (standing_of t.now) t.now.form)) e) }
 {
     match t.form {
         TagForm::Takes(tag) => match givers.server(alloc, t, tag)? {
@@ -49,8 +51,10 @@ fn serving_of(
 
 /// What serves each of the tag objects that takes a tag.
 fn servings(alloc: Global, givers: &Givers, tags: &[PlacedTag]) -> Result<Vec<Serving>, Stop>
-    ensures ok { (gs : List Giving) → HoldsGivers givers.now (map standing_of tags.now) gs → IfOk result (λ v. Serve (map standing_of tags.now) gs (takings (map standing_of tags.now)) v.items) }
-    ensures stop { (gs : List Giving) → HoldsGivers givers.now (map standing_of tags.now) gs → IfErr result (λ e. Stops (all_served gs (takings (map standing_of tags.now))) e) }
+    ensures ok { (gs : List Giving) → HoldsGivers givers.now (map standing_of tags.now) gs
+        → IfOk result (λ v. Serve (map standing_of tags.now) gs (takings (map standing_of tags.now)) v.items) }
+    ensures stop { (gs : List Giving) → HoldsGivers givers.now (map standing_of tags.now) gs
+        → IfErr result (λ e. Stops (all_served gs (takings (map standing_of tags.now))) e) }
 {
     let mut servings = Vec::new(alloc);
     for (n, t) in tags.iter().enumerate() {

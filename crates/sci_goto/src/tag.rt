@@ -4,7 +4,7 @@ use sci_base::BlockFields;
 use sci_blocks::{LinkType, PassThrough, has_its_ports};
 
 /// A tag: those of values and those of activations are apart.
-#[derive(Clone, Copy, Debug, Drop, PartialEq, Eq, PartialOrd, Ord)]
+#[derive(Clone, Copy, Drop, PartialEq, Eq, PartialOrd, Ord)]
 pub struct Tag {
     pub link: LinkType,
     /// From 1 to 2^31-1.
@@ -12,7 +12,7 @@ pub struct Tag {
 }
 
 /// Where a tag is given.
-#[derive(Clone, Copy, Debug, Drop, PartialEq, Eq)]
+#[derive(Clone, Copy, Drop)]
 pub enum Scope {
     /// To the objects of the same diagram.
     Local,
@@ -21,7 +21,7 @@ pub enum Scope {
 }
 
 /// What a tag object says by its ports and its parameters.
-#[derive(Clone, Copy, Debug, Drop, PartialEq, Eq)]
+#[derive(Clone, Copy, Drop)]
 pub enum TagForm {
     /// Its counts of ports aren't those of its name.
     WrongPorts,

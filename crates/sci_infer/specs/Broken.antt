@@ -1,5 +1,6 @@
 -- The rules on the types and sizes of a net whose typing is known.
 use Rattle.std.specs.Prelude.{ℕ, ◌+◌, pos, List, [], ◌∷◌, Option, Some, None, nat_le, if◌then◌else◌}
+use Rattle.sci_base.specs.declared.limits.TheConstants.{PORT_ELEMENTS, ALL_ELEMENTS}
 use Rattle.sci_base.specs.Plain.{Violation}
 use Rattle.sci_base.specs.declared.refusal.Rule.TheVariants.{SignalTooLarge}
 use Rattle.sci_forms.specs.declared.broken.Broken.{Broken}
@@ -33,7 +34,7 @@ specs_broken b (s ∷ ss) = or_else (blamed b (spec_broken s)) (specs_broken (b 
 -- the first output, the first of these having number k, that has more than 256 elements
 abbrev pub outs_large : ℕ → List Port → Option Broken
 outs_large k [] = None
-outs_large k (p ∷ ps) = if nat_le (elements p) 256 then outs_large (k + 1) ps else Some (record { rule = SignalTooLarge; detail = Pair (pos k) (pos (elements p)) })
+outs_large k (p ∷ ps) = if nat_le (elements p) PORT_ELEMENTS then outs_large (k + 1) ps else Some (record { rule = SignalTooLarge; detail = Pair (pos k) (pos (elements p)) })
 
 abbrev pub specs_large : ℕ → List Spec → Option Blamed
 specs_large b [] = None
@@ -41,7 +42,7 @@ specs_large b (s ∷ ss) = or_else (blamed b (outs_large 1 s.outs)) (specs_large
 
 -- all outputs together have more than 65,536 elements; that is no block's fault
 abbrev pub sum_large : List Spec → Option Blamed
-sum_large ss = if nat_le (all_elements ss) 65536 then None else Some (0, record { rule = SignalTooLarge; detail = Pair (pos 0) (pos (all_elements ss)) })
+sum_large ss = if nat_le (all_elements ss) ALL_ELEMENTS then None else Some (0, record { rule = SignalTooLarge; detail = Pair (pos 0) (pos (all_elements ss)) })
 
 -- the first of these rules that a net breaks
 abbrev pub net_broken : List Spec → Option Blamed

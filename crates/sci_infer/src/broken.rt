@@ -1,10 +1,11 @@
 // The rules on the types and sizes of a net whose typing is known.
 ghost use Rattle.std.specs.Prelude.{◌≡◌, ◌<◌, ◌≤◌, ◌+◌, ◌*◌, ◌^◌, length, IfSome, None, All};
+ghost use Rattle.sci_base.specs.declared.limits.TheConstants.{BLOCKS, PORTS};
 ghost use Rattle.sci_forms.specs.Ports.{elements, total};
 ghost use Rattle.sci_net.specs.Net.{all_elements};
 ghost use Rattle.sci_infer.specs.Broken.{spec_broken, specs_broken, outs_large, specs_large, sum_large, net_broken};
 
-use sci_base::Rule;
+use sci_base::{Rule, limits};
 use sci_forms::{Broken, Detail, Ports, Spec};
 
 /// Of one block the rule on types first, then the one on sizes.
@@ -19,7 +20,7 @@ fn spec_broken(spec: &Spec) -> Option<Broken>
 
 /// The first block that breaks a rule on types or sizes, by its number.
 fn specs_broken(specs: &[Spec]) -> Option<(u32, Broken)>
-    requires { length specs.now ≤ 2048 }
+    requires { length specs.now ≤ BLOCKS }
     ensures value { result ≡ specs_broken 1 specs.now }
     ensures block { IfSome result (λ r. r.0 ≤ length specs.now) }
 {
@@ -38,7 +39,7 @@ fn outs_large(ports: &Ports) -> Option<Broken>
 {
     for at in 0..ports.len() {
         let elements = ports.get(at).elements();
-        if elements > 256 {
+        if elements > u128::from(limits::PORT_ELEMENTS) {
             return Some(Broken {
                 rule: Rule::SignalTooLarge,
                 detail: Detail::Pair(at as i64 + 1, elements as i64),
@@ -50,7 +51,7 @@ fn outs_large(ports: &Ports) -> Option<Broken>
 
 /// The first block with such an output, by its number.
 fn specs_large(specs: &[Spec]) -> Option<(u32, Broken)>
-    requires few { length specs.now ≤ 2048 }
+    requires few { length specs.now ≤ BLOCKS }
     requires small { All (λ s. All (λ p. elements p < 2 ^ 63) s.outs) specs.now }
     ensures value { result ≡ specs_large 1 specs.now }
     ensures block { IfSome result (λ r. r.0 ≤ length specs.now) }
@@ -65,7 +66,7 @@ fn specs_large(specs: &[Spec]) -> Option<(u32, Broken)>
 
 /// How many elements the outputs of a block have.
 fn total(ports: &Ports) -> u64
-    requires few { length ports.now ≤ 64 }
+    requires few { length ports.now ≤ PORTS }
     requires small { outs_large 1 ports.now ≡ None }
     ensures value { result ≡ total ports.now }
     ensures most { result ≤ 16384 }
@@ -79,8 +80,8 @@ fn total(ports: &Ports) -> u64
 
 /// How many elements all outputs have.
 fn all_elements(specs: &[Spec]) -> u64
-    requires few { length specs.now ≤ 2048 }
-    requires few_outs { All (λ s. length s.outs ≤ 64) specs.now }
+    requires few { length specs.now ≤ BLOCKS }
+    requires few_outs { All (λ s. length s.outs ≤ PORTS) specs.now }
     requires small { specs_large 1 specs.now ≡ None }
     ensures value { result ≡ all_elements specs.now }
     ensures small { result < 2 ^ 63 }
@@ -94,14 +95,14 @@ fn all_elements(specs: &[Spec]) -> u64
 
 /// All outputs together having more than 65,536 elements.
 fn sum_large(specs: &[Spec]) -> Option<(u32, Broken)>
-    requires few { length specs.now ≤ 2048 }
-    requires few_outs { All (λ s. length s.outs ≤ 64) specs.now }
+    requires few { length specs.now ≤ BLOCKS }
+    requires few_outs { All (λ s. length s.outs ≤ PORTS) specs.now }
     requires small { specs_large 1 specs.now ≡ None }
     ensures value { result ≡ sum_large specs.now }
     ensures block { IfSome result (λ r. r.0 ≡ 0) }
 {
     let sum = all_elements(specs);
-    if sum <= 65536 {
+    if sum <= u64::from(limits::ALL_ELEMENTS) {
         None
     } else {
         Some((
@@ -116,8 +117,8 @@ fn sum_large(specs: &[Spec]) -> Option<(u32, Broken)>
 
 /// The first of these rules that a net breaks, and the block's number; 0 for the diagram as a whole.
 pub fn net_broken(specs: &[Spec]) -> Option<(u32, Broken)>
-    requires few { length specs.now ≤ 2048 }
-    requires few_outs { All (λ s. length s.outs ≤ 64) specs.now }
+    requires few { length specs.now ≤ BLOCKS }
+    requires few_outs { All (λ s. length s.outs ≤ PORTS) specs.now }
     requires small { All (λ s. All (λ p. elements p < 2 ^ 63) s.outs) specs.now }
     ensures value { result ≡ net_broken specs.now }
     ensures block { IfSome result (λ r. r.0 ≤ length specs.now) }

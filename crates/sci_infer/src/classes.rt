@@ -6,7 +6,7 @@ use sci_base::NoMemory;
 use std::alloc::Global;
 
 /// Two things, by their numbers, that belong to one class.
-#[derive(Clone, Copy, Debug, Drop, PartialEq, Eq)]
+#[derive(Clone, Copy, Drop)]
 pub struct Tie {
     pub left: usize,
     pub right: usize,

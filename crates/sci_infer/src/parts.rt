@@ -1,5 +1,6 @@
 // The parts of ports, in order.
 ghost use Rattle.std.specs.Prelude.{◌≡◌, ◌<◌, ◌≤◌, ◌+◌, ◌++◌, ◌∷◌, [], length, OnOk, IfOk, All};
+ghost use Rattle.sci_base.specs.declared.limits.TheConstants.{PORTS};
 ghost use Rattle.sci_infer.specs.Typing.{is_type};
 ghost use Rattle.sci_infer.specs.PortParts.{port_parts, side_parts, block_parts, parts_in};
 ghost use Rattle.sci_infer.specs.Layout.{offset, IsLayout};
@@ -10,14 +11,14 @@ use sci_net::Flat;
 use std::alloc::Global;
 
 /// The two sides of a block.
-#[derive(Clone, Copy, Debug, Drop, PartialEq, Eq)]
+#[derive(Clone, Copy, Drop)]
 pub enum Side {
     Input,
     Output,
 }
 
 /// What is inferred of a port.
-#[derive(Clone, Copy, Debug, Drop, PartialEq, Eq)]
+#[derive(Clone, Copy, Drop)]
 pub enum What {
     DataType,
     Rows,
@@ -26,7 +27,7 @@ pub enum What {
 
 /// A part of a port, and the number that its block declares for it: a number above 0 is fixed, and any other is unknown. Block and
 /// port are counted from 1.
-#[derive(Clone, Copy, Debug, Drop, PartialEq, Eq)]
+#[derive(Clone, Copy, Drop)]
 pub struct Part {
     pub block: u32,
     pub side: Side,
@@ -101,7 +102,7 @@ fn push_port(
 
 /// The parts of one side of a block.
 fn push_side(parts: &mut Vec<Part>, block: u32, side: Side, ports: &Ports) -> Result<(), NoMemory>
-    requires { length ports.now ≤ 64 }
+    requires { length ports.now ≤ PORTS }
     ensures { OnOk result (parts.new.items ≡ parts.old.items ++ side_parts block side 1 ports.now) }
 {
     for at in 0..ports.len() {
@@ -112,8 +113,8 @@ fn push_side(parts: &mut Vec<Part>, block: u32, side: Side, ports: &Ports) -> Re
 
 /// The parts of a block.
 fn push_block(parts: &mut Vec<Part>, number: u32, spec: &Spec) -> Result<(), NoMemory>
-    requires ins { length spec.now.ins ≤ 64 }
-    requires outs { length spec.now.outs ≤ 64 }
+    requires ins { length spec.now.ins ≤ PORTS }
+    requires outs { length spec.now.outs ≤ PORTS }
     ensures { OnOk result (parts.new.items ≡ parts.old.items ++ block_parts number spec.now) }
 {
     push_side(parts, number, Side::Input, &spec.ins)?;

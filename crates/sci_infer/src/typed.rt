@@ -1,5 +1,6 @@
 // Specs with the numbers of a typing.
 ghost use Rattle.std.specs.Prelude.{◌≡◌, ◌≤◌, ◌+◌, ◌*◌, length, All, IfOk, OnOk};
+ghost use Rattle.sci_base.specs.declared.limits.TheConstants.{BLOCKS, PORTS};
 ghost use Rattle.sci_infer.specs.PortParts.{parts_from};
 ghost use Rattle.sci_infer.specs.Typed.{typed_port, typed_ports, typed_spec, typed_specs};
 
@@ -45,8 +46,8 @@ fn fill_spec(alloc: Global, values: &[i64], start: usize, spec: &mut Spec) -> Re
 
 /// How many parts the ports of a spec have.
 fn part_count(spec: &Spec) -> usize
-    requires ins { length spec.now.ins ≤ 64 }
-    requires outs { length spec.now.outs ≤ 64 }
+    requires ins { length spec.now.ins ≤ PORTS }
+    requires outs { length spec.now.outs ≤ PORTS }
     ensures { result ≡ 3 * length spec.now.ins + 3 * length spec.now.outs }
 {
     3 * spec.ins.len() + 3 * spec.outs.len()
@@ -54,9 +55,9 @@ fn part_count(spec: &Spec) -> usize
 
 /// Gives the ports of all specs the numbers of a typing.
 pub fn fill_specs(alloc: Global, values: &[i64], specs: &mut Vec<Spec>) -> Result<(), NoMemory>
-    requires few { length specs.old.items ≤ 2048 }
-    requires few_ins { All (λ s. length s.ins ≤ 64) specs.old.items }
-    requires few_outs { All (λ s. length s.outs ≤ 64) specs.old.items }
+    requires few { length specs.old.items ≤ BLOCKS }
+    requires few_ins { All (λ s. length s.ins ≤ PORTS) specs.old.items }
+    requires few_outs { All (λ s. length s.outs ≤ PORTS) specs.old.items }
     requires long { length values.now ≡ length (parts_from 1 specs.old.items) }
     ensures { OnOk result (specs.new.items ≡ typed_specs values.now 0 specs.old.items) }
 {

@@ -1,5 +1,6 @@
 // One value for each class of numbers, some of which are declared: where a class has two, and where it has none.
-ghost use Rattle.std.specs.Prelude.{IsTrue, ◌↔◌, ◌≡◌, ◌≢◌, ℕ, ℤ, pos, ◌<◌, ◌<ℤ◌, List, length, Option, IfOk, IfSome, IfNone, MatchOption, All, slice_index, slice_index_or};
+ghost use Rattle.std.specs.Prelude.{IsTrue, ◌↔◌, ◌≡◌, ◌≢◌, ℕ, ℤ, pos, ◌<◌, ◌<ℤ◌, List, length, Option, IfOk, IfSome, IfNone, MatchOption, All};
+ghost use Rattle.std.specs.Prelude.{slice_index, slice_index_or};
 ghost use Rattle.sci_infer.specs.Classes.{Joins, AreClasses, IsWithin};
 ghost use Rattle.sci_infer.specs.Values.{IsSpanOf, AreSpans, IsVerdict, IsSplitAt, AreOne, IsFilled, declared_at, widened};
 
@@ -8,7 +9,7 @@ use sci_base::NoMemory;
 use std::alloc::Global;
 
 /// The least and the greatest of some numbers.
-#[derive(Clone, Copy, Debug, Drop, PartialEq, Eq)]
+#[derive(Clone, Copy, Debug, Drop)]
 pub struct Span {
     pub least: i64,
     pub greatest: i64,

@@ -26,7 +26,7 @@ use sci_net::Net;
 use std::alloc::Global;
 
 /// An activation input of a block, both counted from 1.
-#[derive(Clone, Copy, Debug, Drop, PartialEq, Eq)]
+#[derive(Clone, Copy, Drop)]
 pub struct Fed {
     pub block: u32,
     pub input: u32,

@@ -22,7 +22,12 @@ impl Model for Reach {
 
     ghost Value = { Origins };
 
-    ghost view = { λ r. record { always = plain r.always.items; feeding = plain r.feeding.items; branches = plain r.branches.items; onward = plain r.onward.items } };
+    ghost view = { λ r. record {
+      always = plain r.always.items;
+      feeding = plain r.feeding.items;
+      branches = plain r.branches.items;
+      onward = plain r.onward.items;
+    } };
 }
 
 impl Reach {

@@ -2,7 +2,8 @@
 ghost use Rattle.std.specs.Prelude.{◌≡◌, ◌≤◌, ◌+◌, ◌-◌, [], ◌∷◌, length, All, Contains, IfOk, OnOk};
 ghost use Rattle.sci_net.specs.Parts.{AreRising};
 ghost use Rattle.sci_net.specs.declared.Feed.{Feed};
-ghost use Rattle.sci_inherit.specs.Links.{row_at, AreInOrder, ComeBefore, Appends, plain_rows, HasRow, HaveRows, AreEmptyRows, Fills, RowGets, FeedGets, BlockFed, AreRows};
+ghost use Rattle.sci_inherit.specs.Links.{row_at, AreInOrder, ComeBefore, Appends, plain_rows, HasRow, HaveRows, AreEmptyRows, Fills, RowGets, FeedGets};
+ghost use Rattle.sci_inherit.specs.Links.{BlockFed, AreRows};
 
 use crate::Fed;
 use sci_base::NoMemory;

@@ -1,13 +1,12 @@
 -- How a sink that gave on fronts of what was due goes on.
-use Rattle.std.proofs.Common.{◌≡◌, ◌≤◌, ◌+◌, ℕ, List, [], ◌∷◌, ◌++◌, Option, Some, None, refl, sym, ◌∙◌, ap, subst, append_assoc, arith, ◌<◌, length, drop, get_or, add-one}
+use Rattle.std.proofs.Common.{◌≡◌, ◌≤◌, ◌+◌, ℕ, List, [], ◌++◌, Option, Some, None, refl, sym, ◌∙◌, ap, subst, append_assoc, arith, ◌<◌, length, drop, get_or, add-one}
 use Rattle.std.proofs.Math.Seq.{drop-cons}
 use Rattle.std.specs.Borrow.{Bor}
 use Rattle.std.proofs.lemmas.List.{append-nil}
-use Rattle.std.proofs.Math.Bool.{or-true}
-use Rattle.std.specs.Prelude.{Result, Ok, Err, OnOk, OnErr, Bool, true, false, ◌||◌}
-use Rattle.sci_io.specs.Causes.{Rose}
+use Rattle.std.specs.Prelude.{Result, Ok, Err, OnOk, OnErr, Bool, true, false}
+use Rattle.sci_io.specs.Causes.{counted}
 use Rattle.std.specs.Io.KnownBytes.{Appends}
-use Rattle.sci_io.specs.Taken.{SinkState, direct, is_some_text, Advances, TakesFront, Writes, UnderWay, joined}
+use Rattle.sci_io.specs.Taken.{SinkState, direct, Advances, TakesFront, Writes, UnderWay, joined}
 
 pub appends-nil : (old : Option (List ℕ)) → Appends old old []
 appends-nil None = tt
@@ -18,22 +17,6 @@ appends-append None mid new a b first second = tt
 appends-append (Some xs) None new a b first second = absurd first
 appends-append (Some xs) (Some ys) None a b first second = absurd second
 appends-append (Some xs) (Some ys) (Some zs) a b first second = second ∙ (ap (λ (l : List ℕ). l ++ b) first ∙ append_assoc xs a b)
-
--- whether there is a text, where it has two parts
-pub some_text-append : (a b : List ℕ) → is_some_text (a ++ b) ≡ (is_some_text a || is_some_text b)
-some_text-append [] b = refl
-some_text-append (x ∷ xs) b = refl
-
-pub or-nil : (a : Bool) → (a || false) ≡ a
-or-nil true = refl
-or-nil false = refl
-
-or_assoc : (a b c : Bool) → ((a || b) || c) ≡ (a || (b || c))
-or_assoc true b c = refl
-or_assoc false b c = refl
-
-pub begun-append : (s : Bool) (a b : List ℕ) → ((s || is_some_text a) || is_some_text b) ≡ (s || is_some_text (a ++ b))
-begun-append s a b = or_assoc s (is_some_text a) (is_some_text b) ∙ ap (λ (t : Bool). s || t) (sym (some_text-append a b))
 
 -- nothing was given on
 pub stays : (old : Option (List ℕ)) (due : List ℕ) → Advances old old due due
@@ -77,15 +60,15 @@ front_is {old} {new} a b is h = subst (λ (l : List ℕ). TakesFront old new l) 
 
 -- A text is under way from its beginning.
 pub begins : (s : SinkState) (text : List ℕ) → UnderWay s s text text
-begins s text = record { advances = stays s.taken (s.held ++ text); quiet = refl; begun = refl }
+begins s text = record { advances = stays s.taken (s.held ++ text); quiet = refl; works = λ h. h }
 
 -- the next piece of a text under way, taken
 pub piece_taken : {old mid new : SinkState} {text : List ℕ} (piece rest : List ℕ) → UnderWay old mid text (piece ++ rest)
-    → Advances mid.taken new.taken (mid.held ++ piece) new.held → new.faults ≡ mid.faults → new.begun ≡ (mid.begun || is_some_text piece) → UnderWay old new text rest
-piece_taken {old} {mid} {new} {text} piece rest w a quiet begun = record {
+    → Advances mid.taken new.taken (mid.held ++ piece) new.held → new.faults ≡ mid.faults → (mid.failing ≡ false → new.failing ≡ false) → UnderWay old new text rest
+piece_taken {old} {mid} {new} {text} piece rest w a quiet works = record {
   advances = goes_on w.advances (due_is _ _ (append_assoc mid.held piece rest) (carry rest a));
   quiet = quiet ∙ w.quiet;
-  begun = ap (λ (b : Bool). b || is_some_text rest) begun ∙ (begun-append mid.begun piece rest ∙ w.begun);
+  works = λ h. works (w.works h);
 }
 
 -- the next piece of a text under way, cut
@@ -99,21 +82,22 @@ piece_cut {old} {mid} {text} new piece rest w cut =
 pub next_front : {T E : Type 0} {old mid new : SinkState} {text : List ℕ} (piece rest : List ℕ) (r : Result T E) (x : T) → r ≡ Ok x
     → UnderWay old mid text (piece ++ rest) → Writes mid new piece r → UnderWay old new text rest
 next_front {mid = mid} {new = new} piece rest r x is w h =
-    piece_taken piece rest w (subst (λ q. OnOk q (Advances mid.taken new.taken (mid.held ++ piece) new.held)) is h.ok) (subst (λ q. OnOk q (new.faults ≡ mid.faults)) is h.quiet) (subst (λ q. OnOk q (new.begun ≡ (mid.begun || is_some_text piece))) is h.begun)
+    piece_taken piece rest w (subst (λ q. OnOk q (Advances mid.taken new.taken (mid.held ++ piece) new.held)) is h.ok) (subst (λ q. OnOk q (new.faults ≡ mid.faults)) is h.quiet) (subst (λ q. OnOk q (mid.failing ≡ false → new.failing ≡ false)) is h.works)
 
 -- such a step that failed
 pub cut_off : {T E U F : Type 0} {old mid new : SinkState} {text : List ℕ} (piece rest : List ℕ) (r : Result T E) (s : Result U F) (e : E) (f : F) → r ≡ Err e → s ≡ Err f
     → UnderWay old mid text (piece ++ rest) → Writes mid new piece r → Writes old new text s
 cut_off {old = old} {mid = mid} {new = new} {text = text} piece rest r s e f is was w h =
     let cut = piece_cut new piece rest w (subst (λ q. OnErr q (TakesFront mid.taken new.taken (mid.held ++ piece))) is h.cut) in
-    let rose = subst (λ q. OnErr q (Rose mid.faults new.faults)) is h.cause in
+    let one_more = subst (λ q. OnErr q (new.faults ≡ counted mid.faults)) is h.cause in
     subst (λ q. Writes old new text q) (sym was) (record {
       ok = tt;
       quiet = tt;
-      begun = tt;
+      works = tt;
       cut = cut;
       dropped = subst (λ q. OnErr q (new.held ≡ [])) is h.dropped;
-      cause = subst (λ (n : ℕ). Rose n new.faults) w.quiet rose;
+      cause = one_more ∙ ap counted w.quiet;
+      fails = subst (λ q. OnErr q (new.failing ≡ true)) is h.fails;
       later = subst (λ (n : ℕ). n ≤ new.faults) w.quiet h.later;
     })
 
@@ -122,10 +106,11 @@ pub finished : {T E : Type 0} {old new : SinkState} {text : List ℕ} (x : T) �
 finished {old = old} {new = new} {text = text} x w = record {
   ok = subst (λ (l : List ℕ). Advances old.taken new.taken (old.held ++ text) l) (append-nil new.held) w.advances;
   quiet = w.quiet;
-  begun = sym (or-nil new.begun) ∙ w.begun;
+  works = w.works;
   cut = tt;
   dropped = tt;
   cause = tt;
+  fails = tt;
   later = subst (λ (n : ℕ). n ≤ new.faults) w.quiet (omega arith);
 }
 
@@ -153,14 +138,15 @@ pub joined-drop : (ps : List (Bor (List ℕ))) (i : ℕ) (d : Bor (List ℕ)) �
 joined-drop ps i d h = ap joined (drop-cons ps i d h) ∙ ap (λ (n : ℕ). (get_or ps i d).now ++ joined (drop n ps)) (sym (add-one i))
 
 -- a sink that holds nothing back took a piece, or a front of it
-pub direct_took : {T E : Type 0} (old new : Option (List ℕ)) (faults : ℕ) (begun : Bool) (piece : List ℕ) (x : T) → 0 < length piece → Appends old new piece
-    → Writes {T = T} {E = E} (direct old faults begun) (direct new faults true) piece (Ok x)
-direct_took old new faults begun [] x some taken = absurd (omega (arith, some))
-direct_took old new faults begun (b ∷ bs) x some taken = record { ok = gave_all (b ∷ bs) taken; quiet = refl; begun = sym (or-true begun); cut = tt; dropped = tt; cause = tt; later = omega arith }
+pub direct_took : {T E : Type 0} (old new : Option (List ℕ)) (faults : ℕ) (failing : Bool) (piece : List ℕ) (x : T) → Appends old new piece
+    → Writes {T = T} {E = E} (direct old faults failing) (direct new faults false) piece (Ok x)
+direct_took old new faults failing piece x taken =
+    record { ok = gave_all piece taken; quiet = refl; works = λ _. refl; cut = tt; dropped = tt; cause = tt; fails = tt; later = omega arith }
 
-pub direct_cut : {T E : Type 0} (old new : Option (List ℕ)) (before now : ℕ) (begun later : Bool) (piece : List ℕ) (e : E) → TakesFront old new piece → Rose before now → before ≤ now
-    → Writes {T = T} {E = E} (direct old before begun) (direct new now later) piece (Err e)
-direct_cut old new before now begun later piece e front rose more = record { ok = tt; quiet = tt; begun = tt; cut = front; dropped = refl; cause = rose; later = more }
+pub direct_cut : {T E : Type 0} (old new : Option (List ℕ)) (before now : ℕ) (failing : Bool) (piece : List ℕ) (e : E) → TakesFront old new piece → now ≡ counted before → before ≤ now
+    → Writes {T = T} {E = E} (direct old before failing) (direct new now true) piece (Err e)
+direct_cut old new before now failing piece e front one_more later =
+    record { ok = tt; quiet = tt; works = tt; cut = front; dropped = refl; cause = one_more; fails = refl; later = later }
 
 -- a flush of a sink that holds nothing
 pub nothing_due : {T E : Type 0} (s : SinkState) (x : T) → Writes {T = T} {E = E} s s [] (Ok x)

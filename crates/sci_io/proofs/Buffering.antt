@@ -1,41 +1,37 @@
 -- A buffer before a sink: what the sink gave on, and what the buffer holds then.
-use Rattle.std.proofs.Common.{◌≡◌, ◌≤◌, ◌<◌, ◌+◌, ℕ, List, [], ◌∷◌, ◌++◌, length, refl, sym, ◌∙◌, ap, subst, append_assoc, arith, Bool, true, false}
-use Rattle.std.specs.Prelude.{Result, Ok, Err, OnOk, OnErr, nat_le, ◌||◌, if◌then◌else◌}
+use Rattle.std.proofs.Common.{◌≡◌, ◌≤◌, ◌<◌, ◌+◌, ℕ, List, [], ◌++◌, length, refl, sym, ◌∙◌, ap, subst, append_assoc, arith, Bool, true, false}
+use Rattle.std.specs.Prelude.{Result, Ok, Err, OnOk, OnErr, nat_le, if◌then◌else◌}
 use Rattle.std.proofs.lemmas.Bool.{le-leb, lt-leb}
 use Rattle.std.proofs.lemmas.List.{append-nil}
-use Rattle.std.proofs.Math.Bool.{or-true}
-use Rattle.sci_io.specs.Taken.{SinkState, behind, is_some_text, Advances, Writes}
+use Rattle.sci_io.specs.Taken.{SinkState, behind, Advances, Writes}
 use Rattle.sci_io.specs.Buffered.{given_on, held_then}
-use Rattle.sci_io.proofs.Advance.{carry, due_is, cut_short, front_is, nothing_due, or-nil, stopped, then_writes, same_text}
-
--- a piece has a byte
-pub has_begun : (begun : Bool) (piece : List ℕ) → 0 < length piece → true ≡ (begun || is_some_text piece)
-has_begun begun [] some = absurd (omega (arith, some))
-has_begun begun (x ∷ xs) some = sym (or-true begun)
+use Rattle.sci_io.proofs.Advance.{carry, due_is, cut_short, front_is, nothing_due, stopped, then_writes, same_text}
 
 -- The sink gave on a front of the bytes and the piece, and the buffer holds the rest.
 pub buffered : {T E : Type 0} (old new : SinkState) (bytes piece given held now : List ℕ) (before after : Bool) (r : Result T E) → bytes ++ piece ≡ given ++ held
-    → OnOk r (after ≡ (before || is_some_text piece)) → Writes old new given r → OnOk r (now ≡ held) → OnErr r (now ≡ []) → Writes (behind old bytes before) (behind new now after) piece r
-buffered old new bytes piece given held now before after (Ok x) split begun w is none =
+    → OnOk r (after ≡ false) → OnErr r (after ≡ true) → Writes old new given r → OnOk r (now ≡ held) → OnErr r (now ≡ []) → Writes (behind old bytes before) (behind new now after) piece r
+buffered old new bytes piece given held now before after (Ok x) split works fails w is none =
     let whole : (old.held ++ given) ++ held ≡ (old.held ++ bytes) ++ piece = append_assoc old.held given held ∙ (ap (λ (l : List ℕ). old.held ++ l) (sym split) ∙ sym (append_assoc old.held bytes piece)) in
     record {
       ok = due_is _ _ whole (subst (λ (l : List ℕ). Advances old.taken new.taken ((old.held ++ given) ++ held) (new.held ++ l)) (sym is) (carry held w.ok));
       quiet = w.quiet;
-      begun = begun;
+      works = λ _. works;
       cut = tt;
       dropped = tt;
       cause = tt;
+      fails = tt;
       later = w.later;
     }
-buffered old new bytes piece given held now before after (Err e) split begun w is none =
+buffered old new bytes piece given held now before after (Err e) split works fails w is none =
     let whole : (old.held ++ given) ++ held ≡ (old.held ++ bytes) ++ piece = append_assoc old.held given held ∙ (ap (λ (l : List ℕ). old.held ++ l) (sym split) ∙ sym (append_assoc old.held bytes piece)) in
     record {
       ok = tt;
       quiet = tt;
-      begun = tt;
+      works = tt;
       cut = front_is _ _ whole (cut_short held w.cut);
       dropped = ap (λ (l : List ℕ). l ++ now) w.dropped ∙ none;
       cause = w.cause;
+      fails = fails;
       later = w.later;
     }
 
@@ -56,40 +52,42 @@ pub given_held : (room : ℕ) (bytes piece : List ℕ) → bytes ++ piece ≡ gi
 given_held room bytes piece = by_fit bytes piece (nat_le (length bytes + length piece) room) (nat_le (length piece) room)
 
 -- the piece was put into the buffer
-pub kept_back : (old new : SinkState) (bytes piece now : List ℕ) (before after : Bool) {T E : Type 0} (x : T) → 0 < length piece → after ≡ true → new ≡ old → now ≡ bytes ++ piece
+pub kept_back : (old new : SinkState) (bytes piece now : List ℕ) (before after : Bool) {T E : Type 0} (x : T) → after ≡ false → new ≡ old → now ≡ bytes ++ piece
     → Writes {T = T} {E = E} (behind old bytes before) (behind new now after) piece (Ok x)
-kept_back old new bytes piece now before after {T} {E} x some begun same is =
+kept_back old new bytes piece now before after {T} {E} x works same is =
     let inner = subst (λ (s : SinkState). Writes {T = T} {E = E} old s [] (Ok x)) (sym same) (nothing_due old x) in
-    buffered old new bytes piece [] (bytes ++ piece) now before after (Ok x) refl (begun ∙ has_begun before piece some) inner is tt
+    buffered old new bytes piece [] (bytes ++ piece) now before after (Ok x) refl works tt inner is tt
 
 -- the buffer was given on and the piece held
-pub kept_alone : {T E U F : Type 0} (old mid new : SinkState) (bytes piece now : List ℕ) (before after : Bool) (r : Result T E) (x : T) (y : U) → 0 < length piece → after ≡ true → r ≡ Ok x → Writes old mid bytes r
+pub kept_alone : {T E U F : Type 0} (old mid new : SinkState) (bytes piece now : List ℕ) (before after : Bool) (r : Result T E) (x : T) (y : U) → after ≡ false → r ≡ Ok x → Writes old mid bytes r
     → new ≡ mid → now ≡ piece → Writes {T = U} {E = F} (behind old bytes before) (behind new now after) piece (Ok y)
-kept_alone {U = U} {F = F} old mid new bytes piece now before after r x y some begun ok w same is =
+kept_alone {U = U} {F = F} old mid new bytes piece now before after r x y works ok w same is =
     let inner = subst (λ (s : SinkState). Writes {T = U} {E = F} old s bytes (Ok y)) (sym same) (same_text (append-nil bytes) (then_writes bytes [] r (Ok y) x ok w (nothing_due mid y))) in
-    buffered old new bytes piece bytes piece now before after (Ok y) refl (begun ∙ has_begun before piece some) inner is tt
+    buffered old new bytes piece bytes piece now before after (Ok y) refl works tt inner is tt
 
 -- the bytes were cut
-pub cut_bytes : {T E U F : Type 0} (old new : SinkState) (bytes piece now : List ℕ) (before after : Bool) (r : Result T E) (s : Result U F) (e : E) (f : F) → r ≡ Err e → s ≡ Err f → now ≡ [] → Writes old new bytes r
-    → Writes (behind old bytes before) (behind new now after) piece s
-cut_bytes old new bytes piece now before after r s e f is was none w =
+pub cut_bytes : {T E U F : Type 0} (old new : SinkState) (bytes piece now : List ℕ) (before after : Bool) (r : Result T E) (s : Result U F) (e : E) (f : F) → r ≡ Err e → s ≡ Err f → now ≡ []
+    → OnErr r (after ≡ true) → Writes old new bytes r → Writes (behind old bytes before) (behind new now after) piece s
+cut_bytes old new bytes piece now before after r s e f is was none fails w =
     let inner = same_text (append-nil bytes) (stopped bytes [] r (Err f) e f is refl w) in
-    subst (λ q. Writes (behind old bytes before) (behind new now after) piece q) (sym was) (buffered old new bytes piece bytes piece now before after (Err f) refl tt inner tt none)
+    let failed = subst (λ q. OnErr q (after ≡ true)) is fails in
+    subst (λ q. Writes (behind old bytes before) (behind new now after) piece q) (sym was) (buffered old new bytes piece bytes piece now before after (Err f) refl tt failed inner tt none)
 
 -- the piece went past the buffer
-pub past_buffer : {T E : Type 0} (old new : SinkState) (bytes piece now : List ℕ) (before after : Bool) (r : Result T E) → 0 < length piece → after ≡ true → now ≡ [] → Writes old new (bytes ++ piece) r
-    → Writes (behind old bytes before) (behind new now after) piece r
-past_buffer old new bytes piece now before after (Ok x) some begun none w =
-    buffered old new bytes piece (bytes ++ piece) [] now before after (Ok x) (sym (append-nil (bytes ++ piece))) (begun ∙ has_begun before piece some) w none tt
-past_buffer old new bytes piece now before after (Err e) some begun none w =
-    buffered old new bytes piece (bytes ++ piece) [] now before after (Err e) (sym (append-nil (bytes ++ piece))) tt w tt none
+pub past_buffer : {T E : Type 0} (old new : SinkState) (bytes piece now : List ℕ) (before after : Bool) (r : Result T E) → OnOk r (after ≡ false) → OnErr r (after ≡ true) → now ≡ []
+    → Writes old new (bytes ++ piece) r → Writes (behind old bytes before) (behind new now after) piece r
+past_buffer old new bytes piece now before after (Ok x) works fails none w =
+    buffered old new bytes piece (bytes ++ piece) [] now before after (Ok x) (sym (append-nil (bytes ++ piece))) works tt w none tt
+past_buffer old new bytes piece now before after (Err e) works fails none w =
+    buffered old new bytes piece (bytes ++ piece) [] now before after (Err e) (sym (append-nil (bytes ++ piece))) tt fails w tt none
 
 -- all was given on, and nothing more was put
-pub emptied : {T E : Type 0} (old new : SinkState) (bytes now : List ℕ) (before after : Bool) (r : Result T E) → after ≡ before → now ≡ [] → Writes old new bytes r → Writes (behind old bytes before) (behind new now after) [] r
-emptied old new bytes now before after (Ok x) begun none w =
-    buffered old new bytes [] bytes [] now before after (Ok x) refl (begun ∙ sym (or-nil before)) w none tt
-emptied old new bytes now before after (Err e) begun none w =
-    buffered old new bytes [] bytes [] now before after (Err e) refl tt w tt none
+pub emptied : {T E : Type 0} (old new : SinkState) (bytes now : List ℕ) (before after : Bool) (r : Result T E) → OnOk r (after ≡ false) → OnErr r (after ≡ true) → now ≡ [] → Writes old new bytes r
+    → Writes (behind old bytes before) (behind new now after) [] r
+emptied old new bytes now before after (Ok x) works fails none w =
+    buffered old new bytes [] bytes [] now before after (Ok x) refl works tt w none tt
+emptied old new bytes now before after (Err e) works fails none w =
+    buffered old new bytes [] bytes [] now before after (Err e) refl tt fails w tt none
 
 cut_small : {T E U F : Type 0} (old new : SinkState) (bytes piece : List ℕ) (small : Bool) (r : Result T E) (s : Result U F) (e : E) (f : F) → r ≡ Err e → s ≡ Err f → Writes old new bytes r
     → Writes old new (if small then bytes else bytes ++ piece) s

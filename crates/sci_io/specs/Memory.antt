@@ -12,7 +12,7 @@ abbrev pub is_told : List ℕ → ℕ → Bool
 is_told fails call = list_any (λ k. nat_eq k call) fails
 
 abbrev pub state_of : MemSink → SinkState
-state_of s = direct (Some s.bytes.items) s.faults s.begun
+state_of s = direct (Some s.bytes.items) s.faults s.failing
 
 -- the next call fails, for a piece of this size
 abbrev pub sink_fails : MemSink → ℕ → Bool

@@ -11,13 +11,13 @@ pub struct BufferedSink<S: Sink + Drop> {
     sink: S,
     buffer: Vec<u8>,
     room: usize,
-    begun: bool,
+    failing: bool,
     ghost fits: { vec_len buffer ≤ room },
     ghost roomy: { room ≤ vec_capacity buffer },
 }
 
 impl<S: Sink + Drop> BufferedSink<S> {
-    ghost use Rattle.std.specs.Prelude.{◌≡◌, ◌≤◌, ◌+◌, ◌++◌, [], length, false, IfOk};
+    ghost use Rattle.std.specs.Prelude.{◌≡◌, ◌≤◌, ◌<◌, ◌+◌, ◌++◌, [], length, true, false, IfOk, OnOk, OnErr};
     ghost use Rattle.sci_io.specs.Taken.{Writes};
 
     /// An empty buffer of `room` bytes before the sink.
@@ -25,14 +25,14 @@ impl<S: Sink + Drop> BufferedSink<S> {
         ensures sink { IfOk result (λ b. b.sink ≡ sink) }
         ensures empty { IfOk result (λ b. b.buffer.items ≡ []) }
         ensures room { IfOk result (λ b. b.room ≡ room) }
-        ensures begun { IfOk result (λ b. b.begun ≡ false) }
+        ensures failing { IfOk result (λ b. b.failing ≡ false) }
     {
         let buffer = Vec::with_capacity(alloc, room)?;
         Ok(BufferedSink {
             sink,
             buffer,
             room,
-            begun: false,
+            failing: false,
         })
     }
 
@@ -56,13 +56,30 @@ impl<S: Sink + Drop> BufferedSink<S> {
         ensures written { Writes (S.state self.old.sink) (S.state self.new.sink) self.old.buffer.items result }
         ensures emptied { self.new.buffer.items ≡ [] }
         ensures room { self.new.room ≡ self.old.room }
-        ensures begun { self.new.begun ≡ self.old.begun }
+        ensures works { OnOk result (self.new.failing ≡ false) }
+        ensures fails { OnErr result (self.new.failing ≡ true) }
     {
         if self.buffer.is_empty() {
+            self.failing = false;
             return Ok(());
         }
         let given = self.sink.put(&self.buffer);
         self.buffer.clear();
+        self.failing = given.is_err();
+        given
+    }
+
+    // Gives a piece to the sink, past the buffer.
+    fn pass(&mut self, piece: &[u8]) -> Result<(), Failed>
+        requires { 0 < length piece.now }
+        ensures written { Writes (S.state self.old.sink) (S.state self.new.sink) piece.now result }
+        ensures held { self.new.buffer.items ≡ self.old.buffer.items }
+        ensures room { self.new.room ≡ self.old.room }
+        ensures works { OnOk result (self.new.failing ≡ false) }
+        ensures fails { OnErr result (self.new.failing ≡ true) }
+    {
+        let given = self.sink.put(piece);
+        self.failing = given.is_err();
         given
     }
 
@@ -72,62 +89,58 @@ impl<S: Sink + Drop> BufferedSink<S> {
         ensures held { self.new.buffer.items ≡ self.old.buffer.items ++ piece.now }
         ensures sink { self.new.sink ≡ self.old.sink }
         ensures room { self.new.room ≡ self.old.room }
-        ensures begun { self.new.begun ≡ self.old.begun }
+        ensures failing { self.new.failing ≡ self.old.failing }
     {
         self.buffer.extend_from_slice(piece).unwrap();
     }
 }
 
 impl<S: Sink + Drop> Sink for BufferedSink<S> {
-    ghost use Rattle.std.specs.Prelude.{◌≡◌, ◌<◌, [], length, true, OnOk, OnErr};
+    ghost use Rattle.std.specs.Prelude.{◌≡◌, ◌<◌, [], length, false, OnOk, OnErr};
     ghost use Rattle.sci_io.specs.Taken.{behind, Writes};
     ghost use Rattle.sci_io.specs.Buffered.{given_on, held_then};
 
-    ghost state = { λ b. behind (S.state b.sink) b.buffer.items b.begun };
+    ghost state = { λ b. behind (S.state b.sink) b.buffer.items b.failing };
 
     fn put(&mut self, piece: &[u8]) -> Result<(), Failed>
         requires { 0 < length piece.now }
-        ensures written { Writes (behind (S.state self.old.sink) self.old.buffer.items self.old.begun) (behind (S.state self.new.sink) self.new.buffer.items self.new.begun) piece.now result }
+        ensures written { Writes (behind (S.state self.old.sink) self.old.buffer.items self.old.failing)
+            (behind (S.state self.new.sink) self.new.buffer.items self.new.failing) piece.now result }
+        ensures works { OnOk result ((behind (S.state self.new.sink) self.new.buffer.items self.new.failing).failing ≡ false) }
         ensures given { Writes (S.state self.old.sink) (S.state self.new.sink) (given_on self.old.room self.old.buffer.items piece.now) result }
         ensures held { OnOk result (self.new.buffer.items ≡ held_then self.old.room self.old.buffer.items piece.now) }
         ensures dropped { OnErr result (self.new.buffer.items ≡ []) }
         ensures room { self.new.room ≡ self.old.room }
-        ensures begun { self.new.begun ≡ true }
     {
-        self.begun = true;
         if piece.len() <= self.room - self.buffer.len() {
+            self.failing = false;
             self.hold(piece);
             return Ok(());
         }
         self.give()?;
         if self.room < piece.len() {
-            return self.sink.put(piece);
+            return self.pass(piece);
         }
         self.hold(piece);
         Ok(())
     }
 
     fn flush(&mut self) -> Result<(), Failed>
-        ensures written { Writes (behind (S.state self.old.sink) self.old.buffer.items self.old.begun) (behind (S.state self.new.sink) self.new.buffer.items self.new.begun) [] result }
-        ensures all { OnOk result ((behind (S.state self.new.sink) self.new.buffer.items self.new.begun).held ≡ []) }
+        ensures written { Writes (behind (S.state self.old.sink) self.old.buffer.items self.old.failing)
+            (behind (S.state self.new.sink) self.new.buffer.items self.new.failing) [] result }
+        ensures all { OnOk result ((behind (S.state self.new.sink) self.new.buffer.items self.new.failing).held ≡ []) }
+        ensures works { OnOk result ((behind (S.state self.new.sink) self.new.buffer.items self.new.failing).failing ≡ false) }
         ensures given { Writes (S.state self.old.sink) (S.state self.new.sink) self.old.buffer.items result }
         ensures emptied { self.new.buffer.items ≡ [] }
         ensures room { self.new.room ≡ self.old.room }
-        ensures begun { self.new.begun ≡ self.old.begun }
     {
         self.give()?;
-        self.sink.flush()
+        let flushed = self.sink.flush();
+        self.failing = flushed.is_err();
+        flushed
     }
 
     fn take_unseen(&mut self) -> bool {
         false
-    }
-
-    fn begin(&mut self) {
-        self.begun = false;
-    }
-
-    fn has_begun(&self) -> bool {
-        self.begun
     }
 }

@@ -24,6 +24,3 @@ pub use real_folder::RealFolder;
 pub use real_sink::RealSink;
 pub use sink::{Failed, Sink};
 pub use sure::SureSink;
-
-#[cfg(test)]
-mod tests;

@@ -1,4 +1,5 @@
 ghost use Rattle.std.specs.Prelude.{◌≡◌, ◌≤◌, ◌⊎◌, [], Some, None, map, true, false, string_bytes, IfSome, IfNone, OnOk, IsErrOf};
+ghost use Rattle.sci_base.specs.declared.limits.TheConstants.{TEXT_BYTES};
 ghost use Rattle.sci_io.specs.Causes.{counted};
 ghost use Rattle.sci_io.specs.Files.{file_named, HasFront, Reads};
 ghost use Rattle.sci_io.specs.Memory.{files_of, folder_of, folder_fails};
@@ -67,7 +68,7 @@ fn find<'a>(files: &'a [(String, Vec<u8>)], name: &str) -> Option<&'a [u8]>
 
 // The first `limit + 1` bytes.
 fn front(alloc: Global, bytes: &[u8], limit: usize) -> Result<Vec<u8>, ReadEnd>
-    requires { limit ≤ 67108864 }
+    requires { limit ≤ TEXT_BYTES }
     ensures { HasFront bytes.now limit result }
 {
     let count = bytes.len().min(limit + 1);
@@ -81,7 +82,7 @@ impl Folder for MemFolder {
     ghost state = { λ f. folder_of f };
 
     fn read(&mut self, alloc: Global, name: &str, limit: usize) -> Result<Vec<u8>, ReadEnd>
-        requires { limit ≤ 67108864 }
+        requires { limit ≤ TEXT_BYTES }
         ensures read { Reads (folder_of self.old) (folder_of self.new) name.now limit result }
         ensures kept { files_of self.new ≡ files_of self.old }
         ensures no_cause { OnOk result (folder_fails self.old name.now ≡ false) }

@@ -13,7 +13,7 @@ pub struct MemSink {
     room: usize,
     calls: u64,
     faults: u64,
-    begun: bool,
+    failing: bool,
     ghost fits: { vec_len bytes ≤ room },
     ghost roomy: { room ≤ vec_capacity bytes },
 }
@@ -28,7 +28,7 @@ impl MemSink {
         ensures room { IfOk result (λ s. s.room ≡ room) }
         ensures no_calls { IfOk result (λ s. s.calls ≡ 0) }
         ensures no_faults { IfOk result (λ s. s.faults ≡ 0) }
-        ensures begun { IfOk result (λ s. s.begun ≡ false) }
+        ensures failing { IfOk result (λ s. s.failing ≡ false) }
     {
         let bytes = Vec::with_capacity(alloc, room)?;
         Ok(MemSink {
@@ -37,7 +37,7 @@ impl MemSink {
             room,
             calls: 0,
             faults: 0,
-            begun: false,
+            failing: false,
         })
     }
 
@@ -57,7 +57,7 @@ impl MemSink {
 }
 
 impl Sink for MemSink {
-    ghost use Rattle.std.specs.Prelude.{◌≡◌, ◌<◌, [], length, true, false, IsOk, OnErr, OnOk};
+    ghost use Rattle.std.specs.Prelude.{◌≡◌, ◌<◌, [], length, is_err, true, false, IsOk, OnErr, OnOk};
     ghost use Rattle.sci_io.specs.Taken.{Writes};
     ghost use Rattle.sci_io.specs.Causes.{counted};
     ghost use Rattle.sci_io.specs.Memory.{state_of, sink_fails};
@@ -67,6 +67,7 @@ impl Sink for MemSink {
     fn put(&mut self, piece: &[u8]) -> Result<(), Failed>
         requires { 0 < length piece.now }
         ensures written { Writes (state_of self.old) (state_of self.new) piece.now result }
+        ensures works { OnOk result ((state_of self.new).failing ≡ false) }
         ensures ok { OnOk result (sink_fails self.old (length piece.now) ≡ false) }
         ensures failed { OnErr result (sink_fails self.old (length piece.now) ≡ true) }
         ensures nothing { OnErr result (self.new.bytes.items ≡ self.old.bytes.items) }
@@ -74,37 +75,32 @@ impl Sink for MemSink {
         ensures called { self.new.calls ≡ counted self.old.calls }
         ensures told { self.new.fails ≡ self.old.fails }
         ensures room { self.new.room ≡ self.old.room }
-        ensures begun { self.new.begun ≡ true }
+        ensures failing { self.new.failing ≡ is_err result }
     {
-        self.begun = true;
         self.calls = self.calls.saturating_add(1);
         let told = self.fails.contains(&self.calls);
         if told || self.room - self.bytes.len() < piece.len() {
             self.faults = self.faults.saturating_add(1);
+            self.failing = true;
             return Err(Failed);
         }
         self.bytes.extend_from_slice(piece).unwrap();
+        self.failing = false;
         Ok(())
     }
 
     fn flush(&mut self) -> Result<(), Failed>
         ensures written { Writes (state_of self.old) (state_of self.new) [] result }
         ensures all { OnOk result ((state_of self.new).held ≡ []) }
+        ensures works { OnOk result ((state_of self.new).failing ≡ false) }
         ensures sure { IsOk result }
-        ensures kept { self.new ≡ self.old }
+        ensures kept { self.new ≡ record self.old { failing = false } }
     {
+        self.failing = false;
         Ok(())
     }
 
     fn take_unseen(&mut self) -> bool {
         false
-    }
-
-    fn begin(&mut self) {
-        self.begun = false;
-    }
-
-    fn has_begun(&self) -> bool {
-        self.begun
     }
 }

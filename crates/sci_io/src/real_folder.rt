@@ -1,4 +1,5 @@
 ghost use Rattle.std.specs.Prelude.{◌≡◌, ◌≤◌, [], map, string_bytes, IsErrOf};
+ghost use Rattle.sci_base.specs.declared.limits.TheConstants.{TEXT_BYTES};
 ghost use Rattle.sci_io.specs.Causes.{counted};
 ghost use Rattle.sci_io.specs.Files.{folder_state, Reads, ReadsFront};
 
@@ -31,7 +32,7 @@ impl<D: Disk + Drop> RealFolder<D> {
 
     // What is read of the file of this name.
     fn front_of(&self, alloc: Global, name: &str, limit: usize) -> Result<Vec<u8>, ReadEnd>
-        requires { limit ≤ 67108864 }
+        requires { limit ≤ TEXT_BYTES }
         ensures { ReadsFront (D.files self.now.disk) name.now limit result }
     {
         let Ok(mut file) = self.disk.open(name) else {
@@ -45,8 +46,9 @@ impl<D: Disk + Drop> Folder for RealFolder<D> {
     ghost state = { λ f. folder_state (D.files f.disk) (map string_bytes f.asked.items) f.faults };
 
     fn read(&mut self, alloc: Global, name: &str, limit: usize) -> Result<Vec<u8>, ReadEnd>
-        requires { limit ≤ 67108864 }
-        ensures read { Reads (folder_state (D.files self.old.disk) (map string_bytes self.old.asked.items) self.old.faults) (folder_state (D.files self.new.disk) (map string_bytes self.new.asked.items) self.new.faults) name.now limit result }
+        requires { limit ≤ TEXT_BYTES }
+        ensures read { Reads (folder_state (D.files self.old.disk) (map string_bytes self.old.asked.items) self.old.faults)
+            (folder_state (D.files self.new.disk) (map string_bytes self.new.asked.items) self.new.faults) name.now limit result }
         ensures kept { D.files self.new.disk ≡ D.files self.old.disk }
         ensures counted { IsErrOf result ReadEnd.Failed → self.new.faults ≡ counted self.old.faults }
     {

@@ -12,7 +12,7 @@ use std::io::Write;
 pub struct RealSink<W: Write + Drop> {
     writer: W,
     faults: u64,
-    begun: bool,
+    failing: bool,
 }
 
 impl<W: Write + Drop> RealSink<W> {
@@ -20,53 +20,52 @@ impl<W: Write + Drop> RealSink<W> {
     pub fn new(writer: W) -> Self
         ensures writer { result.writer ≡ writer }
         ensures no_faults { result.faults ≡ 0 }
-        ensures begun { result.begun ≡ false }
+        ensures failing { result.failing ≡ false }
     {
         RealSink {
             writer,
             faults: 0,
-            begun: false,
+            failing: false,
         }
     }
 }
 
 impl<W: Write + Drop> Sink for RealSink<W> {
-    ghost state = { λ s. direct (W.contents s.writer) s.faults s.begun };
+    ghost state = { λ s. direct (W.contents s.writer) s.faults s.failing };
 
     fn put(&mut self, piece: &[u8]) -> Result<(), Failed>
         requires { 0 < length piece.now }
-        ensures written { Writes (direct (W.contents self.old.writer) self.old.faults self.old.begun) (direct (W.contents self.new.writer) self.new.faults self.new.begun) piece.now result }
+        ensures written { Writes (direct (W.contents self.old.writer) self.old.faults self.old.failing)
+            (direct (W.contents self.new.writer) self.new.faults self.new.failing) piece.now result }
+        ensures works { OnOk result ((direct (W.contents self.new.writer) self.new.faults self.new.failing).failing ≡ false) }
         ensures counted { OnErr result (self.new.faults ≡ counted self.old.faults) }
     {
-        self.begun = true;
         if write_whole(&mut self.writer, piece) {
+            self.failing = false;
             return Ok(());
         }
         self.faults = self.faults.saturating_add(1);
+        self.failing = true;
         Err(Failed)
     }
 
     fn flush(&mut self) -> Result<(), Failed>
-        ensures written { Writes (direct (W.contents self.old.writer) self.old.faults self.old.begun) (direct (W.contents self.new.writer) self.new.faults self.new.begun) [] result }
-        ensures all { OnOk result ((direct (W.contents self.new.writer) self.new.faults self.new.begun).held ≡ []) }
+        ensures written { Writes (direct (W.contents self.old.writer) self.old.faults self.old.failing)
+            (direct (W.contents self.new.writer) self.new.faults self.new.failing) [] result }
+        ensures all { OnOk result ((direct (W.contents self.new.writer) self.new.faults self.new.failing).held ≡ []) }
+        ensures works { OnOk result ((direct (W.contents self.new.writer) self.new.faults self.new.failing).failing ≡ false) }
         ensures counted { OnErr result (self.new.faults ≡ counted self.old.faults) }
     {
         if self.writer.flush().is_ok() {
+            self.failing = false;
             return Ok(());
         }
         self.faults = self.faults.saturating_add(1);
+        self.failing = true;
         Err(Failed)
     }
 
     fn take_unseen(&mut self) -> bool {
         false
-    }
-
-    fn begin(&mut self) {
-        self.begun = false;
-    }
-
-    fn has_begun(&self) -> bool {
-        self.begun
     }
 }

@@ -3,6 +3,7 @@ ghost use Rattle.std.specs.Prelude.{◌≡◌, ◌≢◌, ◌≤◌, ◌+◌, �
 ghost use Rattle.std.specs.IoError.{error_kind};
 ghost use Rattle.std.specs.Io.{ReadsAtMost, WritesAtMost};
 ghost use Rattle.std.specs.Io.KnownBytes.{Appends, Consumes, IsAtEnd, ReadConsumes, WriteAppends};
+ghost use Rattle.sci_base.specs.declared.limits.TheConstants.{TEXT_BYTES};
 ghost use Rattle.sci_io.specs.Taken.{TakesFront};
 ghost use Rattle.sci_io.specs.Transfer.{ReadsMore};
 
@@ -43,7 +44,7 @@ fn read_more<R: Read>(reader: &mut R, bytes: &mut Vec<u8>, most: usize) -> Resul
 
 // The first `limit + 1` bytes of the reader, or all of them where it ends before. Each turn takes at least one byte.
 pub fn read_front<R: Read>(reader: &mut R, alloc: Global, limit: usize) -> Result<Vec<u8>, ReadEnd>
-    requires { limit ≤ 67108864 }
+    requires { limit ≤ TEXT_BYTES }
     ensures front { IfOk result (λ bytes. Consumes (R.remaining reader.old) (R.remaining reader.new) bytes.items) }
     ensures most { IfOk result (λ bytes. length bytes.items ≤ limit + 1) }
     ensures whole { IfOk result (λ bytes. (length bytes.items ≡ limit + 1) ⊎ IsAtEnd (R.remaining reader.new)) }

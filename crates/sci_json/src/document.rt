@@ -15,7 +15,7 @@ use std::marker::Model;
 pub use value::{Items, Members, Value};
 
 /// Why a text was not read.
-#[derive(Clone, Copy, Debug, PartialEq, Eq, Drop)]
+#[derive(Clone, Copy, Drop)]
 pub enum ParseStop {
     /// The bytes are no UTF-8, or are not one JSON value: arrays and objects may nest 127 deep, and each number has to be in the
     /// range of the floats.

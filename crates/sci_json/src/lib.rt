@@ -6,26 +6,23 @@ ghost use Rattle.std.specs.Prelude.{◌≡◌, ◌≢◌, Some, None, IfOk, IfEr
 ghost use Rattle.serde_json.specs.Find.{as_str, as_array};
 ghost use Rattle.sci_json.specs.View.{view, items_view};
 ghost use Rattle.sci_base.specs.Plain.{dependence_of, feedthrough_of};
-ghost use Rattle.sci_json.specs.Field.{holds, absent, field, formed, wholes, as_ints, StopsAt, entries, truths, as_feedthrough, as_dep, DepStops, PartStops, TruthsStop};
+ghost use Rattle.sci_json.specs.Field.{holds, absent, field, formed, wholes, as_ints, StopsAt, entries, truths, as_feedthrough, as_dep, DepStops};
+ghost use Rattle.sci_json.specs.Field.{PartStops, TruthsStop};
 
 use crate::document::{Items, Value};
 use sci_base::{Dep, Part};
 use std::alloc::Global;
-use thiserror::Error;
 
 pub mod document;
 
 /// Why a field was not read.
-#[derive(Clone, Copy, Debug, PartialEq, Eq, Drop, Error)]
+#[derive(Clone, Copy, Drop)]
 pub enum FieldStop {
     /// The field is absent.
-    #[error("no such field")]
     Missing,
     /// The field hasn't the form that is asked for.
-    #[error("a field of another form")]
     Wrong,
     /// There was no memory.
-    #[error("no memory")]
     Memory,
 }
 

@@ -1,5 +1,6 @@
 -- The reaction of a source, by its row.
-use Rattle.std.proofs.Common.{◌≡◌, ℕ, suc, ◌<◌, ◌≤◌, ◌+◌, ⊎_elim, Bool, true, false, ℤ, List, [], ◌∷◌, ◌++◌, length, get_or, pos, refl, sym, ap, subst, ◌∙◌, arith, Contains}
+use Rattle.std.specs.declared.alloc.Global.{Global}
+use Rattle.std.proofs.Common.{Vec, ◌≡◌, ℕ, suc, ◌<◌, ◌≤◌, ◌+◌, ⊎_elim, Bool, true, false, ℤ, List, [], ◌∷◌, ◌++◌, length, get_or, pos, refl, sym, ap, subst, ◌∙◌, arith, Contains}
 use Rattle.std.proofs.lemmas.List.{get_or-map}
 use Rattle.std.specs.Prelude.{if◌then◌else◌, Option, Some, None, negsuc}
 use Rattle.sci_base.specs.Lists.{at, listed}
@@ -44,7 +45,8 @@ use Rattle.sci_store.proofs.Reacting.{outcome_here, AreKept, range_alike, masks_
 use Rattle.sci_judge.specs.Programming.{with_sources, AreSourcesOf}
 use Rattle.sci_judge.specs.declared.rows.SourcePlan.{SourcePlan}
 use Rattle.sci_judge.specs.Rows.{IsPlanOf, ArePlans}
-use Rattle.sci_judge.specs.Reacting.{Shows, seen_in, blocks_at}
+use Rattle.sci_judge.specs.declared.judging.Judging.{Judging}
+use Rattle.sci_judge.specs.Reacting.{IsSound, Shows, seen_in, blocks_at}
 
 -- ---- what the active blocks program
 
@@ -189,4 +191,12 @@ shows_after f source i st s t last banks mid after old new date v shows step sea
   in_range = step.in_range;
   pending_is = is ∙ ap (λ (p : Pending). next_pending f.net date v.y v.active p) shows.pending_is;
   counts = λ k. let e = same k in let c = v.counted k in omega (arith, e, c);
+}
+
+-- ---- what stays sound
+
+pub sound_on : (j l : Judging) → l.kept.fixed ≡ j.kept.fixed → l.plans ≡ j.plans → l.events.sources ≡ j.events.sources → IsSound j → IsSound l
+sound_on j l fixed plans sources h = record {
+  plans_are = subst (λ (x : Fixed). ArePlans x l.plans.items) (sym fixed) (subst (λ (v : Vec SourcePlan Global). ArePlans j.kept.fixed v.items) (sym plans) h.plans_are);
+  sources_are = sources ∙ (h.sources_are ∙ ap (λ (x : Fixed). length (sources_of x.net)) (sym fixed));
 }

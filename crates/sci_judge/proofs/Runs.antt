@@ -213,7 +213,7 @@ module _ (f : Fixed) (frame : IsFrame f) (i : Columns) (until limit : ℕ) (s : 
           let same = one_trace f.net i frame.net frame.free until limit (w.seen ++ more) os whole run in
           same_text (sym (text-append w.seen more) ∙ ap text same)
           (then_writes {T = Unit {0}} {E = Failed} {U = U} {F = Failed} (text w.seen) (text more) (Ok tt) (Ok y) tt refl w.written
-          (record { ok = h.ok; quiet = h.quiet; begun = h.begun; cut = h.cut; dropped = h.dropped; cause = h.cause; later = h.later }))
+          (record { ok = h.ok; quiet = h.quiet; works = h.works; cut = h.cut; dropped = h.dropped; cause = h.cause; fails = h.fails; later = h.later }))
 
       -- an event fires next
       on_way : (e : Kept) (new : SinkState) → Writes {T = Unit {0}} {E = Failed} old new (text (w.seen ++ more)) (Ok tt) → (p : ReactionOutcome) → p ≡ o
@@ -255,5 +255,5 @@ module _ (f : Fixed) (frame : IsFrame f) (i : Columns) (until limit : ℕ) (s : 
           on_way e new
           (same_text (sym (text-append w.seen more))
           (then_writes {T = Unit {0}} {E = Failed} {U = Unit {0}} {F = Failed} (text w.seen) (text more) (Ok tt) (Ok tt) tt refl w.written
-          (record { ok = h.ok; quiet = h.quiet; begun = h.begun; cut = h.cut; dropped = h.dropped; cause = h.cause; later = h.later })))
+          (record { ok = h.ok; quiet = h.quiet; works = h.works; cut = h.cut; dropped = h.dropped; cause = h.cause; fails = h.fails; later = h.later })))
           o refl outcome (subst (IsStep f until (limit - k) t later due o) is step)

@@ -1,14 +1,8 @@
 -- What a comparing sink took, told with its text.
 use Rattle.std.proofs.Common.{◌≡◌, ◌<◌, ℕ, Bool, true, List, [], ◌∷◌, ◌++◌, length, refl, sym, ap, ◌∙◌, arith, append_assoc, append-nil, inl, inr, Some, Result, Ok, Err}
-use Rattle.std.specs.Prelude.{◌||◌}
-use Rattle.std.proofs.Math.Bool.{or-true}
-use Rattle.sci_io.specs.Taken.{Writes, Advances, is_some_text}
+use Rattle.sci_io.specs.Taken.{Writes, Advances}
 use Rattle.sci_agree.specs.Compared.{Compared, taken_by, state_of, WasGiven}
 use Rattle.sci_judge.specs.Against.{Against, told}
-
-some_text : (piece : List ℕ) (begun : Bool) → 0 < length piece → true ≡ (begun || is_some_text piece)
-some_text [] begun h = absurd (omega (arith, h))
-some_text (x ∷ xs) begun h = sym (or-true begun)
 
 module _ (old new : Compared) (same : new.text ≡ old.text) where
   abbrev full : Compared → List ℕ
@@ -22,24 +16,26 @@ module _ (old new : Compared) (same : new.text ≡ old.text) where
   advances : (due rest : List ℕ) → Advances (Some (taken_by old)) (Some (taken_by new)) due rest → Advances (Some (full old)) (Some (full new)) due rest
   advances due rest a = record { front = a.front; split = a.split; taken = grown a.front a.taken }
 
-  pub told_writes : {T E : Type 0} (before : Bool) (piece : List ℕ) (r : Result T E) → 0 < length piece → Writes (state_of old) (state_of new) piece r
-      → Writes (told (record { compared = old; begun = before })) (told (record { compared = new; begun = true })) piece r
-  told_writes before piece (Ok x) some w = record {
+  pub told_writes : {T E : Type 0} (piece : List ℕ) (r : Result T E) → Writes (state_of old) (state_of new) piece r
+      → Writes (told (record { compared = old })) (told (record { compared = new })) piece r
+  told_writes piece (Ok x) w = record {
     ok = advances ([] ++ piece) [] w.ok;
     quiet = w.quiet;
-    begun = some_text piece before some;
+    works = w.works;
     cut = tt;
     dropped = tt;
     cause = tt;
+    fails = tt;
     later = w.later;
   }
-  told_writes before piece (Err e) some w = record {
+  told_writes piece (Err e) w = record {
     ok = tt;
     quiet = tt;
-    begun = tt;
+    works = tt;
     cut = (let c = w.cut in (c.0, advances ([] ++ piece) c.0 c.1));
     dropped = w.dropped;
     cause = w.cause;
+    fails = w.fails;
     later = w.later;
   }
 
@@ -80,4 +76,4 @@ was_given old new due (Ok x) none sound w =
 was_given old new due (Err e) none sound w =
     let c = w.cut.1 in
     let b = told_back old.compared new.compared none c.front c.taken in
-    (b.0, inr (w.cut.0, c.split ∙ ap (λ (l : List ℕ). l ++ w.cut.0) (sym b.1), (let rose = w.cause in omega (arith, rose, sound))))
+    (b.0, inr (w.cut.0, c.split ∙ ap (λ (l : List ℕ). l ++ w.cut.0) (sym b.1), (let one_more = w.cause in omega (arith, one_more, sound))))

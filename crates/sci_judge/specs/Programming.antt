@@ -6,8 +6,14 @@ use Rattle.sci_net.specs.declared.Source.{Source}
 use Rattle.sci_net.specs.declared.Source.TheVariants.{Start, Port}
 use Rattle.sci_net.specs.Parts.{Parts, IsActivationOutput, spec_of}
 use Rattle.sci_net.specs.Sources.{sources_of, source_of}
+use Rattle.sci_reaction.specs.Equations.{Signals}
 use Rattle.sci_pending.specs.Pending.{Pending}
-use Rattle.sci_run.specs.Programs.{firing_of, with_delay, with_delays}
+use Rattle.sci_run.specs.Activity.{Activity}
+use Rattle.sci_run.specs.Programs.{firing_of, next_pending, with_delay, with_delays}
+use Rattle.sci_store.specs.Delays.{delays_in}
+use Rattle.sci_store.specs.Store.{ShowsValues}
+use Rattle.sci_store.specs.Written.{AreAmong}
+use Rattle.sci_kept.specs.Kept.{Kept}
 
 -- the date of the event that a source has before the run; none is -1
 abbrev pub firing_at : Parts → Source → ℤ
@@ -28,6 +34,13 @@ abbrev pub with_sources : Parts → (date : ℕ) → (Feed → ℤ) → List ℕ
 with_sources n date delays [] p = p
 with_sources n date delays (k ∷ ks) p = with_sources n date delays ks (with_source n date delays k p)
 
+-- what is pending then, on the values that are kept
+abbrev pub after_source : Kept → (date source : ℕ) → Pending → Pending
+after_source k date source p = with_source k.fixed.net date (delays_in k.fixed k.store) source p
+
+abbrev pub after_sources : Kept → (date : ℕ) → (sources : List ℕ) → Pending → Pending
+after_sources k date sources p = with_sources k.fixed.net date (delays_in k.fixed k.store) sources p
+
 -- an activation output of a block with delays
 pub record IsDelayed (n : Parts) (k : ℕ) : Type 0 where
   pub within : k < length (sources_of n)
@@ -45,4 +58,11 @@ AreQuiet n blocks delays =
 pub record AreSourcesOf (n : Parts) (blocks ks : List ℕ) : Type 0 where
   pub delayed : All (IsDelayed n) ks
   pub few : length ks ≤ length (sources_of n)
-  pub all : (date : ℕ) (delays : Feed → ℤ) (p : Pending) → AreQuiet n blocks delays → with_sources n date delays ks p ≡ with_delays date delays 0 (sources_of n) p
+  pub all : (date : ℕ) (delays : Feed → ℤ) (p : Pending) → AreQuiet n blocks delays
+      → with_sources n date delays ks p ≡ with_delays date delays 0 (sources_of n) p
+
+-- the active blocks program their next events, where all of them are among these
+abbrev pub ProgramsNext : Kept → (blocks : List ℕ) → (date : ℕ) → (old new : Pending) → Type 0
+ProgramsNext k blocks date old new =
+    (source : Source) (y : Signals) (active : Activity) → ShowsValues k.fixed source k.store y active → AreAmong k.fixed.net active blocks
+    → new ≡ next_pending k.fixed.net date y active old

@@ -11,7 +11,6 @@ use std::marker::Model;
 #[derive(Drop)]
 pub struct Against<'a> {
     out: Comparing<'a>,
-    begun: bool,
 }
 
 impl<'a> Model for Against<'a> {
@@ -19,7 +18,7 @@ impl<'a> Model for Against<'a> {
 
     ghost Value = { Against };
 
-    ghost view = { λ a. record { compared = a.out; begun = a.begun } };
+    ghost view = { λ a. record { compared = a.out } };
 }
 
 impl<'a> Against<'a> {
@@ -28,12 +27,10 @@ impl<'a> Against<'a> {
 
     /// Compares with this text, from its beginning.
     pub fn new(text: &'a [u8]) -> Against<'a>
-        ensures compared { result.compared ≡ record { text = text.now; at = 0; lines = 0; wrong = None; faults = 0; begun = false } }
-        ensures begun { result.begun ≡ false }
+        ensures compared { result.compared ≡ record { text = text.now; at = 0; lines = 0; wrong = None; faults = 0; failing = false } }
     {
         Against {
             out: Comparing::new(text),
-            begun: false,
         }
     }
 
@@ -51,7 +48,6 @@ impl<'a> Sink for Against<'a> {
     ghost state = { λ a. told a };
 
     fn put(&mut self, piece: &[u8]) -> Result<(), Failed> {
-        self.begun = true;
         self.out.put(piece)
     }
 
@@ -61,13 +57,5 @@ impl<'a> Sink for Against<'a> {
 
     fn take_unseen(&mut self) -> bool {
         false
-    }
-
-    fn begin(&mut self) {
-        self.begun = false;
-    }
-
-    fn has_begun(&self) -> bool {
-        self.begun
     }
 }

@@ -1,27 +1,20 @@
 // A net that is run to be judged: its reactions one after another.
-ghost use Rattle.std.specs.Prelude.{◌≡◌, ℕ, List, ◌+◌, ◌<◌, ◌≤◌, ◌^◌, length, Contains, IfOk, IsSome};
-ghost use Rattle.sci_io.specs.Taken.{Writes};
-ghost use Rattle.sci_trace.specs.Lines.{text};
-ghost use Rattle.sci_net.specs.declared.Source.{Source};
-ghost use Rattle.sci_net.specs.Sources.{sources_of, source_of};
-ghost use Rattle.sci_reaction.specs.Memory.{Memory, IsMemory, AreColumns};
-ghost use Rattle.sci_reaction.specs.Equations.{Signals};
-ghost use Rattle.sci_run.specs.Activity.{Activity, IsActivity};
-ghost use Rattle.sci_run.specs.Programs.{next_pending};
+ghost use Rattle.std.specs.Prelude.{◌≡◌, ◌+◌, ◌<◌, ◌≤◌, ◌^◌, length, IfOk, IsSome};
+ghost use Rattle.sci_base.specs.declared.limits.TheConstants.{TICKS, EVENTS};
+ghost use Rattle.sci_net.specs.Sources.{sources_of};
+ghost use Rattle.sci_reaction.specs.Memory.{AreColumns};
 ghost use Rattle.sci_base.specs.declared.observation.Obs.{Obs};
 ghost use Rattle.sci_bank.specs.Library.{IsFull};
 ghost use Rattle.sci_run.specs.Laws.{AreLoopFree};
-ghost use Rattle.sci_run.specs.Run.{State, ReactionOutcome, IsOutcome, IsRun, comes_next, first_state};
+ghost use Rattle.sci_run.specs.Run.{State};
 ghost use Rattle.sci_store.specs.Frame.{AreSeated};
-ghost use Rattle.sci_store.specs.Store.{IsStore, AreIdle, ShowsValues};
-ghost use Rattle.sci_store.specs.Passed.{ShowsBefore, IsStepped, AreAlikeCounts};
-ghost use Rattle.sci_store.specs.Marks.{mark_at, idle};
-ghost use Rattle.sci_net.specs.Parts.{IsBlock};
-ghost use Rattle.sci_store.specs.Written.{AreAmong};
-ghost use Rattle.sci_judge.specs.Programming.{AreSourcesOf};
+ghost use Rattle.sci_store.specs.Store.{AreIdle};
+ghost use Rattle.sci_store.specs.Passed.{AreAlikeCounts};
+ghost use Rattle.sci_judge.specs.Programming.{AreSourcesOf, ProgramsNext};
 ghost use Rattle.sci_store.specs.Runs.{MayStep};
 ghost use Rattle.sci_store.specs.Rows.{IsReadyRow, KeepsBegun};
-ghost use Rattle.sci_judge.specs.Reacting.{IsSound, Shows, IsReacted, AreMarksOf, blocks_at, seen_in, decision_of, step_seen, IsStep};
+ghost use Rattle.sci_store.specs.Reaction.{Steps};
+ghost use Rattle.sci_judge.specs.Reacting.{IsSound, IsAt, IsAtStart, MarksOnly, ReactsTo, TellsDue, StepsTo, WritesRun, blocks_at};
 
 use crate::programming::{program_all, program_first};
 use crate::rows::{SourcePlan, plans};
@@ -30,45 +23,43 @@ use sci_bank::library::Library;
 use sci_base::{EndWord, NoMemory, Obs};
 use sci_events::{Event, Events};
 use sci_io::{Failed, Sink};
+use sci_kept::Kept;
 use sci_net::Net;
-use sci_store::{Frame, Lines, Store};
 use sci_trace::inputs::Inputs;
 use std::alloc::Global;
 
 // A reaction whose values are known and written: the active blocks program their events and step their states.
 fn finish<B: Bank>(
-    frame: &Frame,
-    store: &mut Store,
+    kept: &mut Kept,
     events: &mut Events,
     lib: &mut Library<B>,
     inputs: &Inputs,
     plan: &SourcePlan,
     date: u64,
 )
-    requires store { IsStore frame.now store.old }
-    requires seated { AreSeated frame.now lib.old }
-    requires row { IsReadyRow frame.now plan.now.row }
-    requires begun { KeepsBegun frame.now plan.now.row store.old }
-    requires delayed { AreSourcesOf frame.now.net plan.now.row.blocks plan.now.sources.items }
-    requires may_step { MayStep frame.now inputs.now store.old lib.old }
+    requires seated { AreSeated kept.old.fixed lib.old }
+    requires row { IsReadyRow kept.old.fixed plan.now.row }
+    requires begun { KeepsBegun kept.old.fixed plan.now.row kept.old.store }
+    requires delayed { AreSourcesOf kept.old.fixed.net plan.now.row.blocks plan.now.sources.items }
+    requires may_step { MayStep kept.old.fixed inputs.now kept.old.store lib.old }
     requires date { date < 2 ^ 63 }
-    requires sources { events.old.sources ≡ length (sources_of frame.now.net) }
-    requires few { events.old.pending.programmed + length (sources_of frame.now.net) < 2 ^ 63 }
-    ensures programmed { (s : Source) (y : Signals) (active : Activity) → ShowsValues frame.now s store.old y active → AreAmong frame.now.net active plan.now.row.blocks → events.new.pending ≡ next_pending frame.now.net date y active events.old.pending }
-    ensures stepped { (s : Source) (m : Memory) (y : Signals) (active : Activity) → IsActivity frame.now.net s y active → ShowsValues frame.now s store.old y active → AreAmong frame.now.net active plan.now.row.blocks → ShowsBefore frame.now store.old lib.old m → IsMemory frame.now.net m → IsStepped frame.now s m y store.new lib.new }
-    ensures marks { (store.new.values ≡ store.old.values) × (store.new.marks ≡ store.old.marks) }
-    ensures store { IsStore frame.now store.new }
-    ensures seated { AreSeated frame.now lib.new }
+    requires sources { events.old.sources ≡ length (sources_of kept.old.fixed.net) }
+    requires few { events.old.pending.programmed + length (sources_of kept.old.fixed.net) < 2 ^ 63 }
+    ensures programmed { ProgramsNext kept.old plan.now.row.blocks date events.old.pending events.new.pending }
+    ensures stepped { Steps kept.old.fixed plan.now.row kept.old.store kept.new.store lib.old lib.new }
+    ensures marks { (kept.new.store.values ≡ kept.old.store.values) × (kept.new.store.marks ≡ kept.old.store.marks) }
+    ensures fixed { kept.new.fixed ≡ kept.old.fixed }
+    ensures seated { AreSeated kept.old.fixed lib.new }
     ensures counts { AreAlikeCounts lib.old lib.new }
     ensures same_sources { events.new.sources ≡ events.old.sources }
 {
-    frame.well_formed();
-    program_all(store, frame, &plan.sources, lib, date, events);
-    store.update_all(frame, &plan.row, lib, inputs);
+    kept.well_formed();
+    program_all(kept, &plan.sources, lib, date, events);
+    kept.update_all(lib, inputs, &plan.row);
 }
 
 /// A source that fires.
-#[derive(Clone, Copy, Debug, Drop, PartialEq, Eq)]
+#[derive(Clone, Copy, Drop)]
 pub struct Firing {
     /// Its place among the net's sources.
     pub source: u32,
@@ -77,7 +68,7 @@ pub struct Firing {
 }
 
 /// What comes behind a reaction.
-#[derive(Clone, Copy, Debug, Drop, PartialEq, Eq)]
+#[derive(Clone, Copy, Drop)]
 pub enum Due {
     /// The run is over.
     Over(EndWord),
@@ -88,12 +79,10 @@ pub enum Due {
 /// A net that is run to be judged, with all memory that the run needs.
 #[derive(Drop)]
 pub struct Judging {
-    frame: Frame,
+    kept: Kept,
     // one for each source, in order
     plans: Vec<SourcePlan>,
-    store: Store,
     events: Events,
-    lines: Lines,
 }
 
 impl Judging {
@@ -101,25 +90,21 @@ impl Judging {
     pub fn new<B: Bank>(alloc: Global, net: Net, lib: &mut Library<B>) -> Result<Judging, NoMemory>
         requires free { AreLoopFree net }
         requires full { IsFull lib.old }
-        ensures net { IfOk result (λ j. j.frame.net ≡ net) }
+        ensures net { IfOk result (λ j. j.kept.fixed.net ≡ net) }
         ensures sound { IfOk result IsSound }
-        ensures start { IfOk result (λ j. AreIdle j.frame j.store × Shows j.frame j.store lib.new j.events.pending (first_state net)) }
+        ensures start { IfOk result (λ j. IsAtStart j lib.new) }
         ensures full { IsFull lib.new }
     {
-        let frame = Frame::new(alloc, net, lib)?;
-        frame.well_formed();
+        let kept = Kept::new(alloc, net, lib)?;
+        kept.well_formed();
         lib.well_formed();
-        let plans = plans(alloc, &frame)?;
-        let store = Store::new(alloc, &frame)?;
-        let mut events = Events::new(alloc, frame.net.source_count())?;
-        program_first(&frame.net, &mut events);
-        let lines = Lines::new(alloc)?;
+        let plans = plans(alloc, &kept)?;
+        let mut events = Events::new(alloc, kept.net().source_count())?;
+        program_first(kept.net(), &mut events);
         Ok(Judging {
-            frame,
+            kept,
             plans,
-            store,
             events,
-            lines,
         })
     }
 
@@ -131,36 +116,34 @@ impl Judging {
         firing: Firing,
         out: &mut S,
     ) -> Result<bool, Failed>
-        requires source { firing.source < length (sources_of self.old.frame.net) }
-        requires date { firing.date ≤ 2 ^ 62 }
+        requires source { firing.source < length (sources_of self.old.kept.fixed.net) }
+        requires date { firing.date ≤ TICKS }
         requires sound { IsSound self.old }
-        requires idle { AreIdle self.old.frame self.old.store }
-        requires columns { AreColumns self.old.frame.net inputs.now }
-        requires few { self.old.events.pending.programmed + length (sources_of self.old.frame.net) < 2 ^ 63 }
-        requires shown { (st : State) × Shows self.old.frame self.old.store lib.old self.old.events.pending st }
-        ensures reacted { (st : State) → Shows self.old.frame self.old.store lib.old self.old.events.pending st → (o : ReactionOutcome) × IsOutcome self.old.frame.net inputs.now firing.date (source_of self.old.frame.net firing.source) st o × Writes (S.state out.old) (S.state out.new) (text (seen_in o)) result × IfOk result (λ stopped. IsReacted self.old.frame (source_of self.old.frame.net firing.source) (blocks_at self.old.plans.items firing.source) self.new.store lib.new self.new.events.pending o stopped) }
-        ensures seated { AreSeated self.old.frame lib.new }
-        ensures marked { (b : ℕ) → IsBlock self.old.frame.net b → (Contains (blocks_at self.old.plans.items firing.source) b → ⊥) → mark_at self.new.store.marks b ≡ idle }
+        requires idle { AreIdle self.old.kept.fixed self.old.kept.store }
+        requires columns { AreColumns self.old.kept.fixed.net inputs.now }
+        requires few { self.old.events.pending.programmed + length (sources_of self.old.kept.fixed.net) < 2 ^ 63 }
+        requires shown { (st : State) × IsAt self.old lib.old st }
+        ensures reacted { ReactsTo inputs.now firing self.old self.new lib.old lib.new (S.state out.old) (S.state out.new) result }
+        ensures seated { AreSeated self.old.kept.fixed lib.new }
+        ensures marked { MarksOnly self.old.kept.fixed (blocks_at self.old.plans.items firing.source) self.new.kept.store }
         ensures sound { IsSound self.new }
-        ensures same { (self.new.frame ≡ self.old.frame) × (self.new.plans ≡ self.old.plans) }
+        ensures same { (self.new.kept.fixed ≡ self.old.kept.fixed) × (self.new.plans ≡ self.old.plans) }
     {
-        self.frame.well_formed();
+        self.kept.well_formed();
         let plan = &self.plans[firing.source as usize];
-        self.store.begin_row(&self.frame, &plan.row);
-        let header = self.frame.header(firing.source, firing.date);
-        match self.store.pass(&self.frame, lib, inputs, &plan.row) {
+        self.kept.begin_row(&plan.row);
+        let header = self.kept.header(firing.source, firing.date);
+        match self.kept.pass(lib, inputs, &plan.row) {
             Some((block, word)) => {
-                self.store.observe(&header, out)?;
-                self.store
+                self.kept.observe(&header, out)?;
+                self.kept
                     .observe(&Obs::Stop(word, i64::from(block), 0), out)?;
                 Ok(true)
             }
             None => {
-                self.store
-                    .write_reaction(&self.frame, &plan.row, &header, &mut self.lines, out)?;
+                self.kept.write_reaction(&plan.row, &header, out)?;
                 finish(
-                    &self.frame,
-                    &mut self.store,
+                    &mut self.kept,
                     &mut self.events,
                     lib,
                     inputs,
@@ -174,14 +157,11 @@ impl Judging {
 
     // What comes behind a reaction of this source whose marks these are, where so many events may still fire.
     fn comes_behind(&self, source: u32, until: u64, left: u64) -> Due
-        requires source { source < length (sources_of self.now.frame.net) }
+        requires source { source < length (sources_of self.now.kept.fixed.net) }
         requires sound { IsSound self.now }
-        ensures { (s : Source) (st : State) → self.now.events.pending ≡ st.pending → AreMarksOf self.now.frame s (blocks_at self.now.plans.items source) self.now.store st → decision_of result ≡ comes_next self.now.frame.net until left st }
+        ensures { TellsDue source until left self.now result }
     {
-        if self
-            .store
-            .halts(&self.frame, &self.plans[source as usize].row.halts)
-        {
+        if self.kept.halts(&self.plans[source as usize].row.halts) {
             return Due::Over(EndWord::Halt);
         }
         if left == 0 {
@@ -208,31 +188,31 @@ impl Judging {
         left: u64,
         out: &mut S,
     ) -> Result<Option<Event>, Failed>
-        requires source { firing.source < length (sources_of self.old.frame.net) }
-        requires date { firing.date ≤ 2 ^ 62 }
+        requires source { firing.source < length (sources_of self.old.kept.fixed.net) }
+        requires date { firing.date ≤ TICKS }
         requires sound { IsSound self.old }
-        requires idle { AreIdle self.old.frame self.old.store }
-        requires columns { AreColumns self.old.frame.net inputs.now }
-        requires few { self.old.events.pending.programmed + length (sources_of self.old.frame.net) < 2 ^ 63 }
-        requires shown { (st : State) × Shows self.old.frame self.old.store lib.old self.old.events.pending st }
-        ensures reacted { (st : State) → Shows self.old.frame self.old.store lib.old self.old.events.pending st → (o : ReactionOutcome) × IsOutcome self.old.frame.net inputs.now firing.date (source_of self.old.frame.net firing.source) st o × Writes (S.state out.old) (S.state out.new) (text (step_seen self.old.frame.net until left o)) result × IfOk result (λ next. IsStep self.old.frame until left self.new.store lib.new self.new.events.pending o next) }
-        ensures cleared { IfOk result (λ next. IsSome next → AreIdle self.old.frame self.new.store) }
-        ensures seated { AreSeated self.old.frame lib.new }
+        requires idle { AreIdle self.old.kept.fixed self.old.kept.store }
+        requires columns { AreColumns self.old.kept.fixed.net inputs.now }
+        requires few { self.old.events.pending.programmed + length (sources_of self.old.kept.fixed.net) < 2 ^ 63 }
+        requires shown { (st : State) × IsAt self.old lib.old st }
+        ensures reacted { StepsTo inputs.now firing until left self.old self.new lib.old lib.new (S.state out.old) (S.state out.new) result }
+        ensures cleared { IfOk result (λ next. IsSome next → AreIdle self.old.kept.fixed self.new.kept.store) }
+        ensures seated { AreSeated self.old.kept.fixed lib.new }
         ensures sound { IsSound self.new }
-        ensures same { (self.new.frame ≡ self.old.frame) × (self.new.plans ≡ self.old.plans) }
+        ensures same { (self.new.kept.fixed ≡ self.old.kept.fixed) × (self.new.plans ≡ self.old.plans) }
     {
         if self.react(lib, inputs, firing, out)? {
             return Ok(None);
         }
         match self.comes_behind(firing.source, until, left) {
             Due::Over(word) => {
-                self.store.observe(&Obs::End(word), out)?;
+                self.kept.observe(&Obs::End(word), out)?;
                 Ok(None)
             }
             Due::Fires(event) => {
                 self.events.remove(event);
                 let blocks = &self.plans[firing.source as usize].row.blocks;
-                self.store.clear(&self.frame, blocks);
+                self.kept.clear(blocks);
                 Ok(Some(event))
             }
         }
@@ -248,15 +228,15 @@ impl Judging {
         limit: u64,
         out: &mut S,
     ) -> Result<(), Failed>
-        requires until { until ≤ 2 ^ 62 }
-        requires limit { limit ≤ 1000000 }
-        requires columns { AreColumns self.old.frame.net inputs.now }
+        requires until { until ≤ TICKS }
+        requires limit { limit ≤ EVENTS }
+        requires columns { AreColumns self.old.kept.fixed.net inputs.now }
         requires sound { IsSound self.old }
-        requires start { AreIdle self.old.frame self.old.store × Shows self.old.frame self.old.store lib.old self.old.events.pending (first_state self.old.frame.net) }
-        ensures written { (os : List Obs) → IsRun self.old.frame.net inputs.now until limit os → Writes (S.state out.old) (S.state out.new) (text os) result }
-        ensures seated { AreSeated self.old.frame lib.new }
+        requires start { IsAtStart self.old lib.old }
+        ensures written { WritesRun self.old.kept.fixed.net inputs.now until limit (S.state out.old) (S.state out.new) result }
+        ensures seated { AreSeated self.old.kept.fixed lib.new }
     {
-        self.frame.well_formed();
+        self.kept.well_formed();
         let mut firing = Firing { source: 0, date: 0 };
         for fired in 0..limit + 1 {
             match self.step(lib, inputs, firing, until, limit - fired, out)? {

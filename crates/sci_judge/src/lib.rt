@@ -3,7 +3,8 @@
 //! the next event is looked for among all that are pending.
 #![tactic(auto)]
 
-ghost use Rattle.std.specs.Prelude.{◌≤◌, ◌^◌, List, IfOk};
+ghost use Rattle.std.specs.Prelude.{◌≤◌, List, IfOk};
+ghost use Rattle.sci_base.specs.declared.limits.TheConstants.{TICKS, EVENTS};
 ghost use Rattle.sci_base.specs.declared.observation.Obs.{Obs};
 ghost use Rattle.sci_trace.specs.Lines.{text};
 ghost use Rattle.sci_agree.specs.Verdict.{IsVerdict};
@@ -42,8 +43,8 @@ pub fn judge_trace<B: Bank>(
     limit: u64,
     trace: &[u8],
 ) -> Result<Verdict, NoMemory>
-    requires until { until ≤ 2 ^ 62 }
-    requires limit { limit ≤ 1000000 }
+    requires until { until ≤ TICKS }
+    requires limit { limit ≤ EVENTS }
     requires free { AreLoopFree n }
     requires columns { AreColumns n inputs.now }
     requires full { IsFull lib.old }

@@ -1,20 +1,17 @@
 // Programming events.
-ghost use Rattle.std.specs.Prelude.{◌≡◌, ℕ, ◌+◌, ◌-◌, ◌<◌, ◌≤◌, ◌^◌, ◌<ℤ◌, ℤ, pos, [], length, true, All};
-ghost use Rattle.sci_forms.specs.Form.{has_delay};
+ghost use Rattle.std.specs.Prelude.{◌≡◌, ◌+◌, ◌-◌, ◌<◌, ◌^◌, ◌<ℤ◌, ℤ, pos, [], length, All};
 ghost use Rattle.sci_net.specs.Sources.{sources_of, source_of};
 ghost use Rattle.sci_reaction.specs.Equations.{AreInRange};
 ghost use Rattle.sci_run.specs.Programs.{first_pending, with_delay};
 ghost use Rattle.sci_places.specs.Flat.{values_at};
 ghost use Rattle.sci_store.specs.Frame.{AreSeated};
-ghost use Rattle.sci_store.specs.Store.{IsStore};
-ghost use Rattle.sci_store.specs.Delays.{delays_in};
-ghost use Rattle.sci_judge.specs.Programming.{firing_at, with_source, with_sources, IsDelayed};
+ghost use Rattle.sci_judge.specs.Programming.{firing_at, after_source, after_sources, IsDelayed};
 
 use sci_bank::Bank;
 use sci_bank::library::Library;
 use sci_events::Events;
+use sci_kept::Kept;
 use sci_net::{Net, Source};
-use sci_store::{Frame, Store};
 
 // Programs a source after a delay of so many ticks, in place of the event of it that waits; a delay of -1 programs nothing.
 fn program(events: &mut Events, date: u64, delay: i64, source: u32)
@@ -61,27 +58,26 @@ pub fn program_first(net: &Net, events: &mut Events)
 
 // The source at this place programs its next event, if it is an activation output of an active block.
 fn program_source<B: Bank>(
-    store: &mut Store,
-    frame: &Frame,
+    kept: &mut Kept,
     lib: &Library<B>,
     source: u32,
     date: u64,
     events: &mut Events,
 )
-    requires store { IsStore frame.now store.old }
-    requires seated { AreSeated frame.now lib.now }
-    requires source { IsDelayed frame.now.net source }
-    requires values { AreInRange frame.now.net (values_at frame.now.net store.old.values) }
+    requires seated { AreSeated kept.old.fixed lib.now }
+    requires source { IsDelayed kept.old.fixed.net source }
+    requires values { AreInRange kept.old.fixed.net (values_at kept.old.fixed.net kept.old.store.values) }
     requires date { date < 2 ^ 63 }
-    requires sources { events.old.sources ≡ length (sources_of frame.now.net) }
+    requires sources { events.old.sources ≡ length (sources_of kept.old.fixed.net) }
     requires few { events.old.pending.programmed < 2 ^ 63 }
-    ensures programmed { events.new ≡ record events.old { pending = with_source frame.now.net date (delays_in frame.now store.old) source events.old.pending } }
-    ensures same { store.new ≡ record store.old { room = store.new.room } }
-    ensures room { length store.new.room ≡ length store.old.room }
+    ensures programmed { events.new ≡ record events.old { pending = after_source kept.old date source events.old.pending } }
+    ensures same { kept.new.store ≡ record kept.old.store { room = kept.new.store.room } }
+    ensures room { length kept.new.store.room ≡ length kept.old.store.room }
+    ensures fixed { kept.new.fixed ≡ kept.old.fixed }
 {
-    if let Source::Port(q) = frame.net.source(source) {
-        if store.is_active(q.block) {
-            let delay = store.delay(frame, lib, q.block, q.port);
+    if let Source::Port(q) = kept.net().source(source) {
+        if kept.is_active(q.block) {
+            let delay = kept.delay(lib, q.block, q.port);
             program(events, date, delay, source);
         }
     }
@@ -89,25 +85,24 @@ fn program_source<B: Bank>(
 
 /// The sources at these places program their next events, those that are activation outputs of active blocks.
 pub fn program_all<B: Bank>(
-    store: &mut Store,
-    frame: &Frame,
+    kept: &mut Kept,
     sources: &[u32],
     lib: &Library<B>,
     date: u64,
     events: &mut Events,
 )
-    requires store { IsStore frame.now store.old }
-    requires seated { AreSeated frame.now lib.now }
-    requires delayed { All (IsDelayed frame.now.net) sources.now }
-    requires values { AreInRange frame.now.net (values_at frame.now.net store.old.values) }
+    requires seated { AreSeated kept.old.fixed lib.now }
+    requires delayed { All (IsDelayed kept.old.fixed.net) sources.now }
+    requires values { AreInRange kept.old.fixed.net (values_at kept.old.fixed.net kept.old.store.values) }
     requires date { date < 2 ^ 63 }
-    requires sources { events.old.sources ≡ length (sources_of frame.now.net) }
+    requires sources { events.old.sources ≡ length (sources_of kept.old.fixed.net) }
     requires few { events.old.pending.programmed + length sources.now < 2 ^ 63 }
-    ensures programmed { events.new ≡ record events.old { pending = with_sources frame.now.net date (delays_in frame.now store.old) sources.now events.old.pending } }
-    ensures same { store.new ≡ record store.old { room = store.new.room } }
-    ensures room { length store.new.room ≡ length store.old.room }
+    ensures programmed { events.new ≡ record events.old { pending = after_sources kept.old date sources.now events.old.pending } }
+    ensures same { kept.new.store ≡ record kept.old.store { room = kept.new.store.room } }
+    ensures room { length kept.new.store.room ≡ length kept.old.store.room }
+    ensures fixed { kept.new.fixed ≡ kept.old.fixed }
 {
     for source in sources {
-        program_source(store, frame, lib, *source, date, events);
+        program_source(kept, lib, *source, date, events);
     }
 }

@@ -1,5 +1,6 @@
 // The possible blocks of a source, round by round.
-ghost use Rattle.std.specs.Prelude.{◌≡◌, ℕ, ◌+◌, ◌<◌, ◌↔◌, ◌++◌, ◌∷◌, [], ◌==◌, if◌then◌else◌, filter, length, map, slice_index_or, All, Contains, vec_len, IfOk, OnOk, nat_eq};
+ghost use Rattle.std.specs.Prelude.{◌≡◌, ℕ, ◌+◌, ◌<◌, ◌↔◌, ◌++◌, ◌∷◌, [], ◌==◌, if◌then◌else◌, filter, length, map, slice_index_or, All, Contains};
+ghost use Rattle.std.specs.Prelude.{vec_len, IfOk, OnOk, nat_eq};
 ghost use Rattle.std.specs.List.{IsDistinct};
 ghost use Rattle.std.specs.List.Sorted.{IsStrictlyIncreasing};
 ghost use Rattle.std.specs.Set.{is_member};
@@ -17,7 +18,7 @@ use sci_net::Net;
 use std::alloc::Global;
 
 /// A block and its round, counted from 1: how many blocks the longest chain of dependencies has that ends at it.
-#[derive(Clone, Copy, Debug, Drop, PartialEq, Eq)]
+#[derive(Clone, Copy, Drop)]
 pub struct Rank {
     pub block: u32,
     pub depth: usize,

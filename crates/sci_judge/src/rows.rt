@@ -1,5 +1,5 @@
 // What each source may do in a reaction.
-ghost use Rattle.std.specs.Prelude.{◌≡◌, ◌<◌, ◌≤◌, ◌+◌, ℕ, length, map, All, Contains, IfOk, IsTrue, ◌↔◌};
+ghost use Rattle.std.specs.Prelude.{◌≡◌, ◌<◌, ◌+◌, length, map, All, IfOk, IsTrue, ◌↔◌};
 ghost use Rattle.sci_net.specs.Parts.{IsBlock};
 ghost use Rattle.sci_net.specs.Sources.{sources_of, source_of};
 ghost use Rattle.sci_reaction.specs.Depends.{IsLoopFree};
@@ -18,10 +18,11 @@ use crate::rounds::{Rank, by_rounds};
 use sci_base::NoMemory;
 use sci_dep::{Waits, depends, possible, waits};
 use sci_inherit::{Reach, origins};
+use sci_kept::Kept;
 use sci_loop::walk::Walk;
 use sci_net::{Net, Source};
 use sci_reaction::Entry;
-use sci_store::{Frame, Row};
+use sci_store::Row;
 use std::alloc::Global;
 
 /// What a source may do in a reaction.
@@ -90,25 +91,25 @@ fn delayed(alloc: Global, net: &Net, found: &Walk) -> Result<Vec<u32>, NoMemory>
 // What the source at this place may do. The two walks are over all numbers of blocks and 0.
 fn plan_for(
     alloc: Global,
-    frame: &Frame,
+    kept: &Kept,
     reach: &Reach,
     waits: &Waits,
     source: u32,
     found: &mut Walk,
     always: &mut Walk,
 ) -> Result<SourcePlan, NoMemory>
-    requires reach { AreOrigins frame.now.net reach.now }
-    requires waits { AreWaits frame.now.net waits.now }
-    requires source { source < length (sources_of frame.now.net) }
-    requires free { IsLoopFree frame.now.net (source_of frame.now.net source) }
-    requires count { found.old.count ≡ length frame.now.net.specs + 1 }
-    requires always_count { always.old.count ≡ length frame.now.net.specs + 1 }
-    ensures plan { IfOk result (λ p. IsPlanOf frame.now (source_of frame.now.net source) p) }
+    requires reach { AreOrigins kept.now.fixed.net reach.now }
+    requires waits { AreWaits kept.now.fixed.net waits.now }
+    requires source { source < length (sources_of kept.now.fixed.net) }
+    requires free { IsLoopFree kept.now.fixed.net (source_of kept.now.fixed.net source) }
+    requires count { found.old.count ≡ length kept.now.fixed.net.specs + 1 }
+    requires always_count { always.old.count ≡ length kept.now.fixed.net.specs + 1 }
+    ensures plan { IfOk result (λ p. IsPlanOf kept.now.fixed (source_of kept.now.fixed.net source) p) }
     ensures count { found.new.count ≡ found.old.count }
     ensures always_count { always.new.count ≡ always.old.count }
 {
-    frame.well_formed();
-    let net = &frame.net;
+    kept.well_formed();
+    let net = kept.net();
     possible(net, reach, source, found)?;
     let table = depends(alloc, net, waits, source, found)?;
     let order = by_rounds(alloc, net, source, &table)?;
@@ -116,32 +117,24 @@ fn plan_for(
     let entries = entries(alloc, net, reach, source, found, always, &order)?;
     let sources = delayed(alloc, net, found)?;
     Ok(SourcePlan {
-        row: Row::of(alloc, frame, entries)?,
+        row: kept.row_of(alloc, entries)?,
         sources,
     })
 }
 
 /// What each source of a net may do, in their order. Want of memory is the only error.
-pub fn plans(alloc: Global, frame: &Frame) -> Result<Vec<SourcePlan>, NoMemory>
-    ensures { IfOk result (λ v. ArePlans frame.now v.items) }
+pub fn plans(alloc: Global, kept: &Kept) -> Result<Vec<SourcePlan>, NoMemory>
+    ensures { IfOk result (λ v. ArePlans kept.now.fixed v.items) }
 {
-    frame.well_formed();
-    let net = &frame.net;
+    kept.well_formed();
+    let net = kept.net();
     let reach = origins(alloc, net)?;
     let waits = waits(alloc, net, &reach)?;
     let mut found = Walk::new(alloc, net.len() as usize + 1)?;
     let mut always = Walk::new(alloc, net.len() as usize + 1)?;
     let mut plans = Vec::with_capacity(alloc, net.source_count() as usize)?;
     for source in 0..net.source_count() {
-        plans.push(plan_for(
-            alloc,
-            frame,
-            &reach,
-            &waits,
-            source,
-            &mut found,
-            &mut always,
-        )?)?;
+        plans.push(plan_for(alloc, kept, &reach, &waits, source, &mut found, &mut always)?)?;
     }
     Ok(plans)
 }

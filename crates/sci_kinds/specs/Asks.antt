@@ -1,5 +1,6 @@
 -- What holds of a typed spec, kind by kind; its states, masks and inputs.
 use Rattle.std.specs.Prelude.{◌≡◌, ◌≢◌, ℕ, ◌+◌, ◌*◌, ◌^◌, ◌<◌, ◌≤◌, ℤ, pos, negsuc, ◌-ℤ◌, ◌≤ℤ◌, ◌<ℤ◌, ◌⊎◌, List, [], ◌∷◌, ◌++◌, suc, true, length, unsigned_abs}
+use Rattle.sci_base.specs.declared.limits.TheConstants.{PORTS, DELAY}
 use Rattle.sci_base.specs.declared.Ty.{Ty}
 use Rattle.sci_base.specs.declared.Ty.TheVariants.{I32}
 use Rattle.sci_base.specs.Fit.{InRange, width, high}
@@ -61,13 +62,13 @@ IsSign z = (z ≡ pos 1) ⊎ (z ≡ negsuc 0)
 abbrev pub Asks : Kind → Spec → Type 0
 Asks Const s = IsAlikeSpec s × (length s.ins ≡ 0) × IsSpread (out_type s) (size s) s.params
 Asks Summation s =
-    IsAlikeSpec s × (2 ≤ length s.ins) × (length s.ins ≤ 64) × (length s.params ≡ length s.ins + 1)
+    IsAlikeSpec s × (2 ≤ length s.ins) × (length s.ins ≤ PORTS) × (length s.params ≡ length s.ins + 1)
     × ((k : ℕ) → k < length s.ins → IsSign (param s (k + 1)))
 Asks GainBlk s = IsAlikeSpec s × (length s.ins ≡ 1) × (length s.params ≡ 2) × InRange (out_type s) (param s 1)
 Asks Product s = IsAlikeSpec s × (length s.ins ≡ 2) × (length s.params ≡ 2)
 Asks AbsValue s = IsAlikeSpec s × (length s.ins ≡ 1) × (length s.params ≡ 1)
 Asks Signum s = IsAlikeSpec s × (length s.ins ≡ 1)
-Asks MaxMin s = IsAlikeSpec s × (2 ≤ length s.ins) × (length s.ins ≤ 64) × (length s.params ≡ 1)
+Asks MaxMin s = IsAlikeSpec s × (2 ≤ length s.ins) × (length s.ins ≤ PORTS) × (length s.params ≡ 1)
 Asks Saturation s =
     IsAlikeSpec s × (length s.ins ≡ 1) × (length s.params ≡ 2) × InRange (out_type s) (param s 0) × InRange (out_type s) (param s 1)
 Asks DeadBand s =
@@ -78,7 +79,7 @@ Asks Demux s = IsJoined s × (length s.ins ≡ 1)
 Asks Extractor s =
     IsOneOut s × (length s.ins ≡ 1) × IsAlike s.ins (out_type s) (elements (port_at s.ins 0)) × (size s ≡ length s.params)
     × ((k : ℕ) → k < length s.params → (pos 1 ≤ℤ param s k) × (unsigned_abs (param s k) ≤ elements (port_at s.ins 0)))
-Asks LogicalOp s = IsAlikeSpec s × (1 ≤ length s.ins) × (length s.ins ≤ 64) × (length s.params ≡ 2)
+Asks LogicalOp s = IsAlikeSpec s × (1 ≤ length s.ins) × (length s.ins ≤ PORTS) × (length s.params ≡ 2)
 Asks RelationalOp s = IsSizedSpec s × (length s.ins ≡ 2) × (length s.params ≡ 1)
 Asks Shift s = IsAlikeSpec s × (length s.ins ≡ 1) × (length s.params ≡ 2) × (unsigned_abs (param s 0) < width (out_type s))
 Asks BitSet s = IsAlikeSpec s × (length s.ins ≡ 1) × (length s.params ≡ 1) × (unsigned_abs (param s 0) < width (out_type s))
@@ -103,10 +104,10 @@ Asks ModuloCount s =
 Asks GatedDelay s = IsSwitched s 0 × (length s.ins ≡ 2) × IsSpread (out_type s) (size s) s.state
 Asks Sensor s = IsOneOut s × (size s ≡ 1) × (length s.ins ≡ 0)
 Asks EvtDly s =
-    (length s.outs ≡ 0) × (length s.ins ≡ 0) × (negsuc 0 ≤ℤ param s 0) × (param s 0 ≤ℤ pos 2147483647) × (length s.params ≡ 1)
+    (length s.outs ≡ 0) × (length s.ins ≡ 0) × (negsuc 0 ≤ℤ param s 0) × (param s 0 ≤ℤ DELAY) × (length s.params ≡ 1)
 Asks EvtVarDly s = (length s.outs ≡ 0) × (total s.ins ≡ 1)
 Asks IfThEl s = (length s.outs ≡ 0) × (total s.ins ≡ 1) × (s.evtout ≡ 2)
-Asks ESelect s = (length s.outs ≡ 0) × (total s.ins ≡ 1) × (2 ≤ s.evtout) × (s.evtout ≤ 64)
+Asks ESelect s = (length s.outs ≡ 0) × (total s.ins ≡ 1) × (2 ≤ s.evtout) × (s.evtout ≤ PORTS)
 Asks Halt s = (length s.outs ≡ 0) × (length s.ins ≡ 0)
 
 -- the state is a list of numbers in range

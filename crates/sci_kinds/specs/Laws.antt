@@ -1,4 +1,5 @@
-use Rattle.std.specs.Prelude.{◌≡◌, ℕ, ◌+◌, ◌<◌, ◌≤◌, ℤ, pos, negsuc, ◌≤ℤ◌, List, length, false, true}
+use Rattle.std.specs.Prelude.{◌≡◌, ℕ, ◌+◌, ◌<◌, ◌≤◌, ℤ, negsuc, ◌≤ℤ◌, List, length, false, true}
+use Rattle.sci_base.specs.declared.limits.TheConstants.{DELAY}
 use Rattle.sci_base.specs.Lists.{truth_at}
 use Rattle.sci_forms.specs.declared.spec.Spec.{Spec}
 use Rattle.sci_forms.specs.Ports.{total, Fills}
@@ -38,7 +39,7 @@ FirstHeldLaw = (s : Spec) → typed s ≡ true → IsState s (first_state s) × 
 
 -- a delay is from -1 to 2^31 - 1
 abbrev pub DelayLaw : Type 0
-DelayLaw = (s : Spec) (p : ℕ) (u : List ℤ) → typed s ≡ true → (negsuc 0 ≤ℤ delay s p u) × (delay s p u ≤ℤ pos 2147483647)
+DelayLaw = (s : Spec) (p : ℕ) (u : List ℤ) → typed s ≡ true → (negsuc 0 ≤ℤ delay s p u) × (delay s p u ≤ℤ DELAY)
 
 -- a branch is from 1 to the number of activation outputs
 abbrev pub BranchLaw : Type 0

@@ -1,6 +1,7 @@
 -- What each kind of block means, element by element.
 use Rattle.std.specs.Prelude.{ℕ, zero, suc, ◌+◌, ◌-◌, ◌*◌, ◌%◌, ◌/◌, ◌^◌, ℤ, pos, negsuc, ◌+ℤ◌, ◌-ℤ◌, ◌*ℤ◌, List, [], ◌∷◌, ◌++◌, length, Bool, nat_eq, nat_lt, int_lt, int_le, int_div, if◌then◌else◌, not, Option, Some, None, unsigned_abs}
 use Rattle.std.specs.Int.{int_rem_euclid, int_div_euclid, int_min, int_max, bit_at}
+use Rattle.sci_base.specs.declared.limits.TheConstants.{DELAY}
 use Rattle.sci_base.specs.declared.Ty.{Ty}
 use Rattle.sci_base.specs.declared.Mode.{Mode}
 use Rattle.sci_base.specs.declared.Mode.TheVariants.{Wrap, Saturate, Stop}
@@ -199,7 +200,7 @@ next_of _ s x m u i = pos 0
 -- the delay of an activation output
 abbrev pub delay_of : Kind → Spec → ℕ → List ℤ → ℤ
 delay_of EvtDly s p u = param s 0
-delay_of EvtVarDly s p u = if int_lt (at u 0) (pos 0) then negsuc 0 else int_min (at u 0) (pos 2147483647)
+delay_of EvtVarDly s p u = if int_lt (at u 0) (pos 0) then negsuc 0 else int_min (at u 0) DELAY
 delay_of _ s p u = negsuc 0
 
 -- the branch that a synchronous block takes

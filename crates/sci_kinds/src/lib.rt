@@ -8,7 +8,7 @@ pub use sci_check::check_spec;
 pub use sci_forms::{Broken, Counts, Detail, Kind, Port, Ports, Role, Spec};
 
 /// What one element of an output is.
-#[derive(Clone, Copy, Debug, Drop, PartialEq, Eq)]
+#[derive(Clone, Copy, Drop)]
 pub enum Cell {
     /// A value in range of the output's type.
     Value(i64),

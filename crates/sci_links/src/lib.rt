@@ -4,7 +4,8 @@
 
 ghost use Rattle.std.specs.Prelude.{◌≡◌, ℕ, ◌+◌, ◌<◌, ◌==◌, ◌||◌, true, Some, None, length, [], IfOk, IsTrue, ◌↔◌};
 ghost use Rattle.sci_links.specs.Linked.{node_at};
-ghost use Rattle.sci_links.specs.Table.{Table, first, behind, has, put_before, list_of, chain, chain_of, changed, pushed, inserted, removed, popped, empty, IsTable};
+ghost use Rattle.sci_links.specs.Table.{Table, first, behind, has, put_before, list_of, chain, chain_of, changed, pushed, inserted, removed, popped};
+ghost use Rattle.sci_links.specs.Table.{empty, IsTable};
 
 use sci_base::NoMemory;
 use std::alloc::Global;

@@ -49,7 +49,7 @@ fn listed(alloc: Global, table: &DepTable, places: &[usize]) -> Result<Vec<u32>,
 }
 
 /// What sorting a table comes to.
-#[derive(Debug, Drop)]
+#[derive(Drop)]
 pub enum Sorted {
     /// A loop, listed from its least member, each member depending on the one before it and the first on the last.
     Loop(Vec<u32>),

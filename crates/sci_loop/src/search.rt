@@ -1,6 +1,7 @@
 // The search for a loop: a walk from member to member along needs. A member is settled once all that it needs is settled. The walk keeps
 // its trail; a need that is on the trail closes a loop.
-ghost use Rattle.std.specs.Prelude.{◌≡◌, ℕ, ◌+◌, ◌-◌, ◌<◌, ◌↔◌, ◌++◌, List, [], ◌∷◌, length, IfSome, IfNone, IfOk, OnOk, IsTrue, slice_index, slice_index_or, slice_set, true, false, take, drop};
+ghost use Rattle.std.specs.Prelude.{◌≡◌, ℕ, ◌+◌, ◌-◌, ◌<◌, ◌↔◌, ◌++◌, List, [], ◌∷◌, length, IfSome, IfNone, IfOk, OnOk, IsTrue, slice_index};
+ghost use Rattle.std.specs.Prelude.{slice_index_or, slice_set, true, false, take, drop};
 ghost use Rattle.std.proofs.Math.ListN.{replicate};
 ghost use Rattle.sci_loop.specs.Table.{IsTable, NeedsAt, ArePlaces};
 ghost use Rattle.sci_loop.specs.Progress.{SeenTo, IsMet, IsOpenNeed, IsSearch, left, SettledStay, IsSettling};
@@ -143,8 +144,10 @@ impl Search {
         ensures round { IfOk result (λ o. IfSome o (λ k. IsRound (NeedsAt table.now) (drop k self.new.trail.items))) }
         ensures falls { IfOk result (λ o. IfNone o (left table.now self.new < left table.now self.old)) }
         ensures stay { IfOk result (λ o. SettledStay self.old self.new) }
-        ensures first { IfOk result (λ o. IfNone o (0 < length self.new.trail.items → slice_index self.new.trail.items 0 ≡ slice_index self.old.trail.items 0)) }
-        ensures last { IfOk result (λ o. IfNone o (length self.new.trail.items ≡ 0 → slice_index_or self.new.settled.items (slice_index self.old.trail.items 0) false ≡ true)) }
+        ensures first { IfOk result (λ o. IfNone o (0 < length self.new.trail.items
+            → slice_index self.new.trail.items 0 ≡ slice_index self.old.trail.items 0)) }
+        ensures last { IfOk result (λ o. IfNone o (length self.new.trail.items ≡ 0
+            → slice_index_or self.new.settled.items (slice_index self.old.trail.items 0) false ≡ true)) }
     {
         let at = self.trail[self.trail.len() - 1];
         match open_need(table, places, &self.settled, at, self.looked[at]) {

@@ -8,7 +8,7 @@ use std::alloc::Global;
 
 /// Which blocks depend on which. A table is well formed where `members` rises strictly, `needs` has one list for each member,
 /// and each of these lists rises strictly and holds members alone.
-#[derive(Debug, Drop)]
+#[derive(Drop)]
 pub struct DepTable {
     /// The blocks, by number.
     pub members: Vec<u32>,

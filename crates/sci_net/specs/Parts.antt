@@ -1,6 +1,7 @@
 -- The parts of a flat net: its blocks, numbered from 1, and which port feeds which.
 use Rattle.std.specs.Prelude.{◌≡◌, ℕ, zero, suc, ◌<◌, ◌≤◌, Bool, true, ◌&&◌, ◌||◌, nat_lt, nat_eq, List, [], length, map, slice_index_or, unsigned_abs, AllPairs, Contains, Vec}
 use Rattle.std.specs.declared.alloc.Global.{Global}
+use Rattle.sci_base.specs.declared.limits.TheConstants.{BLOCKS}
 use Rattle.sci_base.specs.Lists.{at}
 use Rattle.sci_base.specs.declared.refusal.Place.{Place}
 use Rattle.sci_forms.specs.declared.Kind.TheVariants.{Halt}
@@ -121,7 +122,7 @@ pub record IsSensor (n : Parts) (b : ℕ) : Type 0 where
 -- one path and one row of wires and of feed lists for each block, one wire for each regular input and one feed list for each
 -- activation input, and all that they name exists
 pub record IsWired (n : Parts) : Type 0 where
-  pub few : length n.specs ≤ 2048
+  pub few : length n.specs ≤ BLOCKS
   pub one_path_each : length n.paths ≡ length n.specs
   pub one_row_each : length n.wires ≡ length n.specs
   pub one_wire_each : (b : ℕ) → IsBlock n b → length (numbered [] n.wires b) ≡ length (spec_of n b).ins

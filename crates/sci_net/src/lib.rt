@@ -13,21 +13,21 @@ pub use net::{Column, Net, columns};
 pub use wiring::Wiring;
 
 /// The regular output that feeds a regular input; block and port are counted from 1.
-#[derive(Clone, Copy, Debug, Drop, PartialEq, Eq)]
+#[derive(Clone, Copy, Drop)]
 pub struct Wire {
     pub block: u32,
     pub port: u32,
 }
 
 /// An activation output that feeds an activation input; block and port are counted from 1.
-#[derive(Clone, Copy, Debug, Drop, PartialEq, Eq)]
+#[derive(Clone, Copy, Drop, PartialEq, Eq)]
 pub struct Feed {
     pub block: u32,
     pub port: u32,
 }
 
 /// What sets off a reaction: the start of a run, or an event of an activation output.
-#[derive(Clone, Copy, Debug, Drop, PartialEq, Eq)]
+#[derive(Clone, Copy, Drop)]
 pub enum Source {
     Start,
     Port(Feed),

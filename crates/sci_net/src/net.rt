@@ -1,5 +1,6 @@
 // Flat nets whose types and sizes are known.
 ghost use Rattle.std.specs.Prelude.{◌≡◌, ◌<◌, ◌≤◌, ◌^◌, ◌++◌, ◌∷◌, length, IfOk, OnOk, All, true};
+ghost use Rattle.sci_base.specs.declared.limits.TheConstants.{BLOCKS};
 ghost use Rattle.sci_forms.specs.Typed.{typed};
 ghost use Rattle.sci_net.specs.declared.Source.TheVariants.{Start};
 ghost use Rattle.sci_net.specs.Parts.{with_specs, spec_of, path_of, wire_of, feeds_of, column_of};
@@ -14,7 +15,7 @@ use std::alloc::Global;
 use std::marker::Model;
 
 /// A column of the input file, from 1 to 255, the type of its values, and the SENSOR that reads it.
-#[derive(Clone, Copy, Debug, Drop, PartialEq, Eq)]
+#[derive(Clone, Copy, Drop)]
 pub struct Column {
     pub number: u32,
     pub ty: Ty,
@@ -153,7 +154,7 @@ fn push_sources(sources: &mut Vec<Source>, block: u32, spec: &Spec) -> Result<()
 
 /// Start, and the sources of all blocks.
 fn sources(alloc: Global, specs: &[Spec]) -> Result<Vec<Source>, NoMemory>
-    requires few { length specs.now ≤ 2048 }
+    requires few { length specs.now ≤ BLOCKS }
     requires typed_specs { All (λ s. typed s ≡ true) specs.now }
     ensures { IfOk result (λ v. v.items ≡ Start ∷ sources_from 1 specs.now) }
 {
@@ -182,7 +183,7 @@ fn push_column(columns: &mut Vec<Column>, block: u32, spec: &Spec) -> Result<(),
 
 /// The columns of all blocks.
 fn spec_columns(alloc: Global, specs: &[Spec]) -> Result<Vec<Column>, NoMemory>
-    requires few { length specs.now ≤ 2048 }
+    requires few { length specs.now ≤ BLOCKS }
     requires typed_specs { All (λ s. typed s ≡ true) specs.now }
     ensures { IfOk result (λ v. v.items ≡ columns_from 1 specs.now) }
 {

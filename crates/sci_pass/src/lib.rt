@@ -2,7 +2,8 @@
 //! state keeps the empty one, and the state that a block begins with changes nothing of what it means.
 #![tactic(auto)]
 
-ghost use Rattle.sci_pass.specs.Laws.{BranchStays, MaskStays, ActivityStays, AppliedIsDone, AppliedAreActive, NotesGoOn, OneMask, NoDelay, NoState, StateStays, SameButState};
+ghost use Rattle.sci_pass.specs.Laws.{BranchStays, MaskStays, ActivityStays, AppliedIsDone, AppliedAreActive, NotesGoOn, OneMask, NoDelay, NoState};
+ghost use Rattle.sci_pass.specs.Laws.{StateStays, SameButState};
 
 /// The values of the entry at hand change no branch of a block that is done, nor its own.
 pub fn branch_stays()

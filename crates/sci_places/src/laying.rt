@@ -1,5 +1,6 @@
 // Where the values of a block lie.
 ghost use Rattle.std.specs.Prelude.{◌≡◌, ◌+◌, ◌≤◌, ◌<◌, ◌^◌, length, IfOk};
+ghost use Rattle.sci_base.specs.declared.limits.TheConstants.{ALL_ELEMENTS};
 ghost use Rattle.sci_forms.specs.Ports.{total, before};
 ghost use Rattle.sci_net.specs.Parts.{IsBlock, IsOutput, spec_of};
 ghost use Rattle.sci_places.specs.Layout.{AreStarts, laid_down, output_span};
@@ -30,7 +31,7 @@ fn before(ports: &Ports, k: usize) -> usize
 fn outs_length(net: &Net, block: u32) -> usize
     requires { IsBlock net.now block }
     ensures value { result ≡ total (spec_of net.now block).outs }
-    ensures small { result ≤ 65536 }
+    ensures small { result ≤ ALL_ELEMENTS }
 {
     net.well_formed();
     let outs = &net.spec(block).outs;

@@ -1,7 +1,7 @@
 // The possible blocks of a source, as a pass over them needs them.
 
 /// A branch of a synchronous block, which may activate the block of an entry.
-#[derive(Clone, Copy, Debug, Drop, PartialEq, Eq)]
+#[derive(Clone, Copy, Drop)]
 pub struct Guard {
     /// The synchronous block.
     pub block: u32,
@@ -13,7 +13,7 @@ pub struct Guard {
 
 /// A block that a source may activate. It is active where the entry is `always`, or where the block of a guard is active and takes
 /// the guard's port.
-#[derive(Debug, Drop)]
+#[derive(Drop)]
 pub struct Entry {
     /// The block, by number from 1.
     pub block: u32,

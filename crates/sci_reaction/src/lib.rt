@@ -4,8 +4,12 @@
 //! schedule finds it.
 #![tactic(auto)]
 
-ghost use Rattle.sci_reaction.specs.Laws.{OneDepth, DepthRises, OneSolution, AtMostOneResult, SomeResult, ExactlyOneResult, SomeRow, OneRow, SomeSchedule, OneSchedule, SourcesAreListed, PassFindsResult, PassBegins, PassGoesOn, PassEnds, EntriesAreExact, MasksAreExact, OthersAreIdle, MasksInRange, InputsInRange, SignalsInRange, SomeNextMemory, OneNextMemory, NextInRange, FirstInRange};
-ghost use Rattle.sci_reaction.specs.Worked.{LoopThroughCondition, LoopOfFeedthrough, NoLoopAtOtherTimes, OtherTimesIsNet, NoLoopIntoFirst, LoopIntoSecond, CountingStarts, OverflowStops};
+ghost use Rattle.sci_reaction.specs.Laws.{OneDepth, DepthRises, OneSolution, AtMostOneResult, SomeResult, ExactlyOneResult, SomeRow, OneRow, SomeSchedule};
+ghost use Rattle.sci_reaction.specs.Laws.{OneSchedule, SourcesAreListed, PassFindsResult, PassBegins, PassGoesOn, PassEnds, EntriesAreExact};
+ghost use Rattle.sci_reaction.specs.Laws.{MasksAreExact, OthersAreIdle, MasksInRange, InputsInRange, SignalsInRange, SomeNextMemory, OneNextMemory};
+ghost use Rattle.sci_reaction.specs.Laws.{NextInRange, FirstInRange};
+ghost use Rattle.sci_reaction.specs.Worked.{LoopThroughCondition, LoopOfFeedthrough, NoLoopAtOtherTimes, OtherTimesIsNet, NoLoopIntoFirst, LoopIntoSecond};
+ghost use Rattle.sci_reaction.specs.Worked.{CountingStarts, OverflowStops};
 
 mod entry;
 

@@ -1,5 +1,6 @@
 -- The laws of what is saved behind a reaction of a run.
-use Rattle.std.specs.Prelude.{◌≡◌, ◌⊎◌, ℕ, ◌≤◌, ◌^◌, List, ◌∷◌, ◌++◌, true}
+use Rattle.std.specs.Prelude.{◌≡◌, ◌⊎◌, ℕ, ◌≤◌, List, ◌∷◌, ◌++◌, true}
+use Rattle.sci_base.specs.declared.limits.TheConstants.{TICKS, EVENTS}
 use Rattle.sci_base.specs.declared.observation.Obs.{Obs}
 use Rattle.sci_net.specs.Parts.{Parts}
 use Rattle.sci_net.specs.Net.{IsNet}
@@ -32,13 +33,13 @@ NotBoth =
 -- behind each reaction something is saved, or the run is over, where the input file is in range and the bounds are those of words
 abbrev pub SomeReached : Type 0
 SomeReached =
-    (n : Parts) (i : Columns) (until limit k : ℕ) → IsNet n → AreLoopFree n → AreColumns n i → until ≤ 2 ^ 62 → limit ≤ 1000000 → 1 ≤ k
+    (n : Parts) (i : Columns) (until limit k : ℕ) → IsNet n → AreLoopFree n → AreColumns n i → until ≤ TICKS → limit ≤ EVENTS → 1 ≤ k
     → ((m : Saved) × IsSavedBehind n i until limit k m) ⊎ ((count : ℕ) × HasEnded n i until limit k count)
 
 -- what is saved may be read again, where the input file is in range and the bounds are those of words
 abbrev pub SavedIsValid : Type 0
 SavedIsValid =
-    (n : Parts) (i : Columns) (until limit k : ℕ) (m : Saved) → IsNet n → AreLoopFree n → AreColumns n i → until ≤ 2 ^ 62 → limit ≤ 1000000
+    (n : Parts) (i : Columns) (until limit k : ℕ) (m : Saved) → IsNet n → AreLoopFree n → AreColumns n i → until ≤ TICKS → limit ≤ EVENTS
     → IsSavedBehind n i until limit k m → IsValid n i m
 
 -- what is observed of the first k reactions, and of those behind them, which begin with the header of one more

@@ -1,7 +1,8 @@
 //! A run that is done up to a reaction, to be saved there: its state behind that reaction, where it goes on.
 #![tactic(auto)]
 
-ghost use Rattle.std.specs.Prelude.{◌≡◌, ◌≤◌, ◌^◌, IfOk, IfSome, IfNone};
+ghost use Rattle.std.specs.Prelude.{◌≡◌, ◌≤◌, IfOk, IfSome, IfNone};
+ghost use Rattle.sci_base.specs.declared.limits.TheConstants.{TICKS, EVENTS};
 ghost use Rattle.sci_net.specs.Net.{IsNet};
 ghost use Rattle.sci_reaction.specs.Memory.{AreColumns};
 ghost use Rattle.sci_run.specs.Laws.{AreLoopFree};
@@ -38,8 +39,8 @@ fn react_times<B: Bank>(
     limit: u64,
     count: u64,
 ) -> Option<u64>
-    requires until { until ≤ 2 ^ 62 }
-    requires limit { limit ≤ 1000000 }
+    requires until { until ≤ TICKS }
+    requires limit { limit ≤ EVENTS }
     requires columns { AreColumns ready.old.fixed.net ins.now }
     requires start { IsAtStart ready.old.fixed.net ready.old lib.old }
     requires some { 1 ≤ count }
@@ -48,7 +49,7 @@ fn react_times<B: Bank>(
     ensures net { ready.new.fixed ≡ ready.old.fixed }
     ensures full { IsFull lib.new }
 {
-    let mut nowhere = SureSink::new();
+    let mut nowhere = SureSink;
     for done in 0..count {
         match ready.step(lib, ins, until, limit, &mut nowhere) {
             Ok(Step::More) => {}
@@ -71,8 +72,8 @@ pub fn run_to<B: Bank>(
     limit: u64,
     reaction: u64,
 ) -> Result<Reached, NoMemory>
-    requires until { until ≤ 2 ^ 62 }
-    requires limit { limit ≤ 1000000 }
+    requires until { until ≤ TICKS }
+    requires limit { limit ≤ EVENTS }
     requires net { IsNet ready.old.fixed.net }
     requires free { AreLoopFree ready.old.fixed.net }
     requires columns { AreColumns ready.old.fixed.net ins.now }

@@ -6,7 +6,7 @@ use Rattle.std.proofs.lemmas.List.{length-map, get_or-map, take_more, take_all}
 use Rattle.sci_base.specs.Lists.{at}
 use Rattle.sci_base.specs.Plain.{Fields, each_input}
 use Rattle.sci_forms.specs.declared.Kind.{Kind}
-use Rattle.sci_forms.specs.declared.Kind.TheVariants.{Const, Summation, GainBlk, Product, AbsValue, Signum, MaxMin, Saturation, DeadBand, Convert, Mux, Demux, Extractor, LogicalOp, RelationalOp, Shift, BitSet, BitClear, ExtractBits, Switch2, Select, Logic, AndLog, Dollar, SampHold, Register, ModuloCount, GatedDelay, Sensor, EvtDly, EvtVarDly, IfThEl, ESelect, Halt}
+use Rattle.sci_forms.specs.declared.Kind.TheVariants.{Const, Dollar, Register, ModuloCount, GatedDelay}
 use Rattle.sci_forms.specs.declared.broken.Broken.{Broken}
 use Rattle.sci_forms.specs.declared.ports.Port.{Port}
 use Rattle.sci_forms.specs.declared.spec.Spec.{Spec}
@@ -23,39 +23,7 @@ use Rattle.sci_rows.specs.Laws.{OriginLaw}
 
 named : (k : Kind) → by_name (name_of k) ≡ Some k
 named Const = refl
-named Summation = refl
-named GainBlk = refl
-named Product = refl
-named AbsValue = refl
-named Signum = refl
-named MaxMin = refl
-named Saturation = refl
-named DeadBand = refl
-named Convert = refl
-named Mux = refl
-named Demux = refl
-named Extractor = refl
-named LogicalOp = refl
-named RelationalOp = refl
-named Shift = refl
-named BitSet = refl
-named BitClear = refl
-named ExtractBits = refl
-named Switch2 = refl
-named Select = refl
-named Logic = refl
-named AndLog = refl
-named Dollar = refl
-named SampHold = refl
-named Register = refl
-named ModuloCount = refl
-named GatedDelay = refl
-named Sensor = refl
-named EvtDly = refl
-named EvtVarDly = refl
-named IfThEl = refl
-named ESelect = refl
-named Halt = refl
+named _ = refl
 
 -- ---- ports
 

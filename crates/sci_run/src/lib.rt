@@ -2,7 +2,10 @@
 //! reactions one after another, from start or from any state that stands behind a reaction.
 #![tactic(auto)]
 
-ghost use Rattle.sci_run.specs.Laws.{SomeTrace, SomeRest, OneTrace, OneRest, OneState, OneFinish, AlikeRest, SameRest, RestGoesOn, RunGoesOn, RunIsOver, NeverConflicts, InRangeFrom, ReachableInRange, FiredWithinLimit, NowWithinUntil, ReactionsAreCounted, OrdersWithinReactions, ActivationsWithinReactions, FirstPending, PendingFrom, ReachablePending, FiresAhead, NowNeverFalls};
+ghost use Rattle.sci_run.specs.Laws.{SomeTrace, SomeRest, OneTrace, OneRest, OneState, OneFinish, AlikeRest, SameRest, RestGoesOn, RunGoesOn, RunIsOver};
+ghost use Rattle.sci_run.specs.Laws.{NeverConflicts, InRangeFrom, ReachableInRange, FiredWithinLimit, NowWithinUntil, ReactionsAreCounted};
+ghost use Rattle.sci_run.specs.Laws.{OrdersWithinReactions, ActivationsWithinReactions, FirstPending, PendingFrom, ReachablePending, FiresAhead};
+ghost use Rattle.sci_run.specs.Laws.{NowNeverFalls};
 ghost use Rattle.sci_run.specs.Anew.{NumberedAnewLaw};
 ghost use Rattle.sci_run.specs.Worked.{WorkedRuns};
 

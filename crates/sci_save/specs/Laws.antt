@@ -1,5 +1,6 @@
 -- What holds of all texts and of all that may be saved.
 use Rattle.std.specs.Prelude.{◌≡◌, ◌⊎◌, ◌≤◌, ℕ, List, length}
+use Rattle.sci_base.specs.declared.limits.TheConstants.{TEXT_BYTES}
 use Rattle.sci_net.specs.Parts.{Parts}
 use Rattle.sci_net.specs.Net.{IsNet}
 use Rattle.sci_reaction.specs.Memory.{Columns, IsMemory}
@@ -31,4 +32,4 @@ SavedInRange = (n : Parts) (m : Saved) → IsNet n → IsShaped n m → IsMemory
 
 -- the text of what may be saved has no more bytes than a file of what was saved may have
 abbrev pub SavedIsShort : Type 0
-SavedIsShort = (n : Parts) (i : Columns) (m : Saved) → IsNet n → AreShort i → IsValid n i m → length (saved_text n m) ≤ 67108864
+SavedIsShort = (n : Parts) (i : Columns) (m : Saved) → IsNet n → AreShort i → IsValid n i m → length (saved_text n m) ≤ TEXT_BYTES

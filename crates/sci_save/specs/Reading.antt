@@ -1,5 +1,6 @@
 -- Reading what was saved, line by line: a value and the bytes behind it; or how many bytes are left where the line begins that isn't as it has to be.
 use Rattle.std.specs.Prelude.{◌≡◌, ℕ, zero, suc, ◌+◌, ◌-◌, ℤ, pos, List, [], ◌∷◌, length, take, replicate, slice_index_or, slice_set, codes, Bool, true, false, ◌&&◌, not, nat_eq, Option, Some, None, option_map, Result, Ok, Err, unsigned_abs, if◌then◌else◌}
+use Rattle.sci_base.specs.declared.limits.TheConstants.{TICKS, EVENTS}
 use Rattle.sci_base.specs.Lists.{at}
 use Rattle.sci_forms.specs.declared.spec.Spec.{Spec}
 use Rattle.sci_net.specs.declared.Source.{Source}
@@ -118,7 +119,7 @@ events_at n near (suc most) last marks bytes =
 
 -- how many events have fired, and the date
 abbrev pub at_bounds : List Bounds
-at_bounds = from_to (pos 0) (pos 1000000) ∷ from_to (pos 0) (pos 4611686018427387904) ∷ []
+at_bounds = from_to (pos 0) (pos EVENTS) ∷ from_to (pos 0) (pos TICKS) ∷ []
 
 abbrev pub unmarked : Parts → List Bool
 unmarked n = replicate (length (sources_of n)) false

@@ -1,5 +1,6 @@
 -- The run that goes on from what was saved.
-use Rattle.std.specs.Prelude.{◌≡◌, ℕ, ◌-◌, ◌++◌, ◌≤◌, ◌^◌, false, List}
+use Rattle.std.specs.Prelude.{◌≡◌, ℕ, ◌-◌, ◌++◌, ◌≤◌, false, List}
+use Rattle.sci_base.specs.declared.limits.TheConstants.{TICKS, EVENTS}
 use Rattle.sci_base.specs.declared.observation.Obs.{Obs}
 use Rattle.sci_net.specs.Parts.{Parts}
 use Rattle.sci_net.specs.Net.{IsNet}
@@ -30,13 +31,13 @@ pub record IsSavedOf (n : Parts) (st : State) (m : Saved) : Type 0 where
 -- Of each state that a run reaches something is saved, and it is valid, where the input file is in range and the bounds are those of words.
 abbrev pub ReachedIsSaved : Type 0
 ReachedIsSaved =
-    (n : Parts) (i : Columns) (until limit : ℕ) (st : State) (seen : List Obs) → IsNet n → AreLoopFree n → AreColumns n i → until ≤ 2 ^ 62 → limit ≤ 1000000
+    (n : Parts) (i : Columns) (until limit : ℕ) (st : State) (seen : List Obs) → IsNet n → AreLoopFree n → AreColumns n i → until ≤ TICKS → limit ≤ EVENTS
     → Reachable n i until limit st seen → (m : Saved) × IsSavedOf n st m × IsValid n i m
 
 -- And so of each state that the run reaches which goes on from what was saved, by whatever bounds; valid where that was.
 abbrev pub RestIsSaved : Type 0
 RestIsSaved =
-    (n : Parts) (i : Columns) (until limit : ℕ) (m : Saved) (st : State) (seen : List Obs) → IsNet n → AreLoopFree n → AreColumns n i → until ≤ 2 ^ 62 → limit ≤ 1000000
+    (n : Parts) (i : Columns) (until limit : ℕ) (m : Saved) (st : State) (seen : List Obs) → IsNet n → AreLoopFree n → AreColumns n i → until ≤ TICKS → limit ≤ EVENTS
     → IsShaped n m → ReachableFrom n i until limit (state_of m) st seen → (o : Saved) × IsSavedOf n st o × (IsValid n i m → IsValid n i o)
 
 -- Where a run goes on behind a reaction, what was observed up to there, and then from what was saved there on, is the whole run.

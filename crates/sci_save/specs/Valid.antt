@@ -1,6 +1,7 @@
 -- What may be saved of a run of a net.
-use Rattle.std.specs.Prelude.{◌≡◌, ◌≢◌, ℕ, ◌+◌, ◌<◌, ◌≤◌, ◌^◌, false, List, [], ◌∷◌, length}
+use Rattle.std.specs.Prelude.{◌≡◌, ◌≢◌, ℕ, ◌+◌, ◌<◌, ◌≤◌, false, List, [], ◌∷◌, length}
 use Rattle.std.specs.List.{AllByRecursion}
+use Rattle.sci_base.specs.declared.limits.TheConstants.{TICKS, EVENTS}
 use Rattle.sci_forms.specs.declared.spec.Spec.{Spec}
 use Rattle.sci_net.specs.Parts.{Parts}
 use Rattle.sci_forms.specs.Form.{is_sensor}
@@ -37,8 +38,8 @@ pub record ArePending (n : Parts) (now : ℕ) (ds : List (ℕ × ℕ)) : Type 0 
 
 -- all is as the net asks
 pub record IsShaped (n : Parts) (m : Saved) : Type 0 where
-  pub fired : m.fired ≤ 1000000
-  pub now : m.now ≤ 2 ^ 62
+  pub fired : m.fired ≤ EVENTS
+  pub now : m.now ≤ TICKS
   pub states : AreByBlock state_bounds n.specs m.states
   pub held : AreByBlock held_bounds n.specs m.held
   pub cursors : AreCursors n.specs m.cursors

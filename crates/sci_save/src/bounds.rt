@@ -11,7 +11,7 @@ use sci_forms::{Memory, Role, Spec};
 use std::alloc::Global;
 
 /// The numbers from `low` to `high`.
-#[derive(Clone, Copy, Debug, Drop, PartialEq, Eq)]
+#[derive(Clone, Copy, Drop)]
 pub struct Bounds {
     pub low: i64,
     pub high: i64,
@@ -37,7 +37,7 @@ impl Bounds {
 }
 
 /// What a line about a block tells: its state, the values that its outputs hold, or how many values of its column a sensor has taken.
-#[derive(Clone, Copy, Debug, Drop, PartialEq, Eq)]
+#[derive(Clone, Copy, Drop)]
 pub enum Part {
     State,
     Held,

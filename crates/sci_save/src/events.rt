@@ -1,5 +1,6 @@
 // The lines of pending events.
 ghost use Rattle.std.specs.Prelude.{◌≡◌, ◌≤◌, ◌<◌, ◌^◌, length, IfOk, IfSome};
+ghost use Rattle.sci_base.specs.declared.limits.TheConstants.{TICKS};
 ghost use Rattle.sci_net.specs.Parts.{spec_of};
 ghost use Rattle.sci_net.specs.Sources.{block_sources, sources_of};
 ghost use Rattle.sci_save.specs.Reading.{Gives, befores, is_port, free_place, event_at, pending_at};
@@ -115,7 +116,7 @@ pub fn pending<'a>(
     now: u64,
     bytes: &'a [u8],
 ) -> Result<(Vec<(u64, u32)>, &'a [u8]), LineStop>
-    requires { now ≤ 4611686018427387904 }
+    requires { now ≤ TICKS }
     ensures { Gives (λ x. (x.0.items, x.1.now)) result (pending_at net.now now bytes.now) }
 {
     let before = sources_before(alloc, net)?;

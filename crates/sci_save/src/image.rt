@@ -1,5 +1,5 @@
 /// What is saved of a run behind a reaction. Lists go by block, in the order of the net's blocks.
-#[derive(Debug, Drop)]
+#[derive(Drop)]
 pub struct Image {
     /// How many events have fired, at most 1,000,000.
     pub fired: u64,

@@ -5,7 +5,7 @@ use sci_base::NoMemory;
 use std::alloc::{AllocError, AllocFailed};
 
 /// Why a text saves nothing.
-#[derive(Debug, Drop, PartialEq, Eq)]
+#[derive(Drop)]
 pub enum SaveStop {
     /// This line is blamed, counted from 1: the first with which the text goes on as no text of what may be saved of the net. It is one more than
     /// there are lines where a line is missing.
@@ -15,7 +15,7 @@ pub enum SaveStop {
 }
 
 /// Why a line, or lines, weren't read.
-#[derive(Debug, Drop)]
+#[derive(Drop)]
 pub enum LineStop {
     /// There was no memory.
     Memory,

@@ -1,5 +1,6 @@
 -- The answer to a net: its schedule, or the rule that it breaks.
 use Rattle.std.specs.Prelude.{◌≡◌, ℕ, ◌<◌, ◌≤◌, ◌⊎◌, ℤ, pos, List, [], ◌∷◌, ◌++◌, length, map, slice_index}
+use Rattle.sci_base.specs.declared.limits.TheConstants.{ENTRIES}
 use Rattle.sci_base.specs.Plain.{Violation}
 use Rattle.sci_base.specs.declared.refusal.Rule.TheVariants.{AlgebraicLoop, ScheduleTooLong}
 use Rattle.sci_loop.specs.Loops.{IsLoop, IsFromLeast}
@@ -21,7 +22,7 @@ AreLoopFree n k = (i : ℕ) → i < k → IsLoopFree n (source_of n i)
 pub record IsPlan (n : Parts) (rows : List (List Entry)) : Type 0 where
   pub free : AreLoopFree n (length (sources_of n))
   pub schedule : IsSchedule n rows
-  pub short : size_of rows ≤ 262144
+  pub short : size_of rows ≤ ENTRIES
 
 -- ---- the rules
 
@@ -59,7 +60,7 @@ pub record BreaksLength (n : Parts) (v : Violation) : Type 0 where
   pub free : AreLoopFree n (length (sources_of n))
   pub rows : List (List Entry)
   pub schedule : IsSchedule n rows
-  pub long : 262144 < size_of rows
+  pub long : ENTRIES < size_of rows
   pub told : v ≡ length_violation (size_of rows)
 
 abbrev pub IsPlanBreak : Parts → Violation → Type 0

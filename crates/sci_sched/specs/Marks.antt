@@ -1,6 +1,7 @@
 -- What is marked of a source while its row is built.
 use Rattle.std.specs.Prelude.{◌≡◌, ℕ, ◌+◌, ◌<◌, ◌≤◌, ◌↔◌, List, [], length, vec_len, Contains, slice_index, slice_index_or}
 use Rattle.std.specs.Int.{bit_at}
+use Rattle.sci_base.specs.declared.limits.TheConstants.{PORTS}
 use Rattle.sci_loop.specs.Lists.{plain, list_at}
 use Rattle.sci_net.specs.declared.Source.{Source}
 use Rattle.sci_net.specs.Parts.{Parts}
@@ -15,7 +16,7 @@ use Rattle.sci_sched.specs.declared.marks.Marks.{Marks}
 pub record IsFitting (count : ℕ) (f : Fed) : Type 0 where
   pub block : f.block < count
   pub least : 1 ≤ f.input
-  pub most : f.input ≤ 64
+  pub most : f.input ≤ PORTS
 
 -- the masks have the bits of these activation inputs, and no other
 pub record HaveFed (feds : List Fed) (masks : List ℕ) : Type 0 where

@@ -1,5 +1,6 @@
 -- How long the schedule of a net is, from what is found before its rows are built.
 use Rattle.std.specs.Prelude.{◌≡◌, ℕ, ◌≤◌, List, length, sum_by}
+use Rattle.sci_base.specs.declared.limits.TheConstants.{ENTRIES}
 use Rattle.sci_net.specs.Parts.{Parts}
 use Rattle.sci_net.specs.Sources.{sources_of}
 use Rattle.sci_reaction.specs.Schedule.{Entry}
@@ -29,4 +30,4 @@ outline_guards o = o.guards
 pub record AreOutlined (n : Parts) (o : Outlined) : Type 0 where
   pub origins : AreOrigins n o.reach
   pub outlines : AreOutlines n (length (sources_of n)) o.outlines.items
-  pub short : sum_by outline_size o.outlines.items ≤ 262144
+  pub short : sum_by outline_size o.outlines.items ≤ ENTRIES

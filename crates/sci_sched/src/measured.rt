@@ -7,7 +7,7 @@ ghost use Rattle.sci_sched.specs.Laws.{OneSize};
 use crate::outline::Outline;
 
 /// How long the schedules of all sources are. The two numbers together are at most 262,144.
-#[derive(Clone, Copy, Debug, Drop, PartialEq, Eq)]
+#[derive(Clone, Copy, Drop)]
 pub struct Size {
     /// How many entries all rows have.
     pub entries: u64,

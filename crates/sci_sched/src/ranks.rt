@@ -7,7 +7,7 @@ use sci_base::NoMemory;
 use std::alloc::Global;
 
 /// Where a block stands in a row.
-#[derive(Clone, Copy, Debug, Drop, PartialEq, Eq, PartialOrd, Ord)]
+#[derive(Clone, Copy, Drop, PartialEq, Eq, PartialOrd, Ord)]
 pub struct Rank {
     pub depth: usize,
     pub block: u32,

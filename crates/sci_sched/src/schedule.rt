@@ -6,7 +6,7 @@ ghost use Rattle.sci_sched.specs.Size.{entry_count, guard_count, guards_in};
 use sci_reaction::Entry;
 
 /// The static schedule of each source: the blocks that it may activate, each after those that it depends on.
-#[derive(Debug, Drop)]
+#[derive(Drop)]
 pub struct Schedule {
     /// One row for each source, in the order of the net's sources. A row has its blocks by depth and number.
     pub rows: Vec<Vec<Entry>>,

@@ -18,7 +18,7 @@ use Rattle.sci_store.specs.Marks.{mark_at, idle}
 use Rattle.sci_store.specs.Tally.{lines_after}
 use Rattle.sci_store.specs.Frame.{Fixed, IsFrame}
 use Rattle.sci_store.specs.Rows.{Row, IsRowOf, IsReadyRow, HasBegun, KeepsBegun}
-use Rattle.sci_store.specs.Store.{Standing, IsStore, AreIdle, ShowsValues}
+use Rattle.sci_store.specs.Store.{Standing, AreIdle, ShowsValues}
 use Rattle.sci_store.specs.declared.marks.Mark.{Mark}
 use Rattle.sci_sim.specs.Rows.{row_in}
 use Rattle.sci_sim.specs.At.{IsAt, IsReady, Running}
@@ -78,17 +78,21 @@ begun_keeps f frame source row s is h = record { whole = h.whole; others = λ b 
 
 -- where a row was begun, or a reaction over it was, what is kept holds again
 pub ready_behind : (v : Running) (source : ℕ) (row : Row) (t : Standing) (w : Wheel) (halted : Bool) → IsReady v → v.row ≡ source → source < length v.rows → row ≡ row_in v.rows source
-    → IsStore v.fixed t → KeepsBegun v.fixed row t → IsReady (record v { store = t; wheel = w; halted = halted })
-ready_behind v source row t w halted h at within kept store begun =
+    → KeepsBegun v.fixed row t → IsReady (record v { store = t; wheel = w; halted = halted })
+ready_behind v source row t w halted h at within kept begun =
     let here : KeepsBegun v.fixed (row_in v.rows v.row) t = subst (λ (k : ℕ). KeepsBegun v.fixed (row_in v.rows k) t) (sym at) (subst (λ (x : Row). KeepsBegun v.fixed x t) kept begun) in
-    record { frame = h.frame; rows = h.rows; store = store; row = h.row; begun = λ has. here; marked = here.others }
+    record { frame = h.frame; rows = h.rows; row = h.row; begun = λ has. here; marked = here.others }
 
 -- the row of a source, where its blocks are marked
-pub ready_entered : (v : Running) (source : ℕ) (row : Row) (t : Standing) → IsReady v → source < length v.rows → row ≡ row_in v.rows source → IsStore v.fixed t → KeepsBegun v.fixed row t
+pub ready_entered : (v : Running) (source : ℕ) (row : Row) (t : Standing) → IsReady v → source < length v.rows → row ≡ row_in v.rows source → KeepsBegun v.fixed row t
     → IsReady (record v { store = t; row = source; has_row = true })
-ready_entered v source row t h within kept store begun =
+ready_entered v source row t h within kept begun =
     let here : KeepsBegun v.fixed (row_in v.rows source) t = subst (λ (x : Row). KeepsBegun v.fixed x t) kept begun in
-    record { frame = h.frame; rows = h.rows; store = store; row = within; begun = λ has. here; marked = here.others }
+    record { frame = h.frame; rows = h.rows; row = within; begun = λ has. here; marked = here.others }
+
+-- the same where the tables of what is kept are the same
+pub ready_on : (v : Running) (f : Fixed) → f ≡ v.fixed → IsReady v → IsReady (record v { fixed = f })
+ready_on v f same h = subst (λ (x : Fixed). IsReady (record v { fixed = x })) (sym same) h
 
 -- the blocks that the last reaction activated are in its source's row
 pub active_in_row : (r : Running) (banks : List Meaning) (st : State) → IsReady r → IsAt r banks st → (b : ℕ) → IsBlock r.fixed.net b → st.active b ≡ true → Contains (row_in r.rows r.row).blocks b

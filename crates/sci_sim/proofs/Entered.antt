@@ -1,5 +1,5 @@
 -- A reaction over a row that was begun.
-use Rattle.std.proofs.Common.{◌≡◌, ℕ, ◌<◌, ◌≤◌, true, List, length, get_or, ap, sym, subst, arith}
+use Rattle.std.proofs.Common.{◌≡◌, ◌∙◌, ℕ, ◌<◌, ◌≤◌, Bool, true, List, length, get_or, ap, sym, subst, arith}
 use Rattle.sci_forms.specs.declared.Kind.{Kind}
 use Rattle.sci_net.specs.Sources.{source_of}
 use Rattle.sci_reaction.specs.Depends.{IsLoopFree}
@@ -7,15 +7,17 @@ use Rattle.sci_reaction.specs.Memory.{Columns}
 use Rattle.sci_bank.specs.Bank.{Meaning}
 use Rattle.sci_bank.specs.Library.{bank_of}
 use Rattle.sci_run.specs.Run.{State}
+use Rattle.sci_agenda.specs.Wheel.{Wheel}
+use Rattle.sci_store.specs.Frame.{Fixed}
 use Rattle.sci_store.specs.Store.{Standing}
 use Rattle.sci_store.specs.Passed.{IsValued}
-use Rattle.sci_store.specs.Rows.{Row, IsRowOf, IsReadyRow, HasBegun}
+use Rattle.sci_store.specs.Rows.{Row, IsRowOf, IsReadyRow, HasBegun, KeepsBegun}
 use Rattle.sci_store.specs.Runs.{MayStep}
 use Rattle.sci_store.proofs.Reacting.{range_here, masks_here, states_here, sensed_here}
 use Rattle.sci_sim.specs.Rows.{row_in}
 use Rattle.sci_sim.specs.At.{Running, IsReady}
 use Rattle.sci_sim.specs.Reacting.{ShowsFiring}
-use Rattle.sci_sim.proofs.Cleared.{shown_cleared}
+use Rattle.sci_sim.proofs.Cleared.{shown_cleared, ready_behind, ready_on}
 use Rattle.sci_sim.proofs.Reacting.{source_within, row_read}
 
 -- a net v that stands as r, but that the row of a source is begun
@@ -79,3 +81,15 @@ module _ (r v : Running) (source : ℕ) (row : Row) (h : IsEntered r v source ro
         sensed = sensed_here v.fixed from h.ready.frame i st.memory v.store t banks mid valued s.memory;
         states = states_here v.fixed from h.ready.frame i st.memory v.store t banks mid valued s.memory s.in_range;
       }
+
+  -- all else stays where a reaction over the row has changed what is kept, but not its tables
+  pub rest_stays : (f : Fixed) (t : Standing) (w : Wheel) (halted : Bool) → f ≡ v.fixed
+      → ◌≡◌ {A = Running} (record v { fixed = f; store = t; wheel = w; halted = halted }) (record r { store = t; wheel = w; row = source; has_row = true; halted = halted })
+  rest_stays f t w halted same =
+      ap (λ (x : Fixed). let y : Running = record v { fixed = x; store = t; wheel = w; halted = halted } in y) same
+      ∙ ap (λ (x : Running). let y : Running = record x { store = t; wheel = w; halted = halted } in y) h.is
+
+  -- and it is ready for another
+  pub ready_reacted : (f : Fixed) (t : Standing) (w : Wheel) (halted : Bool) → f ≡ v.fixed → KeepsBegun v.fixed row t
+      → IsReady (record v { fixed = f; store = t; wheel = w; halted = halted })
+  ready_reacted f t w halted same kept = ready_on _ f same (ready_behind v source row t w halted h.ready (ap (λ (x : Running). x.row) h.is) h.within h.row_is kept)

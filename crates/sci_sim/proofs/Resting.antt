@@ -21,6 +21,7 @@ use Rattle.sci_store.specs.Frame.{Fixed, IsFrame}
 use Rattle.sci_store.specs.Store.{Standing}
 use Rattle.sci_store.specs.Written.{tallied}
 use Rattle.sci_store.proofs.Writing.{text-append}
+use Rattle.sci_kept.specs.Kept.{Kept}
 use Rattle.sci_sim.specs.declared.end.RunEnd.{RunEnd}
 use Rattle.sci_sim.specs.declared.end.RunEnd.TheVariants.{End as Ended, Stop as Stopped}
 use Rattle.sci_sim.specs.declared.end.Step.{Step}
@@ -174,7 +175,7 @@ module _ (i : Columns) (until limit : ℕ) (first : State) (from r : Running) (b
           → (step : Step) → step ≡ More → IsStep i until limit w.e.date w.e.source (taken w.st w.e) b later o step → b.offset ≡ r.offset → b.started ≡ true
           → IsRestOnWay i until limit first from b later old new (k + 1)
       goes_further {T} x new h step goes is offset started =
-          goes_by new (record { ok = h.ok; quiet = h.quiet; begun = h.begun; cut = h.cut; dropped = h.dropped; cause = h.cause; later = h.later }) offset started
+          goes_by new (record { ok = h.ok; quiet = h.quiet; works = h.works; cut = h.cut; dropped = h.dropped; cause = h.cause; fails = h.fails; later = h.later }) offset started
           o refl outcome (subst (IsStep i until limit w.e.date w.e.source (taken w.st w.e) b later o) goes is)
 
       -- the last one
@@ -261,7 +262,7 @@ module _ (i : Columns) (until limit : ℕ) (first : State) (from r : Running) (b
           let is = one_rest from.fixed.net i frame.net frame.free until limit first all os run other in
           same_text (sym (text-append w.seen (step_seen r.fixed.net until limit o)) ∙ ap text is)
           (then_writes {T = Unit {0}} {E = Failed} {U = U} {F = Failed} (text w.seen) (text (step_seen r.fixed.net until limit o)) (Ok tt) (Ok y) tt refl w.written
-          (record { ok = h.ok; quiet = h.quiet; begun = h.begun; cut = h.cut; dropped = h.dropped; cause = h.cause; later = h.later }))
+          (record { ok = h.ok; quiet = h.quiet; works = h.works; cut = h.cut; dropped = h.dropped; cause = h.cause; fails = h.fails; later = h.later }))
 
 -- ---- what was observed is the rest
 
@@ -294,14 +295,14 @@ module _ (i : Columns) (until limit : ℕ) (first : State) (r : Running) (word :
     at = at;
   }
 
-pub ready_tallied : (v : Running) (t : Standing) (os : List Obs) → t ≡ tallied v.store os → IsReady v → IsReady (record v { store = t })
-ready_tallied v t os e h =
-    subst (λ (x : Standing). IsReady (record v { store = x })) (sym e)
+pub ready_tallied : (v : Running) (k : Kept) (os : List Obs) → k.fixed ≡ v.fixed → k.store ≡ tallied v.store os → IsReady v → IsReady (record v { fixed = k.fixed; store = k.store })
+ready_tallied v k os fixed e h =
+    subst (λ (f : Fixed). IsReady (record v { fixed = f; store = k.store })) (sym fixed)
+    (subst (λ (x : Standing). IsReady (record v { store = x })) (sym e)
     (record {
       frame = h.frame;
       rows = h.rows;
-      store = record { values = h.store.values; cursors = h.store.cursors; marks = h.store.marks; room = h.store.room; chosen = h.store.chosen };
       row = h.row;
       begun = λ has. let b = h.begun has in record { whole = b.whole; others = b.others };
       marked = h.marked;
-    })
+    }))

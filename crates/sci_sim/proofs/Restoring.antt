@@ -1,7 +1,7 @@
 -- What is saved of a net, and a net that stands where a run was saved.
 use Rattle.std.specs.declared.alloc.Global.{Global}
 use Rattle.std.proofs.Common.{Vec, ◌≡◌, ℕ, zero, suc, ◌+◌, ◌<◌, ◌≤◌, ℤ, pos, ◌-ℤ◌, ◌≤ℤ◌, ◌<ℤ◌, true, false, List, [], ◌∷◌, All, length, get_or, map, replicate, refl, ap, sym, ◌∙◌, subst, arith, true≢false}
-use Rattle.std.specs.Prelude.{◌==◌}
+use Rattle.std.specs.Prelude.{◌==◌, Result, Ok, Err, IfOk}
 use Rattle.std.specs.List.{AllByRecursion}
 use Rattle.std.proofs.lemmas.Int.{ints}
 use Rattle.std.proofs.lemmas.List.{length-map}
@@ -38,11 +38,12 @@ use Rattle.sci_store.specs.Frame.{Fixed, IsFrame}
 use Rattle.sci_store.specs.Seating.{IsSeatingBy, begun}
 use Rattle.sci_store.specs.Store.{Standing, IsStore, AreIdle, cursor_at, state_of}
 use Rattle.sci_store.specs.Rows.{Row}
+use Rattle.sci_kept.specs.Kept.{Kept, IsUntold}
 use Rattle.sci_sim.specs.Rows.{AreRowsOf}
 use Rattle.sci_sim.specs.Programming.{Keeps}
 use Rattle.sci_sim.specs.Saving.{IsByBlock, more}
 use Rattle.sci_sim.specs.At.{Running, IsReady, IsAt}
-use Rattle.sci_sim.specs.Restored.{IsRestored}
+use Rattle.sci_sim.specs.Restored.{IsKeptOf, IsRestored}
 use Rattle.sci_sim.proofs.Begun.{typed_begun, state_begun}
 use Rattle.sci_sim.proofs.Listed.{same_by_block, by_block_length}
 use Rattle.sci_sim.proofs.Saved.{listed_is}
@@ -70,12 +71,12 @@ module _ (r : Running) (banks : List Meaning) (st : State) (m : Saved) (stands :
       near_small r.fixed.net m.now r.offset r.wheel.meaning.events saved.shaped.now
       (subst (AllByRecursion (IsNear r.fixed.net m.now)) (sym listed) saved.shaped.pending.near)
 
-  pub image_is : IsReady r → (states held : List (Vec ℤ Global)) (cursors : List ℕ) (pending : List (ℕ × ℕ)) → IsByBlock r.fixed.net [] (state_of r.fixed banks) (rows_of states)
+  pub image_is : IsStore r.fixed r.store → (states held : List (Vec ℤ Global)) (cursors : List ℕ) (pending : List (ℕ × ℕ)) → IsByBlock r.fixed.net [] (state_of r.fixed banks) (rows_of states)
       → IsByBlock r.fixed.net [] (values_at r.fixed.net r.store.values) (rows_of held) → cursors ≡ r.store.cursors → pending ≡ map (more r.offset) r.wheel.meaning.events
       → ◌≡◌ {A = Saved} (record { fired = r.fired; now = r.now; states = rows_of states; held = rows_of held; cursors = cursors; pending = pending }) m
-  image_is ready states held cursors pending states_are held_are cursors_are pending_are =
+  image_is store states held cursors pending states_are held_are cursors_are pending_are =
       let n : Parts = r.fixed.net in
-      let taken : IsByBlock n 0 (cursor_at r.store) r.store.cursors = record { one_each = ready.store.cursors; each = λ b block. refl } in
+      let taken : IsByBlock n 0 (cursor_at r.store) r.store.cursors = record { one_each = store.cursors; each = λ b block. refl } in
       same_saved m r.fired r.now (rows_of states) (rows_of held) cursors pending
       (stands.fired ∙ sym saved.fired)
       (stands.now ∙ sym saved.now)
@@ -94,7 +95,7 @@ pub dates_small_in : (v r : Running) (banks : List Meaning) (st : State) (m : Sa
 dates_small_in v r banks st m is stands saved =
     dates_small v banks st m (subst (λ (x : Running). IsAt x banks st) (sym is) stands) (subst (λ (x : Running). IsSavedOf x.fixed.net st m) (sym is) saved)
 
-pub image_in : (v r : Running) (banks : List Meaning) (st : State) (m : Saved) → v ≡ r → IsAt r banks st → IsSavedOf r.fixed.net st m → IsReady v
+pub image_in : (v r : Running) (banks : List Meaning) (st : State) (m : Saved) → v ≡ r → IsAt r banks st → IsSavedOf r.fixed.net st m → IsStore v.fixed v.store
     → (states held : List (Vec ℤ Global)) (cursors : List ℕ) (pending : List (ℕ × ℕ)) → IsByBlock v.fixed.net [] (state_of v.fixed banks) (rows_of states)
     → IsByBlock v.fixed.net [] (values_at v.fixed.net v.store.values) (rows_of held) → cursors ≡ v.store.cursors → pending ≡ map (more v.offset) v.wheel.meaning.events
     → ◌≡◌ {A = Saved} (record { fired = v.fired; now = v.now; states = rows_of states; held = rows_of held; cursors = cursors; pending = pending }) m
@@ -146,24 +147,21 @@ one_state_each n rows states w e = ap length e ∙ (sym (length-map states (λ (
 abbrev pub restored_at : Fixed → List Row → Standing → Wheel → (now fired : ℕ) → Running
 restored_at f rows s w now fired = record { fixed = f; rows = rows; store = s; wheel = w; offset = now; now = now; fired = fired; row = 0; has_row = false; started = true; halted = false }
 
-module _ (f : Fixed) (rows : List Row) (s : Standing) (w : Wheel) (m : Saved) (frame : IsFrame f) (store : IsStore f s) (idle : AreIdle f s) where
+module _ (f : Fixed) (rows : List Row) (s : Standing) (w : Wheel) (m : Saved) (frame : IsFrame f) (idle : AreIdle f s) where
   pub restored_ready : AreRowsOf f rows → IsReady (restored_at f rows s w m.now m.fired)
   restored_ready are = record {
     frame = frame;
     rows = are;
-    store = store;
     row = first_row_within f rows are;
     begun = λ has. absurd (true≢false (sym has));
     marked = λ b block out. idle b block;
   }
 
-  pub restored_is : (n : Parts) → f.net ≡ n → (banks : List Meaning) → IsFull banks → AreInOrder banks → (states : List (List ℤ)) → states ≡ m.states
-      → IsSeatingBy f.net (begun f.net states) f.seats banks → IsShaped n m
+  pub restored_is : (n : Parts) → f.net ≡ n → (banks : List Meaning) → IsFull banks → AreInOrder banks → IsSeatingBy f.net (begun f.net m.states) f.seats banks → IsShaped n m
       → ((b : ℕ) → IsBlock f.net b → values_at f.net s.values b ≡ numbered [] m.held b) → s.cursors ≡ m.cursors → s.lines ≡ 0 → s.sum ≡ 0
       → (pending : List (ℕ × ℕ)) → pending ≡ m.pending → Keeps n m.now m.now w.meaning w.puts (numbered_anew pending) → IsRestored n (restored_at f rows s w m.now m.fired) banks m
-  restored_is n same banks full order states states_are seats shape held cursors lines sum events events_are kept =
+  restored_is n same banks full order seated shape held cursors lines sum events events_are kept =
       let keeps = subst (λ (ds : List (ℕ × ℕ)). Keeps n m.now m.now w.meaning w.puts (numbered_anew ds)) events_are kept in
-      let seated = subst (λ (rows : List (List ℤ)). IsSeatingBy f.net (begun f.net rows) f.seats banks) states_are seats in
       let shaped : IsShaped f.net m = subst (λ (k : Parts). IsShaped k m) (sym same) shape in
       subst (λ (k : Parts). IsRestored k (restored_at f rows s w m.now m.fired) banks m) same (record {
         net = refl;
@@ -218,3 +216,19 @@ saved_again n m shaped = record {
   memory = record { state = λ b block. refl; held = λ b block. refl; cursor = λ b block. refl };
   pending = sym (anew.in_order_again m.pending (rises_from m.now m.pending shaped.pending.rises));
 }
+
+-- what is kept of it, by what is known of each part
+pub kept_of : {E : Type 0} (n : Parts) (m : Saved) (banks : List Meaning) (states : List (List ℤ)) (values : List ℤ) (cursors : List ℕ) (r : Result Kept E) → states ≡ m.states
+    → ((b : ℕ) → IsBlock n b → values_at n values b ≡ numbered [] m.held b) → cursors ≡ m.cursors → IfOk r (λ k. k.fixed.net ≡ n)
+    → IfOk r (λ k. IsSeatingBy k.fixed.net (begun k.fixed.net states) k.fixed.seats banks) → IfOk r (λ k. k.store.values ≡ values) → IfOk r (λ k. k.store.cursors ≡ cursors)
+    → IfOk r IsUntold → IfOk r (λ k. IsKeptOf n k banks m)
+kept_of n m banks states values cursors (Ok k) states_are held_are cursors_are net seated held taken untold = record {
+  net = net;
+  seated = subst (λ (rows : List (List ℤ)). IsSeatingBy k.fixed.net (begun k.fixed.net rows) k.fixed.seats banks) states_are seated;
+  held = λ b block.
+      ap (λ (vs : List ℤ). values_at k.fixed.net vs b) held
+      ∙ subst (λ (x : Parts). (c : ℕ) → IsBlock x c → values_at x values c ≡ numbered [] m.held c) (sym net) held_are b block;
+  cursors = taken ∙ cursors_are;
+  untold = untold;
+}
+kept_of n m banks states values cursors (Err e) states_are held_are cursors_are net seated held taken untold = tt

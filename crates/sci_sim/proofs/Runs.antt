@@ -232,7 +232,7 @@ module _ (i : Columns) (until limit : ℕ) (from r : Running) (banks : List Mean
         steps = one_more r.started b.started r.fired b.fired k started fired w.steps idle_at_start;
         written = same_text (sym (text-append w.seen (step_seen r.fixed.net until limit o)))
             (then_writes {T = Unit {0}} {E = Failed} {U = Unit {0}} {F = Failed} (text w.seen) (text (step_seen r.fixed.net until limit o)) (Ok tt) (Ok tt) tt refl w.written
-            (record { ok = h.ok; quiet = h.quiet; begun = h.begun; cut = h.cut; dropped = h.dropped; cause = h.cause; later = h.later }));
+            (record { ok = h.ok; quiet = h.quiet; works = h.works; cut = h.cut; dropped = h.dropped; cause = h.cause; fails = h.fails; later = h.later }));
       }
 
       -- the last one
@@ -284,7 +284,7 @@ module _ (i : Columns) (until limit : ℕ) (from r : Running) (banks : List Mean
           let is = one_trace from.fixed.net i frame.net frame.free until limit all os run other in
           same_text (sym (text-append w.seen (step_seen r.fixed.net until limit o)) ∙ ap text is)
           (then_writes {T = Unit {0}} {E = Failed} {U = U} {F = Failed} (text w.seen) (text (step_seen r.fixed.net until limit o)) (Ok tt) (Ok y) tt refl w.written
-          (record { ok = h.ok; quiet = h.quiet; begun = h.begun; cut = h.cut; dropped = h.dropped; cause = h.cause; later = h.later }))
+          (record { ok = h.ok; quiet = h.quiet; works = h.works; cut = h.cut; dropped = h.dropped; cause = h.cause; fails = h.fails; later = h.later }))
 
       -- where out fails, a front of the trace is due
       pub trace_cut : {T U : Type 0} (p : Result T Failed) (q : Result U Failed) (e f : Failed) (new : SinkState) (os : List Obs) → p ≡ Err e → q ≡ Err f

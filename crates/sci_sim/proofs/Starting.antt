@@ -19,7 +19,7 @@ use Rattle.sci_store.specs.Rows.{Row}
 use Rattle.sci_sim.specs.Rows.{AreRowsOf}
 use Rattle.sci_store.specs.Frame.{Fixed, IsFrame}
 use Rattle.sci_store.specs.Seating.{IsSeating}
-use Rattle.sci_store.specs.Store.{Standing, IsStore, AreIdle, cursor_at}
+use Rattle.sci_store.specs.Store.{Standing, AreIdle, cursor_at}
 use Rattle.sci_store.proofs.Starting.{seats_are}
 use Rattle.sci_sim.specs.Programming.{Keeps}
 use Rattle.sci_sim.specs.At.{Running, IsReady, IsAtStart}
@@ -45,12 +45,11 @@ no_halt b (s ∷ ss) = no_halt (b + 1) ss
 abbrev pub at_rest : Fixed → List Row → Standing → Wheel → Running
 at_rest f rows s w = record { fixed = f; rows = rows; store = s; wheel = w; offset = 0; now = 0; fired = 0; row = 0; has_row = false; started = false; halted = false }
 
-module _ (f : Fixed) (rows : List Row) (s : Standing) (w : Wheel) (frame : IsFrame f) (store : IsStore f s) (idle : AreIdle f s) where
+module _ (f : Fixed) (rows : List Row) (s : Standing) (w : Wheel) (frame : IsFrame f) (idle : AreIdle f s) where
   pub ready_is : AreRowsOf f rows → IsReady (at_rest f rows s w)
   ready_is are = record {
     frame = frame;
     rows = are;
-    store = store;
     row = first_row_within f rows are;
     begun = λ has. absurd (true≢false (sym has));
     marked = λ b block out. idle b block;

@@ -27,6 +27,7 @@ use Rattle.sci_store.specs.Frame.{Fixed}
 use Rattle.sci_store.specs.Store.{Standing, AreCountedWithin, active_of}
 use Rattle.sci_store.specs.Tally.{lines_after}
 use Rattle.sci_store.specs.Written.{sum_of, tallied}
+use Rattle.sci_kept.specs.Kept.{Kept}
 use Rattle.sci_sim.specs.Rows.{row_in}
 use Rattle.sci_sim.specs.At.{Running, IsReady, Shows, IsAt, AreTallied}
 use Rattle.sci_sim.specs.Reacting.{ShowsFiring, HasSetOut, AreMarksOf, IsReacted, IsStopOf, seen_in}
@@ -204,32 +205,34 @@ leads_to i until limit date source from n r banks o seen after step more net lea
 )
 
 -- only the counts change where the end is observed
-pub at_tallied : (b v : Running) (later : List Meaning) (st : State) (os : List Obs) (t : Standing) → v ≡ b → IsAt b later st → t ≡ tallied v.store os → IsAt (record v { store = t }) later st
-at_tallied b v later st os t is h e =
+pub at_tallied : (b v : Running) (later : List Meaning) (st : State) (os : List Obs) (k : Kept) → v ≡ b → IsAt b later st → k.fixed ≡ v.fixed → k.store ≡ tallied v.store os
+    → IsAt (record v { fixed = k.fixed; store = k.store }) later st
+at_tallied b v later st os k is h fixed e =
     let at = subst (λ x. IsAt x later st) (sym is) h in
     let s = at.shown in
-    subst (λ (x : Standing). IsAt (record v { store = x }) later st) (sym e) (record {
+    subst (λ (f : Fixed). IsAt (record v { fixed = f; store = k.store }) later st) (sym fixed)
+    (subst (λ (x : Standing). IsAt (record v { store = x }) later st) (sym e) (record {
       shown = record { seated = s.seated; memory = record { held = s.memory.held; cursor = s.memory.cursor; state = s.memory.state }; in_range = s.in_range; pending = s.pending; counts = s.counts };
       now = at.now;
       fired = at.fired;
       active = at.active;
       halted = at.halted;
-    })
+    }))
 
 -- the same where the end is observed on the view
-pub leads_to_in : (i : Columns) (until limit date source : ℕ) (from : State) (n : Parts) (b v : Running) (t : Standing) (banks : List Meaning) (o : ReactionOutcome) (seen : List Obs) (after : State) (step : Step)
-    (more : List Obs) → v ≡ b → b.fixed.net ≡ n → o ≡ Leads seen after → IsAt (record v { store = t }) banks after → b.row ≡ source
+pub leads_to_in : (i : Columns) (until limit date source : ℕ) (from : State) (n : Parts) (b v : Running) (k : Kept) (banks : List Meaning) (o : ReactionOutcome) (seen : List Obs) (after : State) (step : Step)
+    (more : List Obs) → v ≡ b → k.fixed ≡ v.fixed → b.fixed.net ≡ n → o ≡ Leads seen after → IsAt (record v { fixed = k.fixed; store = k.store }) banks after → b.row ≡ source
     → (step_of (comes_next b.fixed.net until (limit - after.fired) after) ≡ step) × (end_seen (comes_next b.fixed.net until (limit - after.fired) after) ≡ more)
-    → IsStep i until limit date source from (record v { store = t }) banks o step × (step_seen n until limit o ≡ seen_in o ++ more)
-leads_to_in i until limit date source from n b v t banks o seen after step more is net leads at row answers =
-    let same = ap (λ (x : Running). x.fixed.net) is in
-    leads_to i until limit date source from n (record v { store = t }) banks o seen after step more (same ∙ net) leads at (ap (λ (x : Running). x.row) is ∙ row)
+    → IsStep i until limit date source from (record v { fixed = k.fixed; store = k.store }) banks o step × (step_seen n until limit o ≡ seen_in o ++ more)
+leads_to_in i until limit date source from n b v k banks o seen after step more is fixed net leads at row answers =
+    let same = ap (λ (f : Fixed). f.net) fixed ∙ ap (λ (x : Running). x.fixed.net) is in
+    leads_to i until limit date source from n (record v { fixed = k.fixed; store = k.store }) banks o seen after step more (same ∙ net) leads at (ap (λ (x : Running). x.row) is ∙ row)
     (subst (λ (m : Parts). (step_of (comes_next m until (limit - after.fired) after) ≡ step) × (end_seen (comes_next m until (limit - after.fired) after) ≡ more)) (sym same) answers)
 
 -- ---- what is written
 
 pub ok_as : {T E U F : Type 0} {old new : SinkState} {t : List ℕ} (x : T) (y : U) → Writes {T = T} {E = E} old new t (Ok x) → Writes {T = U} {E = F} old new t (Ok y)
-ok_as x y w = record { ok = w.ok; quiet = w.quiet; begun = w.begun; cut = w.cut; dropped = w.dropped; cause = w.cause; later = w.later }
+ok_as x y w = record { ok = w.ok; quiet = w.quiet; works = w.works; cut = w.cut; dropped = w.dropped; cause = w.cause; fails = w.fails; later = w.later }
 
 pub err_as : {T E U F : Type 0} {old new : SinkState} {t : List ℕ} (r : Result T E) (s : Result U F) (e : E) (f : F) → r ≡ Err e → s ≡ Err f → Writes old new t r → Writes old new t s
 err_as {t = t} r s e f h k w = same_text (append-nil t) (stopped_writes t [] r s e f h k w)
@@ -250,5 +253,6 @@ pub step_written : {T E V H : Type 0} {old mid new : SinkState} (o : ReactionOut
 step_written o os more x y is w v =
     same_text (sym (text-append (seen_in o) more) ∙ ap text (sym is)) (then_writes (text (seen_in o)) (text more) (Ok x) y x refl w v)
 
-pub ready_kept : (v : Running) (t : Standing) → t ≡ v.store → IsReady v → IsReady (record v { store = t })
-ready_kept v t e h = subst (λ (x : Standing). IsReady (record v { store = x })) (sym e) h
+pub ready_kept : (v : Running) (k : Kept) → k.fixed ≡ v.fixed → k.store ≡ v.store → IsReady v → IsReady (record v { fixed = k.fixed; store = k.store })
+ready_kept v k fixed e h =
+    subst (λ (f : Fixed). IsReady (record v { fixed = f; store = k.store })) (sym fixed) (subst (λ (x : Standing). IsReady (record v { store = x })) (sym e) h)

@@ -7,9 +7,9 @@ use Rattle.std.proofs.lemmas.Bool.{and_parts, eqb-true, lt-ltb, le-ltb}
 use Rattle.std.proofs.lemmas.Bool.Decides.{nat_tests}
 use Rattle.std.proofs.lemmas.List.Sums.{sum_by-drop_more}
 use Rattle.sci_forms.specs.declared.Kind.{Kind}
-use Rattle.sci_forms.specs.declared.Kind.TheVariants.{Const, Summation, GainBlk, Product, AbsValue, Signum, MaxMin, Saturation, DeadBand, Convert, Mux, Demux, Extractor, LogicalOp, RelationalOp, Shift, BitSet, BitClear, ExtractBits, Switch2, Select, Logic, AndLog, Dollar, SampHold, Register, ModuloCount, GatedDelay, Sensor, EvtDly, EvtVarDly, IfThEl, ESelect, Halt}
+use Rattle.sci_forms.specs.declared.Kind.TheVariants.{Const}
 use Rattle.sci_forms.specs.declared.spec.Spec.{Spec}
-use Rattle.sci_forms.specs.Names.{number_of}
+use Rattle.sci_forms.specs.Names.{number_of, all_kinds, kinds}
 use Rattle.sci_net.specs.Parts.{Parts}
 use Rattle.sci_run.specs.Counts.{activations_from}
 use Rattle.sci_bank.specs.Bank.{Meaning, no_bank}
@@ -18,12 +18,7 @@ use Rattle.sci_sim.specs.Totals.{StateAddsUp, StopAddsUp}
 
 -- ---- the kinds by number
 
-abbrev all_kinds : List Kind
-all_kinds =
-    Const ∷ Summation ∷ GainBlk ∷ Product ∷ AbsValue ∷ Signum ∷ MaxMin ∷ Saturation ∷ DeadBand ∷ Convert ∷ Mux ∷ Demux ∷ Extractor ∷ LogicalOp ∷ RelationalOp ∷ Shift ∷ BitSet ∷ BitClear ∷ ExtractBits
-    ∷ Switch2 ∷ Select ∷ Logic ∷ AndLog ∷ Dollar ∷ SampHold ∷ Register ∷ ModuloCount ∷ GatedDelay ∷ Sensor ∷ EvtDly ∷ EvtVarDly ∷ IfThEl ∷ ESelect ∷ Halt ∷ []
-
--- their numbers are these, one after the other
+-- the numbers of these kinds are b and those behind it
 abbrev are_numbered : ℕ → List Kind → Bool
 are_numbered b [] = true
 are_numbered b (k ∷ ks) = (number_of k == b) && are_numbered (b + 1) ks
@@ -32,7 +27,7 @@ some_number : (k : Kind) → 1 ≤ number_of k
 some_number Const = omega arith
 some_number _ = omega arith
 
-most_number : (k : Kind) → number_of k ≤ 34
+most_number : (k : Kind) → number_of k ≤ kinds
 most_number Const = omega arith
 most_number _ = omega arith
 
@@ -92,7 +87,7 @@ module _ (n : Parts) (acts : ℕ → ℕ) (banks : List Meaning) (full : IsFull 
   abbrev behind_first : ℕ → ℕ
   behind_first i = activations_from (λ s. nat_lt i (number_of s.kind)) 1 n.specs acts
 
-  none_behind : (i : ℕ) → i ≡ 34 → behind_first i ≡ 0
+  none_behind : (i : ℕ) → i ≡ kinds → behind_first i ≡ 0
   none_behind i last = none (λ s. nat_lt i (number_of s.kind)) (λ s. le-ltb i (number_of s.kind) (let most = most_number s.kind in omega (arith, most, last))) 1 n.specs acts
 
   split : (i : ℕ) (k : Kind) → number_of k ≡ i + 1 → behind_first i ≡ of_kind k + behind_first (i + 1)
@@ -102,7 +97,7 @@ module _ (n : Parts) (acts : ℕ → ℕ) (banks : List Meaning) (full : IsFull 
   all_kinds_are : behind_first 0 ≡ activations_from (λ s. true) 1 n.specs acts
   all_kinds_are = all (λ s. nat_lt 0 (number_of s.kind)) (λ s. lt-ltb 0 (number_of s.kind) (let some = some_number s.kind in omega (arith, some))) 1 n.specs acts
 
-  least_from : ((k : Kind) → min (of_kind k) 18446744073709551615 ≤ (bank_of banks k).outs) → (i : ℕ) (ks : List Kind) → are_numbered (i + 1) ks ≡ true → i + length ks ≡ 34
+  least_from : ((k : Kind) → min (of_kind k) 18446744073709551615 ≤ (bank_of banks k).outs) → (i : ℕ) (ks : List Kind) → are_numbered (i + 1) ks ≡ true → i + length ks ≡ kinds
       → min (behind_first i) 18446744073709551615 ≤ sum_by (λ (b : Meaning). b.outs) (drop i banks)
   least_from counts i [] numbered all_there = let past = none_behind i (omega (arith, all_there)) in omega (arith, past)
   least_from counts i (k ∷ ks) numbered all_there =
@@ -116,7 +111,7 @@ module _ (n : Parts) (acts : ℕ → ℕ) (banks : List Meaning) (full : IsFull 
       let parted = split i k number in
       both_least 18446744073709551615 (of_kind k) (behind_first (i + 1)) _ _ _ _ one rest parted both
 
-  most_from : ((k : Kind) → (bank_of banks k).outs ≤ of_kind k) → (i : ℕ) (ks : List Kind) → are_numbered (i + 1) ks ≡ true → i + length ks ≡ 34
+  most_from : ((k : Kind) → (bank_of banks k).outs ≤ of_kind k) → (i : ℕ) (ks : List Kind) → are_numbered (i + 1) ks ≡ true → i + length ks ≡ kinds
       → sum_by (λ (b : Meaning). b.outs) (drop i banks) ≤ behind_first i
   most_from counts i [] numbered all_there =
       let past : drop i banks ≡ [] = drop_of_length-le banks (omega (arith, full, all_there)) in

@@ -13,7 +13,7 @@ use Rattle.sci_bank.specs.Bank.{Meaning}
 use Rattle.sci_bank.specs.Library.{bank_of}
 use Rattle.sci_store.specs.Marks.{mark_at, idle}
 use Rattle.sci_store.specs.Frame.{Fixed, IsFrame, AreSeated}
-use Rattle.sci_store.specs.Store.{Standing, IsStore, AreIdle, ShowsMemory}
+use Rattle.sci_store.specs.Store.{Standing, AreIdle, ShowsMemory}
 use Rattle.sci_store.specs.Rows.{Row, KeepsBegun}
 use Rattle.sci_sim.specs.Rows.{AreRowsOf, row_in}
 use Rattle.sci_sim.specs.Programming.{Keeps}
@@ -39,7 +39,6 @@ pub record Running : Type 0 where
 pub record IsReady (r : Running) : Type 0 where
   pub frame : IsFrame r.fixed
   pub rows : AreRowsOf r.fixed r.rows
-  pub store : IsStore r.fixed r.store
   pub row : r.row < length r.rows
   -- where blocks are marked, they are those of the last source's row, among them all that are active whatever the values are
   pub begun : r.has_row ≡ true → KeepsBegun r.fixed (row_in r.rows r.row) r.store
@@ -83,3 +82,11 @@ pub record AreTallied (old new : Standing) (more : List Obs) : Type 0 where
 pub record IsTallied (s : Standing) (seen : List Obs) : Type 0 where
   pub lines : s.lines ≡ lines_after 0 (length seen)
   pub sum : s.sum ≡ sum_of 0 seen
+
+-- at whichever state of a run the net stands, the wheel keeps what is pending there
+abbrev pub KeepsPending : Running → Wheel → Type 0
+KeepsPending r w = (banks : List Meaning) (st : State) → IsAt r banks st → Keeps r.fixed.net r.offset st.now w.meaning w.puts st.pending
+
+-- and these blocks are all that the last reaction activated, or more
+abbrev pub HaveActive : Running → List ℕ → Type 0
+HaveActive r blocks = (banks : List Meaning) (st : State) → IsAt r banks st → (b : ℕ) → IsBlock r.fixed.net b → st.active b ≡ true → Contains blocks b

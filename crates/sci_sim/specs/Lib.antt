@@ -1,6 +1,7 @@
 pub mod Rows
 pub mod Programming
 pub mod At
+pub mod Ready
 pub mod Reacting
 pub mod Steps
 pub mod Laws

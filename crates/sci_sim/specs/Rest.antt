@@ -1,16 +1,19 @@
 -- How the rest of a run ends, from a state behind a reaction.
-use Rattle.std.specs.Prelude.{◌≡◌, ℕ, ◌-◌, List, [], ◌∷◌, ◌++◌}
+use Rattle.std.specs.Prelude.{◌≡◌, ℕ, ◌-◌, List, [], ◌∷◌, ◌++◌, Result, IfOk}
 use Rattle.sci_base.specs.declared.observation.Obs.{Obs}
 use Rattle.sci_base.specs.declared.observation.Obs.TheVariants.{End}
 use Rattle.sci_base.specs.declared.observation.EndWord.{EndWord}
 use Rattle.sci_base.specs.declared.observation.StopWord.{StopWord}
+use Rattle.sci_io.specs.declared.sink.Failed.{Failed}
+use Rattle.sci_io.specs.Taken.{SinkState, Writes}
+use Rattle.sci_trace.specs.Lines.{text}
 use Rattle.sci_reaction.specs.Memory.{Columns}
 use Rattle.sci_pending.specs.Pending.{Event}
-use Rattle.sci_run.specs.Run.{State, taken, Over, Fires, comes_next, ReachableFrom}
+use Rattle.sci_run.specs.Run.{State, taken, Over, Fires, comes_next, IsRest, ReachableFrom}
 use Rattle.sci_bank.specs.Bank.{Meaning}
 use Rattle.sci_sim.specs.declared.end.RunEnd.{RunEnd}
 use Rattle.sci_sim.specs.declared.end.RunEnd.TheVariants.{End as Ended, Stop as Stopped}
-use Rattle.sci_sim.specs.At.{Running, IsAt}
+use Rattle.sci_sim.specs.At.{Running, IsAt, AreTallied}
 use Rattle.sci_sim.specs.Steps.{IsStoppedAt}
 
 -- Behind an end the net stands at the last state, which is reachable from the one where the rest began; the banks have counted as its activations
@@ -38,3 +41,15 @@ pub record StopsRest (i : Columns) (until limit : ℕ) (from : State) (r : Runni
 abbrev pub IsRestFinished : Columns → (until limit : ℕ) → (from : State) → Running → List Meaning → List Obs → RunEnd → Type 0
 IsRestFinished i until limit from r banks os (Ended word) = EndsRest i until limit from r banks os word
 IsRestFinished i until limit from r banks os (Stopped word) = StopsRest i until limit from r banks os word
+
+-- from whichever state of a run the net stands at, what is observed of its rest is written
+abbrev pub WritesRest : Columns → (until limit : ℕ) → (old : Running) → List Meaning → (out written : SinkState) → Result RunEnd Failed → Type 0
+WritesRest i until limit old banks out written result =
+    (st : State) (os : List Obs) → IsAt old banks st → IsRest old.fixed.net i until limit st os → Writes out written (text os) result
+
+-- and counted, and the rest is over so
+abbrev pub FinishesRest : Columns → (until limit : ℕ) → (old new : Running) → (before banks : List Meaning) → Result RunEnd Failed → Type 0
+FinishesRest i until limit old new before banks result =
+    (st : State) → IsAt old before st
+    → IfOk result (λ end.
+    (os : List Obs) × IsRest old.fixed.net i until limit st os × IsRestFinished i until limit st new banks os end × AreTallied old.store new.store os)

@@ -1,9 +1,12 @@
 -- A step of the run, and how the run ends.
-use Rattle.std.specs.Prelude.{◌≡◌, ℕ, ◌+◌, ◌-◌, ◌≤◌, min, List, [], ◌∷◌, ◌++◌, Option, Some, None}
+use Rattle.std.specs.Prelude.{◌≡◌, ℕ, ◌+◌, ◌-◌, ◌≤◌, min, List, [], ◌∷◌, ◌++◌, Option, Some, None, Result, IfOk}
 use Rattle.sci_base.specs.declared.observation.Obs.{Obs}
 use Rattle.sci_base.specs.declared.observation.Obs.TheVariants.{End}
 use Rattle.sci_base.specs.declared.observation.EndWord.{EndWord}
 use Rattle.sci_base.specs.declared.observation.StopWord.{StopWord}
+use Rattle.sci_io.specs.declared.sink.Failed.{Failed}
+use Rattle.sci_io.specs.Taken.{SinkState, Writes}
+use Rattle.sci_trace.specs.Lines.{text}
 use Rattle.sci_forms.specs.declared.Kind.{Kind}
 use Rattle.sci_net.specs.declared.Source.{Source}
 use Rattle.sci_net.specs.Parts.{Parts}
@@ -14,7 +17,7 @@ use Rattle.sci_pending.specs.Pending.{Event}
 use Rattle.sci_run.specs.Activity.{Activity}
 use Rattle.sci_run.specs.Observed.{stop_seen}
 use Rattle.sci_run.specs.Counts.{activations_of_kind}
-use Rattle.sci_run.specs.Run.{State, first_state, taken, ReactionOutcome, Leads, StopsWith, Decision, Over, Fires, comes_next, Reachable}
+use Rattle.sci_run.specs.Run.{State, first_state, taken, ReactionOutcome, IsOutcome, IsRun, Leads, StopsWith, Decision, Over, Fires, comes_next, Reachable}
 use Rattle.sci_run.specs.Finish.{ByEnd, ByStop, Finish}
 use Rattle.sci_bank.specs.Bank.{Meaning}
 use Rattle.sci_bank.specs.Library.{bank_of}
@@ -23,7 +26,8 @@ use Rattle.sci_sim.specs.declared.end.RunEnd.TheVariants.{End as Ended, Stop as 
 use Rattle.sci_sim.specs.declared.end.Step.{Step}
 use Rattle.sci_sim.specs.declared.end.Step.TheVariants.{More, Over as IsOver}
 use Rattle.sci_store.specs.Store.{active_of, MayActivate}
-use Rattle.sci_sim.specs.At.{Running, IsAt, IsTallied}
+use Rattle.sci_sim.specs.At.{Running, IsAt, AreTallied, IsTallied}
+use Rattle.sci_sim.specs.Reacting.{FiresNext}
 
 -- ---- behind a reaction with values
 
@@ -76,6 +80,18 @@ IsStep i until limit date source from r banks (StopsWith seen) More = ⊥
 IsStep i until limit date source from r banks (StopsWith seen) (IsOver (Ended word)) = ⊥
 IsStep i until limit date source from r banks (StopsWith seen) (IsOver (Stopped word)) = IsStoppedAt i date source from r banks seen word
 
+-- the next source of a net reacts, at whichever state of a run it stands: what is observed is written, and counted where the step is answered
+abbrev pub StepsTo : Columns → (until limit : ℕ) → (old new : Running) → (before banks : List Meaning) → (out written : SinkState) → Result Step Failed → Type 0
+StepsTo i until limit old new before banks out written result =
+    (st from : State) (date source : ℕ) → IsAt old before st → FiresNext old.fixed.net until limit old.started st date source from
+    → (o : ReactionOutcome) × IsOutcome old.fixed.net i date (source_of old.fixed.net source) from o
+    × Writes out written (text (step_seen old.fixed.net until limit o)) result
+    × IfOk result (λ step. IsStep i until limit date source from new banks o step × AreTallied old.store new.store (step_seen old.fixed.net until limit o))
+
+-- the end that is due at whichever state of a run the net stands
+abbrev pub TellsEnd : (until limit : ℕ) → Running → Option EndWord → Type 0
+TellsEnd until limit r end = (banks : List Meaning) (st : State) → IsAt r banks st → end ≡ end_due (comes_next r.fixed.net until (limit - st.fired) st)
+
 -- ---- how a run ends
 
 -- the source at this place fires at this date from this state, where this has been observed before: start before the run, or the event that
@@ -103,3 +119,7 @@ IsFinished i until limit r banks os (Ended word) =
     (st : State) × Finish r.fixed.net i until limit st (ByEnd word) os × IsAt r banks st × IsTallied r.store os
 IsFinished i until limit r banks os (Stopped word) =
     (st : State) × (block : ℕ) × Finish r.fixed.net i until limit st (ByStop block word) os × IsTallied r.store os × StopsRun i until limit r banks os word
+
+-- the run of a net has ended so, and this was all of it
+abbrev pub HasRun : Parts → Columns → (until limit : ℕ) → Running → List Meaning → RunEnd → Type 0
+HasRun n i until limit r banks end = (os : List Obs) × IsRun n i until limit os × IsFinished i until limit r banks os end

@@ -2,7 +2,7 @@
 use sci_base::{EndWord, StopWord};
 
 /// How a run ended.
-#[derive(Clone, Copy, Debug, Drop, PartialEq, Eq)]
+#[derive(Clone, Copy, Drop)]
 pub enum RunEnd {
     /// By a halt, by a bound, or since nothing was pending.
     End(EndWord),
@@ -11,7 +11,7 @@ pub enum RunEnd {
 }
 
 /// What a step of a run comes to.
-#[derive(Clone, Copy, Debug, Drop, PartialEq, Eq)]
+#[derive(Clone, Copy, Drop)]
 pub enum Step {
     /// The run goes on.
     More,

@@ -1,6 +1,5 @@
 // What is saved of a run behind a reaction.
 ghost use Rattle.std.specs.Prelude.{◌≡◌, ℕ, ◌+◌, ◌<◌, ◌^◌, [], map, All, IfOk};
-ghost use Rattle.sci_bank.specs.Bank.{Meaning};
 ghost use Rattle.sci_kinds.specs.Asks.{IsState};
 ghost use Rattle.sci_net.specs.Parts.{IsBlock, spec_of, rows_of};
 ghost use Rattle.sci_places.specs.Flat.{values_at};
@@ -8,7 +7,7 @@ ghost use Rattle.sci_run.specs.Run.{State};
 ghost use Rattle.sci_save.specs.Saved.{Saved, saved_of};
 ghost use Rattle.sci_save.specs.Resumed.{IsSavedOf};
 ghost use Rattle.sci_store.specs.Frame.{AreSeated};
-ghost use Rattle.sci_store.specs.Store.{IsStore, state_of};
+ghost use Rattle.sci_store.specs.Store.{state_of};
 ghost use Rattle.sci_sim.specs.Saving.{IsByBlock, more};
 
 use crate::ready::Ready;
@@ -16,25 +15,25 @@ use sci_agenda::agenda::Agenda;
 use sci_bank::Bank;
 use sci_bank::library::Library;
 use sci_base::NoMemory;
+use sci_kept::Kept;
 use sci_save::Image;
-use sci_store::{Frame, Store};
 use std::alloc::Global;
 
 /// The state of a block.
 fn state<B: Bank>(
     alloc: Global,
-    frame: &Frame,
+    kept: &Kept,
     lib: &Library<B>,
     block: u32,
 ) -> Result<Vec<i64>, NoMemory>
-    requires seated { AreSeated frame.now lib.now }
-    requires block { IsBlock frame.now.net block }
-    requires state { IsState (spec_of frame.now.net block) (state_of frame.now lib.now block) }
-    ensures { IfOk result (λ v. v.items ≡ state_of frame.now lib.now block) }
+    requires seated { AreSeated kept.now.fixed lib.now }
+    requires block { IsBlock kept.now.fixed.net block }
+    requires state { IsState (spec_of kept.now.fixed.net block) (state_of kept.now.fixed lib.now block) }
+    ensures { IfOk result (λ v. v.items ≡ state_of kept.now.fixed lib.now block) }
 {
-    frame.well_formed();
-    let seat = frame.seat(block);
-    let count = frame.net.spec(block).state_len();
+    kept.well_formed();
+    let seat = kept.seat(block);
+    let count = kept.net().spec(block).state_len();
     let mut values = Vec::with_capacity(alloc, count)?;
     for at in 0..count {
         values.push(lib.state_at(seat.kind, seat.slot, at))?;
@@ -43,39 +42,34 @@ fn state<B: Bank>(
 }
 
 /// The states of all blocks.
-fn states<B: Bank>(
-    alloc: Global,
-    frame: &Frame,
-    lib: &Library<B>,
-) -> Result<Vec<Vec<i64>>, NoMemory>
-    requires seated { AreSeated frame.now lib.now }
-    requires states { (b : ℕ) → IsBlock frame.now.net b → IsState (spec_of frame.now.net b) (state_of frame.now lib.now b) }
-    ensures { IfOk result (λ v. IsByBlock frame.now.net [] (state_of frame.now lib.now) (rows_of v.items)) }
+fn states<B: Bank>(alloc: Global, kept: &Kept, lib: &Library<B>) -> Result<Vec<Vec<i64>>, NoMemory>
+    requires seated { AreSeated kept.now.fixed lib.now }
+    requires states { (b : ℕ) → IsBlock kept.now.fixed.net b → IsState (spec_of kept.now.fixed.net b) (state_of kept.now.fixed lib.now b) }
+    ensures { IfOk result (λ v. IsByBlock kept.now.fixed.net [] (state_of kept.now.fixed lib.now) (rows_of v.items)) }
 {
-    let mut states = Vec::with_capacity(alloc, frame.net.len() as usize)?;
-    for block in 0..frame.net.len() {
-        states.push(state(alloc, frame, lib, block + 1)?)?;
+    let mut states = Vec::with_capacity(alloc, kept.net().len() as usize)?;
+    for block in 0..kept.net().len() {
+        states.push(state(alloc, kept, lib, block + 1)?)?;
     }
     Ok(states)
 }
 
 /// The values that the outputs of all blocks hold.
-fn held(alloc: Global, frame: &Frame, store: &Store) -> Result<Vec<Vec<i64>>, NoMemory>
-    requires { IsStore frame.now store.now }
-    ensures { IfOk result (λ v. IsByBlock frame.now.net [] (values_at frame.now.net store.now.values) (rows_of v.items)) }
+fn held(alloc: Global, kept: &Kept) -> Result<Vec<Vec<i64>>, NoMemory>
+    ensures { IfOk result (λ v. IsByBlock kept.now.fixed.net [] (values_at kept.now.fixed.net kept.now.store.values) (rows_of v.items)) }
 {
-    let mut held = Vec::with_capacity(alloc, frame.net.len() as usize)?;
-    for block in 0..frame.net.len() {
-        held.push(store.held(frame, block + 1).to_vec(alloc)?)?;
+    let mut held = Vec::with_capacity(alloc, kept.net().len() as usize)?;
+    for block in 0..kept.net().len() {
+        held.push(kept.held(block + 1).to_vec(alloc)?)?;
     }
     Ok(held)
 }
 
 /// How many values of its column each sensor has taken.
-fn cursors(alloc: Global, store: &Store) -> Result<Vec<u64>, NoMemory>
-    ensures { IfOk result (λ v. v.items ≡ store.now.cursors) }
+fn cursors(alloc: Global, kept: &Kept) -> Result<Vec<u64>, NoMemory>
+    ensures { IfOk result (λ v. v.items ≡ kept.now.store.cursors) }
 {
-    let taken = store.cursors();
+    let taken = kept.cursors();
     let mut cursors = Vec::with_capacity(alloc, taken.len())?;
     for cursor in taken {
         cursors.push(*cursor as u64)?;
@@ -110,9 +104,10 @@ impl Ready {
         ensures image { (st : State) (m : Saved) → IsAt self.old lib.now st → IsSavedOf self.old.fixed.net st m → IfOk result (λ image. saved_of image ≡ m) }
         ensures rest { self.new ≡ record self.old { wheel = self.new.wheel } }
     {
-        let states = states(alloc, &self.frame, lib)?;
-        let held = held(alloc, &self.frame, &self.store)?;
-        let cursors = cursors(alloc, &self.store)?;
+        self.kept.well_formed();
+        let states = states(alloc, &self.kept, lib)?;
+        let held = held(alloc, &self.kept)?;
+        let cursors = cursors(alloc, &self.kept)?;
         let pending = pending(alloc, &mut self.wheel, self.offset)?;
         Ok(Image {
             fired: self.fired,

@@ -1,5 +1,6 @@
 // A net that is ready to run, and its run.
-ghost use Rattle.std.specs.Prelude.{◌≡◌, ℕ, ◌+◌, ◌-◌, ◌<◌, ◌≤◌, ◌^◌, ◌↔◌, List, length, true, None, IfOk, if◌then◌else◌, AllPairs, Contains};
+ghost use Rattle.std.specs.Prelude.{◌≡◌, ℕ, ◌+◌, ◌-◌, ◌<◌, ◌≤◌, ◌↔◌, List, length, true, None, IfOk, if◌then◌else◌, AllPairs, Contains};
+ghost use Rattle.sci_base.specs.declared.limits.TheConstants.{TICKS, EVENTS};
 ghost use Rattle.sci_base.specs.Lists.{at};
 ghost use Rattle.sci_base.specs.declared.observation.Obs.{Obs};
 ghost use Rattle.sci_io.specs.Taken.{Writes};
@@ -10,8 +11,7 @@ ghost use Rattle.sci_reaction.specs.Active.{Possible};
 ghost use Rattle.sci_reaction.specs.Memory.{AreColumns};
 ghost use Rattle.sci_sched.specs.Plain.{rows_of};
 ghost use Rattle.sci_sched.specs.Answer.{IsPlan};
-ghost use Rattle.sci_run.specs.Run.{State, ReactionOutcome, IsOutcome, IsRun, comes_next};
-ghost use Rattle.sci_run.specs.Activity.{halts};
+ghost use Rattle.sci_run.specs.Run.{State, IsRun};
 ghost use Rattle.sci_net.specs.Sources.{source_of};
 ghost use Rattle.sci_bank.specs.Library.{IsFull};
 ghost use Rattle.sci_bank.specs.Bank.{Meaning};
@@ -26,9 +26,10 @@ use sci_bank::Bank;
 use sci_bank::library::Library;
 use sci_base::{EndWord, NoMemory, Obs, StopWord};
 use sci_io::{Failed, Sink};
+use sci_kept::Kept;
 use sci_net::Net;
 use sci_sched::Schedule;
-use sci_store::{Frame, Lines, Row, Store};
+use sci_store::Row;
 use sci_trace::inputs::Inputs;
 use std::alloc::Global;
 use std::marker::Model;
@@ -36,10 +37,9 @@ use std::marker::Model;
 /// A net that is ready to run, or whose run is under way, with all memory that the run needs.
 #[derive(Drop)]
 pub struct Ready {
-    pub(crate) frame: Frame,
+    pub(crate) kept: Kept,
     // one for each source of the net, in order
     pub(crate) rows: Vec<Row>,
-    pub(crate) store: Store,
     // its dates are less by `offset`
     pub(crate) wheel: WheelAgenda,
     pub(crate) offset: u64,
@@ -51,8 +51,6 @@ pub struct Ready {
     pub(crate) has_row: bool,
     pub(crate) started: bool,
     pub(crate) halted: bool,
-    // what waits there is forgotten by the next reaction
-    pub(crate) lines: Lines,
 }
 
 impl Model for Ready {
@@ -60,9 +58,11 @@ impl Model for Ready {
 
     ghost Value = { Running };
 
-    ghost view = { λ r. record { fixed = r.frame; rows = r.rows.items; store = r.store; wheel = r.wheel; offset = r.offset; now = r.now; fired = r.fired; row = r.row; has_row = r.has_row; started = r.started; halted = r.halted } };
+    ghost use Rattle.sci_sim.specs.Ready.{running};
 
-    ghost invariant = { λ r. IsReady (record { fixed = r.frame; rows = r.rows.items; store = r.store; wheel = r.wheel; offset = r.offset; now = r.now; fired = r.fired; row = r.row; has_row = r.has_row; started = r.started; halted = r.halted }) };
+    ghost view = { running };
+
+    ghost invariant = { λ r. IsReady (running r) };
 }
 
 impl Ready {
@@ -71,10 +71,9 @@ impl Ready {
     ghost use Rattle.sci_store.specs.Frame.{AreSeated};
     ghost use Rattle.sci_store.specs.Rows.{HasBegun};
     ghost use Rattle.sci_sim.specs.Rows.{row_in};
-    ghost use Rattle.sci_sim.specs.Programming.{Keeps};
-    ghost use Rattle.sci_sim.specs.At.{Running, IsAt, IsAtStart, AreTallied};
-    ghost use Rattle.sci_sim.specs.Reacting.{FiresNext, MayStep, ShowsFiring, HasSetOut, IsReacted, AreMarksOf, seen_in};
-    ghost use Rattle.sci_sim.specs.Steps.{step_seen, IsStep, IsFinished, end_due};
+    ghost use Rattle.sci_sim.specs.At.{IsAt, IsAtStart, KeepsPending, HaveActive};
+    ghost use Rattle.sci_sim.specs.Reacting.{MayStep, MayFire, SetsOut, IsFiring, ReactsTo, TellsHalted};
+    ghost use Rattle.sci_sim.specs.Steps.{StepsTo, TellsEnd, HasRun};
 
     /// The net before its run, over the schedule of the net and a full library. It resets all banks and adds an instance for each block; it takes
     /// all memory of the run. Where memory is wanting, the banks may hold any instances.
@@ -91,16 +90,13 @@ impl Ready {
     {
         let mut wheel = WheelAgenda::new(alloc, n.source_count() - 1)?;
         program_first(&n, &mut wheel);
-        let frame = Frame::new(alloc, n, lib)?;
-        frame.well_formed();
+        let kept = Kept::new(alloc, n, lib)?;
+        kept.well_formed();
         lib.well_formed();
-        let rows = rows(alloc, &frame, p)?;
-        let store = Store::new(alloc, &frame)?;
-        let lines = Lines::new(alloc)?;
+        let rows = rows(alloc, &kept, p)?;
         Ok(Ready {
-            frame,
+            kept,
             rows,
-            store,
             wheel,
             offset: 0,
             now: 0,
@@ -109,7 +105,6 @@ impl Ready {
             has_row: false,
             started: false,
             halted: false,
-            lines,
         })
     }
 
@@ -122,12 +117,12 @@ impl Ready {
     {
         let row = &self.rows[source as usize];
         if self.has_row && self.row == source {
-            self.store.begin_again(&self.frame, row);
+            self.kept.begin_again(row);
             return;
         }
         let last = &self.rows[self.row as usize];
-        self.store.clear(&self.frame, &last.blocks);
-        self.store.begin_row(&self.frame, row);
+        self.kept.clear(&last.blocks);
+        self.kept.begin_row(row);
         self.row = source;
         self.has_row = true;
     }
@@ -141,42 +136,40 @@ impl Ready {
         out: &mut S,
     ) -> Result<Option<StopWord>, Failed>
         requires source { source < length self.old.rows }
-        requires date { self.old.now ≤ 2 ^ 62 }
+        requires date { self.old.now ≤ TICKS }
         requires columns { AreColumns self.old.fixed.net ins.now }
-        requires shown { (st : State) × ShowsFiring self.old.fixed self.old.store lib.old self.old.wheel.meaning self.old.wheel.puts self.old.offset self.old.now st }
-        ensures reacted { (st : State) → ShowsFiring self.old.fixed self.old.store lib.old self.old.wheel.meaning self.old.wheel.puts self.old.offset self.old.now st → (o : ReactionOutcome) × IsOutcome self.old.fixed.net ins.now self.old.now (source_of self.old.fixed.net source) st o × Writes (S.state out.old) (S.state out.new) (text (seen_in o)) result × IfOk result (λ stop. IsReacted self.old.fixed source (row_in self.old.rows source) self.old.store self.new.store lib.old lib.new self.new.wheel.meaning self.new.wheel.puts self.old.offset o stop) }
-        ensures halted { IfOk result (λ stop. stop ≡ None → (after : State) → AreMarksOf self.old.fixed source (row_in self.old.rows source) self.new.store after → self.new.halted ≡ halts self.old.fixed.net after.active) }
+        requires shown { (st : State) × IsFiring self.old lib.old st }
+        ensures reacted { ReactsTo ins.now source self.old self.new lib.old lib.new (S.state out.old) (S.state out.new) result }
+        ensures halted { IfOk result (λ stop. stop ≡ None → TellsHalted source self.old self.new) }
         ensures rest { self.new ≡ record self.old { store = self.new.store; wheel = self.new.wheel; row = source; has_row = true; halted = self.new.halted } }
         ensures seated { AreSeated self.old.fixed lib.new }
     {
         self.enter_row(source);
         let row = &self.rows[source as usize];
-        let header = self.frame.header(source, self.now);
-        if let Some((block, word)) = self.store.pass(&self.frame, lib, ins, row) {
-            self.store.observe(&header, out)?;
-            self.store
+        let header = self.kept.header(source, self.now);
+        if let Some((block, word)) = self.kept.pass(lib, ins, row) {
+            self.kept.observe(&header, out)?;
+            self.kept
                 .observe(&Obs::Stop(word, i64::from(block), 0), out)?;
             return Ok(Some(word));
         }
-        self.store
-            .write_reaction(&self.frame, row, &header, &mut self.lines, out)?;
+        self.kept.write_reaction(row, &header, out)?;
         finish(
-            &self.frame,
-            &mut self.store,
+            &mut self.kept,
             &mut self.wheel,
             lib,
             ins,
             row,
             self.now - self.offset,
         );
-        self.halted = self.store.halts(&self.frame, &row.halts);
+        self.halted = self.kept.halts(&row.halts);
         Ok(None)
     }
 
     // The source that reacts next: start, and then those of the events, which are taken from the wheel.
     fn next_source(&mut self) -> u32
-        requires before { (until limit : ℕ) × (banks : List Meaning) × (st from : State) × (date source : ℕ) × IsAt self.old banks st × FiresNext self.old.fixed.net until limit self.old.started st date source from × (until ≤ 2 ^ 62) × (limit ≤ 1000000) }
-        ensures fires { (until limit : ℕ) (banks : List Meaning) (st from : State) (date source : ℕ) → IsAt self.old banks st → FiresNext self.old.fixed.net until limit self.old.started st date source from → HasSetOut until self.old self.new banks date source from result }
+        requires before { MayFire self.old }
+        ensures fires { SetsOut self.old self.new result }
         ensures source { result < length self.old.rows }
         ensures fired { self.new.fired ≡ (if self.old.started then self.old.fired + 1 else self.old.fired) }
         ensures rest { self.new ≡ record self.old { wheel = self.new.wheel; now = self.new.now; fired = self.new.fired; started = true } }
@@ -198,8 +191,8 @@ impl Ready {
     /// Whether the run ends behind the last reaction, and how: by a halt that was active in it; where `limit` events have fired;
     /// where none is pending; where the next is later than `until`, a date in ticks of at most 2^62.
     pub fn due_end(&self, until: u64, limit: u64) -> Option<EndWord>
-        requires { until ≤ 2 ^ 62 }
-        ensures { (banks : List Meaning) (st : State) → IsAt self.entry.now banks st → result ≡ end_due (comes_next self.entry.now.fixed.net until (limit - st.fired) st) }
+        requires { until ≤ TICKS }
+        ensures { TellsEnd until limit self.entry.now result }
     {
         if self.halted {
             return Some(EndWord::Halt);
@@ -230,11 +223,11 @@ impl Ready {
         limit: u64,
         out: &mut S,
     ) -> Result<Step, Failed>
-        requires until { until ≤ 2 ^ 62 }
-        requires limit { limit ≤ 1000000 }
+        requires until { until ≤ TICKS }
+        requires limit { limit ≤ EVENTS }
         requires columns { AreColumns self.old.fixed.net ins.now }
         requires before { MayStep until limit self.old lib.old }
-        ensures reacted { (st from : State) (date source : ℕ) → IsAt self.old lib.old st → FiresNext self.old.fixed.net until limit self.old.started st date source from → (o : ReactionOutcome) × IsOutcome self.old.fixed.net ins.now date (source_of self.old.fixed.net source) from o × Writes (S.state out.old) (S.state out.new) (text (step_seen self.old.fixed.net until limit o)) result × IfOk result (λ step. IsStep ins.now until limit date source from self.new lib.new o step × AreTallied self.old.store self.new.store (step_seen self.old.fixed.net until limit o)) }
+        ensures reacted { StepsTo ins.now until limit self.old self.new lib.old lib.new (S.state out.old) (S.state out.new) result }
         ensures started { self.new.started ≡ true }
         ensures fired { self.new.fired ≡ (if self.old.started then self.old.fired + 1 else self.old.fired) }
         ensures offset { self.new.offset ≡ self.old.offset }
@@ -248,7 +241,7 @@ impl Ready {
         match self.due_end(until, limit) {
             None => Ok(Step::More),
             Some(word) => {
-                self.store.observe(&Obs::End(word), out)?;
+                self.kept.observe(&Obs::End(word), out)?;
                 Ok(Step::Over(RunEnd::End(word)))
             }
         }
@@ -265,17 +258,17 @@ impl Ready {
         limit: u64,
         out: &mut S,
     ) -> Result<RunEnd, Failed>
-        requires until { until ≤ 2 ^ 62 }
-        requires limit { limit ≤ 1000000 }
+        requires until { until ≤ TICKS }
+        requires limit { limit ≤ EVENTS }
         requires columns { AreColumns self.old.fixed.net ins.now }
         requires start { IsAtStart self.old.fixed.net self.old lib.old }
         ensures written { (os : List Obs) → IsRun self.old.fixed.net ins.now until limit os → Writes (S.state out.old) (S.state out.new) (text os) result }
-        ensures finished { IfOk result (λ e. (os : List Obs) × IsRun self.old.fixed.net ins.now until limit os × IsFinished ins.now until limit self.new lib.new os e) }
+        ensures finished { IfOk result (HasRun self.old.fixed.net ins.now until limit self.new lib.new) }
         ensures offset { self.new.offset ≡ self.old.offset }
         ensures net { self.new.fixed ≡ self.old.fixed }
         ensures full { IsFull lib.new }
     {
-        self.frame.well_formed();
+        self.kept.well_formed();
         for _reaction in 0..limit + 1 {
             if let Step::Over(end) = self.step(lib, ins, until, limit, out)? {
                 return Ok(end);
@@ -292,14 +285,14 @@ impl Ready {
         ensures value { result ≡ at (values_at self.entry.now.fixed.net self.entry.now.store.values block) (element - 1) }
         ensures held { (banks : List Meaning) (st : State) → IsAt self.entry.now banks st → result ≡ at (st.memory.held block) (element - 1) }
     {
-        self.store.value(&self.frame, block, element)
+        self.kept.value(block, element)
     }
 
     /// The net.
     pub fn net(&self) -> &Net
         ensures { result.now ≡ self.entry.now.fixed.net }
     {
-        &self.frame.net
+        self.kept.net()
     }
 
     /// The date of the last reaction, in ticks; 0 before the first.
@@ -321,20 +314,20 @@ impl Ready {
     pub fn lines(&self) -> u64
         ensures { result ≡ self.entry.now.store.lines }
     {
-        self.store.tally().lines
+        self.kept.tally().lines
     }
 
     /// The sum of the values among them, modulo 2^32.
     pub fn sum(&self) -> u32
         ensures { result ≡ self.entry.now.store.sum }
     {
-        self.store.tally().sum
+        self.kept.tally().sum
     }
 
     /// The pending events. Their dates, in ticks, are counted from the date at which the run began, which is 0 after `new`.
     pub fn wheel(&self) -> &WheelAgenda
         ensures value { result.now ≡ self.entry.now.wheel }
-        ensures pending { (banks : List Meaning) (st : State) → IsAt self.entry.now banks st → Keeps self.entry.now.fixed.net self.entry.now.offset st.now result.now.meaning result.now.puts st.pending }
+        ensures pending { KeepsPending self.entry.now result.now }
     {
         &self.wheel
     }
@@ -345,7 +338,7 @@ impl Ready {
         ensures value { result.now ≡ (row_in self.entry.now.rows self.entry.now.row).blocks }
         ensures rising { AllPairs (λ b c. b < c) result.now }
         ensures possible { (b : ℕ) → Contains result.now b ↔ Possible self.entry.now.fixed.net (source_of self.entry.now.fixed.net self.entry.now.row) b }
-        ensures active { (banks : List Meaning) (st : State) → IsAt self.entry.now banks st → (b : ℕ) → IsBlock self.entry.now.fixed.net b → st.active b ≡ true → Contains result.now b }
+        ensures active { HaveActive self.entry.now result.now }
     {
         let row = &self.rows[self.row as usize];
         row.blocks.as_slice()
@@ -357,6 +350,6 @@ impl Ready {
         ensures mark { result ≡ (mark_at self.entry.now.store.marks block).active }
         ensures active { (banks : List Meaning) (st : State) → IsAt self.entry.now banks st → result ≡ st.active block }
     {
-        self.store.is_active(block)
+        self.kept.is_active(block)
     }
 }

@@ -1,15 +1,14 @@
 // A net that stands where a run was saved.
-ghost use Rattle.std.specs.Prelude.{◌≡◌, ℕ, [], length, flat_map, IfOk};
-ghost use Rattle.sci_net.specs.Parts.{IsBlock, numbered, rows_of};
-ghost use Rattle.sci_places.specs.Flat.{values_at};
+ghost use Rattle.std.specs.Prelude.{◌≡◌, flat_map, IfOk};
 ghost use Rattle.sci_sched.specs.Plain.{rows_of as plan_of};
 ghost use Rattle.sci_sched.specs.Answer.{IsPlan};
 ghost use Rattle.sci_bank.specs.Library.{IsFull};
 ghost use Rattle.sci_run.specs.Anew.{numbered_anew};
+ghost use Rattle.sci_run.specs.Laws.{AreLoopFree};
 ghost use Rattle.sci_save.specs.Saved.{saved_of};
 ghost use Rattle.sci_save.specs.Valid.{ArePending, IsShaped};
-ghost use Rattle.sci_store.specs.Store.{IsStore, AreIdle, cursor_at};
 ghost use Rattle.sci_sim.specs.Programming.{Keeps};
+ghost use Rattle.sci_sim.specs.Restored.{IsKeptOf};
 
 use crate::programming::program;
 use crate::ready::Ready;
@@ -18,10 +17,10 @@ use sci_agenda::wheel::WheelAgenda;
 use sci_bank::Bank;
 use sci_bank::library::Library;
 use sci_base::NoMemory;
+use sci_kept::Kept;
 use sci_net::Net;
 use sci_save::Image;
 use sci_sched::Schedule;
-use sci_store::{Frame, Lines, Store};
 use std::alloc::Global;
 
 /// The numbers of all rows, one row behind the other.
@@ -46,19 +45,24 @@ fn places(alloc: Global, cursors: &[u64]) -> Result<Vec<usize>, NoMemory>
     Ok(places)
 }
 
-/// The store of what was saved: what outputs hold, and how many values sensors have taken.
-fn saved_store(alloc: Global, frame: &Frame, image: &Image) -> Result<Store, NoMemory>
-    requires { IsShaped frame.now.net (saved_of image.now) }
-    ensures store { IfOk result (λ s. IsStore frame.now s) }
-    ensures held { IfOk result (λ s. (b : ℕ) → IsBlock frame.now.net b → values_at frame.now.net s.values b ≡ numbered [] (rows_of image.entry.now.held.items) b) }
-    ensures cursors { IfOk result (λ s. s.cursors ≡ image.entry.now.cursors.items) }
-    ensures idle { IfOk result (λ s. AreIdle frame.now s) }
-    ensures lines { IfOk result (λ s. s.lines ≡ 0) }
-    ensures sum { IfOk result (λ s. s.sum ≡ 0) }
+/// What a run keeps, of what was saved: the states of blocks, what outputs hold, and how many values sensors have taken. Where memory is wanting, the
+/// banks may hold any instances.
+fn saved<B: Bank>(
+    alloc: Global,
+    n: Net,
+    image: &Image,
+    lib: &mut Library<B>,
+) -> Result<Kept, NoMemory>
+    requires free { AreLoopFree n }
+    requires full { IsFull lib.old }
+    requires shaped { IsShaped n (saved_of image.now) }
+    ensures saved { IfOk result (λ k. IsKeptOf n k lib.new (saved_of image.entry.now)) }
+    ensures full { IsFull lib.new }
 {
+    n.well_formed();
     let values = joined(alloc, &image.held)?;
     let cursors = places(alloc, &image.cursors)?;
-    Store::of(alloc, frame, values, cursors)
+    Kept::in_states(alloc, n, &image.states, values, cursors, lib)
 }
 
 /// A wheel with the pending events that were saved at the date `now`, programmed in the order in which they fire. Its dates are less by `now`.
@@ -99,15 +103,13 @@ impl Ready {
     {
         n.well_formed();
         let wheel = saved_wheel(alloc, &n, &image.pending, image.now)?;
-        let frame = Frame::in_states(alloc, n, &image.states, lib)?;
+        let kept = saved(alloc, n, image, lib)?;
+        kept.well_formed();
         lib.well_formed();
-        let rows = rows(alloc, &frame, p)?;
-        let store = saved_store(alloc, &frame, image)?;
-        let lines = Lines::new(alloc)?;
+        let rows = rows(alloc, &kept, p)?;
         Ok(Ready {
-            frame,
+            kept,
             rows,
-            store,
             wheel,
             offset: image.now,
             now: image.now,
@@ -116,7 +118,6 @@ impl Ready {
             has_row: false,
             started: true,
             halted: false,
-            lines,
         })
     }
 }

@@ -5,20 +5,21 @@ ghost use Rattle.sci_sched.specs.Answer.{IsPlan};
 ghost use Rattle.sci_sim.specs.Rows.{AreRowsOf};
 
 use sci_base::NoMemory;
+use sci_kept::Kept;
 use sci_sched::Schedule;
-use sci_store::{Frame, Row};
+use sci_store::Row;
 use std::alloc::Global;
 
 /// The rows of a schedule, ready for its reactions.
-pub fn rows(alloc: Global, frame: &Frame, plan: Schedule) -> Result<Vec<Row>, NoMemory>
-    requires { IsPlan frame.now.net (rows_of plan) }
-    ensures { IfOk result (λ v. AreRowsOf frame.now v.items) }
+pub fn rows(alloc: Global, kept: &Kept, plan: Schedule) -> Result<Vec<Row>, NoMemory>
+    requires { IsPlan kept.now.fixed.net (rows_of plan) }
+    ensures { IfOk result (λ v. AreRowsOf kept.now.fixed v.items) }
 {
-    frame.well_formed();
+    kept.well_formed();
     let Schedule { rows } = plan;
     let mut made = Vec::with_capacity(alloc, rows.len())?;
     for entries in rows {
-        made.push(Row::of(alloc, frame, entries)?)?;
+        made.push(kept.row_of(alloc, entries)?)?;
     }
     Ok(made)
 }

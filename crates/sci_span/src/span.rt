@@ -3,7 +3,7 @@ ghost use Rattle.std.specs.Prelude.{◌≡◌, ◌+◌, ◌≤◌, ◌<◌, ◌^
 ghost use Rattle.sci_span.specs.Values.{read_at, gathered, spans_length};
 
 /// So many values, from a place on.
-#[derive(Clone, Copy, Debug, Drop, PartialEq, Eq)]
+#[derive(Clone, Copy, Drop)]
 pub struct Span {
     /// The first place, counted from 0.
     pub start: usize,

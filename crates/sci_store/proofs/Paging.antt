@@ -1,13 +1,13 @@
 -- Lines that wait before a sink, and the pieces of a line.
-use Rattle.std.proofs.Common.{◌≡◌, ℕ, ◌+◌, ◌<◌, ◌≤◌, pos, get_or, ap₂, Bool, true, false, is_ok, ◌||◌, ℤ, List, [], ◌∷◌, ◌++◌, take, drop, length, refl, sym, ap, subst, ◌∙◌, append_assoc, arith, Ok, Err, codes}
+use Rattle.std.proofs.Common.{◌≡◌, ℕ, ◌+◌, ◌<◌, ◌≤◌, pos, get_or, ap₂, Bool, true, false, is_ok, ℤ, List, [], ◌∷◌, ◌++◌, take, drop, length, refl, sym, ap, subst, ◌∙◌, append_assoc, arith, Ok, Err, codes}
 use Rattle.std.specs.Prelude.{Result, OnOk, OnErr}
 use Rattle.std.specs.Fmt.{decimal, signed_decimal}
 use Rattle.std.proofs.Math.ListN.{drop_of_length-le}
 use Rattle.std.proofs.lemmas.List.{append-nil, length-append, take-append-drop, take-append-le, length-take-le, drop_more}
 use Rattle.std.proofs.Math.Seq.{take-append_seam, take-append-add}
 use Rattle.sci_base.specs.declared.observation.Obs.TheVariants.{Event}
-use Rattle.sci_io.specs.Taken.{SinkState, is_some_text, Writes, UnderWay}
-use Rattle.sci_io.proofs.Advance.{begins, next_front, cut_off, finished, stays, due_is, front_is, or-nil, begun-append}
+use Rattle.sci_io.specs.Taken.{SinkState, Writes, UnderWay}
+use Rattle.sci_io.proofs.Advance.{begins, next_front, cut_off, finished, stays, due_is, front_is}
 use Rattle.sci_trace.specs.Lines.{line}
 use Rattle.sci_store.specs.Heads.{Named, start_text, value_of, value_lines}
 use Rattle.sci_store.specs.Paged.{paged, IsKeptBack}
@@ -68,19 +68,18 @@ front_put xs ys rest at count within enough =
 -- ---- a sink before which lines wait
 
 pub none_waits : (s : SinkState) → paged s [] ≡ s
-none_waits s =
-    ap (λ (h : List ℕ). let t : SinkState = record { taken = s.taken; held = h; faults = s.faults; begun = s.begun || false } in t) (append-nil s.held)
-    ∙ ap (λ (b : Bool). let t : SinkState = record { taken = s.taken; held = s.held; faults = s.faults; begun = b } in t) (or-nil s.begun)
+none_waits s = ap (λ (h : List ℕ). let t : SinkState = record { taken = s.taken; held = h; faults = s.faults; failing = s.failing } in t) (append-nil s.held)
 
 -- one more line waits
 pub waits : {T E : Type 0} (s : SinkState) (bytes l : List ℕ) (x : T) → Writes {T = T} {E = E} (paged s bytes) (paged s (bytes ++ l)) l (Ok x)
 waits s bytes l x = record {
   ok = due_is _ _ (sym (append_assoc s.held bytes l)) (stays s.taken (s.held ++ (bytes ++ l)));
   quiet = refl;
-  begun = sym (begun-append s.begun bytes l);
+  works = λ h. h;
   cut = tt;
   dropped = tt;
   cause = tt;
+  fails = tt;
   later = omega arith;
 }
 
@@ -92,19 +91,21 @@ pub gives : {T E : Type 0} (s t : SinkState) (bytes : List ℕ) (r : Result T E)
 gives {T} {E} s t bytes (Ok x) h = subst (λ (u : SinkState). Writes {T = T} {E = E} (paged s bytes) u [] (Ok x)) (sym (none_waits t)) (record {
   ok = due_is _ _ (sym (append-nil (s.held ++ bytes))) h.ok;
   quiet = h.quiet;
-  begun = h.begun ∙ sym (or-nil (s.begun || is_some_text bytes));
+  works = h.works;
   cut = tt;
   dropped = tt;
   cause = tt;
+  fails = tt;
   later = h.later;
 })
 gives {T} {E} s t bytes (Err e) h = subst (λ (u : SinkState). Writes {T = T} {E = E} (paged s bytes) u [] (Err e)) (sym (none_waits t)) (record {
   ok = tt;
   quiet = tt;
-  begun = tt;
+  works = tt;
   cut = front_is _ _ (sym (append-nil (s.held ++ bytes))) h.cut;
   dropped = h.dropped;
   cause = h.cause;
+  fails = h.fails;
   later = h.later;
 })
 
@@ -115,11 +116,11 @@ gives_nothing s x = finished x (begins s [])
 pub piece_behind : {T E : Type 0} {old mid new : SinkState} {U F : Type 0} (piece : List ℕ) (r : Result T E) (x : T) (q : Result U F) → r ≡ Ok x → Writes old mid [] r
     → Writes mid new piece q → Writes old new piece q
 piece_behind {old = old} {mid = mid} piece r x (Ok y) is first second =
-    let begun = next_front [] piece r x is (begins old piece) first in
-    finished y (next_front piece [] (Ok y) y refl (subst (λ (l : List ℕ). UnderWay old mid piece l) (sym (append-nil piece)) begun) second)
+    let started = next_front [] piece r x is (begins old piece) first in
+    finished y (next_front piece [] (Ok y) y refl (subst (λ (l : List ℕ). UnderWay old mid piece l) (sym (append-nil piece)) started) second)
 piece_behind {old = old} {mid = mid} piece r x (Err e) is first second =
-    let begun = next_front [] piece r x is (begins old piece) first in
-    cut_off piece [] (Err e) (Err e) e e refl refl (subst (λ (l : List ℕ). UnderWay old mid piece l) (sym (append-nil piece)) begun) second
+    let started = next_front [] piece r x is (begins old piece) first in
+    cut_off piece [] (Err e) (Err e) e e refl refl (subst (λ (l : List ℕ). UnderWay old mid piece l) (sym (append-nil piece)) started) second
 
 -- a piece is cut off before it
 pub none_given : {T E U F : Type 0} {old new : SinkState} (piece : List ℕ) (r : Result T E) (q : Result U F) (e : E) (f : F) → r ≡ Err e → q ≡ Err f → Writes old new [] r

@@ -8,7 +8,7 @@ use Rattle.std.proofs.lemmas.List.{drop_more, length-append}
 use Rattle.std.proofs.lemmas.List.Elements.{All-head, All-tail}
 use Rattle.sci_base.specs.declared.observation.Obs.{Obs}
 use Rattle.sci_base.specs.declared.observation.Obs.TheVariants.{Start, Event, Val, End, Stop}
-use Rattle.sci_io.specs.Taken.{SinkState, TakesUnseen, Writes, Advances, is_some_text}
+use Rattle.sci_io.specs.Taken.{SinkState, TakesUnseen, Writes, Advances}
 use Rattle.sci_io.proofs.Advance.{gave_all}
 use Rattle.sci_trace.specs.Lines.{line, text}
 use Rattle.sci_places.specs.Flat.{IsWhole}
@@ -93,23 +93,16 @@ shown_tallied f s whole (w ∷ ws) t h =
 
 -- ---- a sink that takes the lines unseen
 
-pub header_some : (o : Obs) (os : List Obs) → IsHeader o → is_some_text (text (o ∷ os)) ≡ true
-unfolding line
-header_some Start os h = refl
-header_some (Event d b p) os h = refl
-header_some (Val b p e v) os h = absurd h
-header_some (End w) os h = absurd h
-header_some (Stop w b p) os h = absurd h
-
-pub unseen : {T E : Type 0} (old new : SinkState) (due : List ℕ) (x : T) → TakesUnseen old new → is_some_text due ≡ true → Writes {T = T} {E = E} old new due (Ok x)
-unseen old new due x h some = record {
+pub unseen : {T E : Type 0} (old new : SinkState) (due : List ℕ) (x : T) → TakesUnseen old new → Writes {T = T} {E = E} old new due (Ok x)
+unseen old new due x h = record {
   ok = subst (Advances old.taken new.taken (old.held ++ due)) (sym (ap (λ (s : SinkState). s.held) h.same ∙ h.holds_nothing))
       (gave_all (old.held ++ due) (subst (λ o. Appends o new.taken (old.held ++ due)) (sym h.tells_nothing) tt));
   quiet = ap (λ (s : SinkState). s.faults) h.same;
-  begun = ap (λ (s : SinkState). s.begun) h.same ∙ sym (ap (λ (t : Bool). old.begun || t) some ∙ or-true old.begun);
+  works = λ works. ap (λ (s : SinkState). s.failing) h.same ∙ works;
   cut = tt;
   dropped = tt;
   cause = tt;
+  fails = tt;
   later = let same = ap (λ (s : SinkState). s.faults) h.same in omega (arith, same);
 }
 

@@ -1,5 +1,5 @@
 -- What goes into an active block.
-use Rattle.std.specs.Prelude.{◌≡◌, ℕ, ℤ, ◌≤◌, List, [], ◌∷◌, take, length, Option, Some, None, if◌then◌else◌}
+use Rattle.std.specs.Prelude.{◌≡◌, ℕ, ℤ, ◌≤◌, List, [], ◌∷◌, take, length, Option, Some, None, IsSome, if◌then◌else◌}
 use Rattle.sci_net.specs.Parts.{spec_of}
 use Rattle.sci_forms.specs.Form.{is_sensor}
 use Rattle.sci_reaction.specs.Memory.{Columns, next_value}
@@ -7,6 +7,14 @@ use Rattle.sci_reaction.specs.Equations.{input_in, all_inputs}
 use Rattle.sci_places.specs.Flat.{values_at}
 use Rattle.sci_store.specs.Frame.{Fixed}
 use Rattle.sci_store.specs.Store.{Standing, cursor_at}
+
+-- the values on all inputs of a block
+abbrev pub inputs_of : Fixed → Standing → ℕ → List ℤ
+inputs_of f s b = all_inputs (spec_of f.net b) (input_in f.net (values_at f.net s.values) b)
+
+-- a sensor's column has a value more
+abbrev pub HasNext : Fixed → Columns → Standing → ℕ → Type 0
+HasNext f i s b = IsSome (next_value i (spec_of f.net b) (cursor_at s b))
 
 -- the next value of a sensor's column, where it has one; or the values on all inputs
 abbrev pub one_value : Option ℤ → Option (List ℤ)
@@ -16,7 +24,7 @@ one_value (Some v) = Some (v ∷ [])
 abbrev pub entered : Fixed → Columns → Standing → ℕ → Option (List ℤ)
 entered f i s b =
     if is_sensor (spec_of f.net b).kind then one_value (next_value i (spec_of f.net b) (cursor_at s b))
-    else Some (all_inputs (spec_of f.net b) (input_in f.net (values_at f.net s.values) b))
+    else Some (inputs_of f s b)
 
 -- so many values stand in the room, or there is none
 abbrev pub IsRoomFor : Option (List ℤ) → List ℤ → Option ℕ → Type 0

@@ -41,8 +41,12 @@ heads_of n = map start_text (named_blocks 1 n.specs)
 abbrev pub value_of : Named → ℤ → Obs
 value_of n v = Val (pos n.block) (pos n.port) (pos n.element) v
 
+-- the line of a value behind its start
+abbrev pub value_line : List ℕ → ℤ → List ℕ
+value_line h v = h ++ (signed_decimal v ++ codes "\n")
+
 -- the lines of values behind their starts
 abbrev pub value_lines : List (List ℕ) → List ℤ → List ℕ
 value_lines [] vs = []
 value_lines (h ∷ hs) [] = []
-value_lines (h ∷ hs) (v ∷ vs) = (h ++ (signed_decimal v ++ codes "\n")) ++ value_lines hs vs
+value_lines (h ∷ hs) (v ∷ vs) = value_line h v ++ value_lines hs vs

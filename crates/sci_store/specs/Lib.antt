@@ -13,6 +13,9 @@ pub mod Written
 pub mod Chosen
 pub mod Rows
 pub mod Ranks
+pub mod Members
 pub mod Runs
 pub mod Delays
 pub mod Paged
+pub mod Reaction
+pub mod Views

@@ -16,7 +16,7 @@ use Rattle.sci_bank.specs.declared.Fate.{Fate}
 use Rattle.sci_bank.specs.declared.Fate.TheVariants.{Done, Overflow, Zero}
 use Rattle.sci_bank.specs.Bank.{Meaning, after_out}
 use Rattle.sci_bank.specs.Library.{bank_of, with_bank}
-use Rattle.sci_kinds.specs.Table.{Answer, Values, NoFit, NoQuotient, next}
+use Rattle.sci_kinds.specs.Table.{Answer, Values, NoFit, NoQuotient, out, next}
 use Rattle.sci_forms.specs.declared.Kind.{Kind}
 use Rattle.sci_store.specs.Marks.{mark_at}
 use Rattle.sci_store.specs.declared.marks.Mark.{Mark}
@@ -50,6 +50,11 @@ IsComputed (Values vs) start old new fate = (fate ≡ Done) × (new ≡ overwrit
 IsComputed NoFit start old new fate = fate ≡ Overflow
 IsComputed NoQuotient start old new fate = fate ≡ Zero
 
+-- a call of the block's instance
+abbrev pub IsBlockComputed : Fixed → List Meaning → (b mask : ℕ) → (ins old new : List ℤ) → Fate → Type 0
+IsBlockComputed f banks b mask ins old new fate =
+    IsComputed (out (spec_of f.net b) (state_of f banks b) mask ins) (start_of f.net b) old new fate
+
 -- where the block has no values: its bank has counted at most this call, the other blocks keep theirs, and nothing is taken from a column, marked or
 -- observed
 pub record IsStopped (f : Fixed) (banks after : List Meaning) (s t : Standing) (b : ℕ) : Type 0 where
@@ -66,6 +71,10 @@ IsEvaluated f banks after s t b mask (Ok vs) None = (t ≡ record (valued f s b 
 IsEvaluated f banks after s t b mask (Ok vs) (Some word) = ⊥
 IsEvaluated f banks after s t b mask (Err word) None = ⊥
 IsEvaluated f banks after s t b mask (Err word) (Some other) = (other ≡ word) × IsStopped f banks after s t b
+
+-- what an active block gives on what is kept of it
+abbrev pub IsAnswered : Fixed → Columns → List Meaning → List Meaning → Standing → Standing → ℕ → ℕ → Option StopWord → Type 0
+IsAnswered f i banks after s t b mask word = IsEvaluated f banks after s t b mask (given f i banks s b mask) word
 
 -- ---- all blocks
 
@@ -120,7 +129,10 @@ pub record IsStateStepped (f : Fixed) (b : ℕ) (s t : Standing) (banks after : 
 pub record IsBlockStepped (f : Fixed) (b : ℕ) (s t : Standing) (banks after : List Meaning) : Type 0 where
   pub state : state_of f after b
       ≡ next (spec_of f.net b) (state_of f banks b) (mark_at s.marks b).mask (all_inputs (spec_of f.net b) (input_in f.net (values_at f.net s.values) b))
-  pub cursor : t ≡ record s { cursors = (if is_sensor (spec_of f.net b).kind then slice_set s.cursors (b - 1) (cursor_at s b + 1) else s.cursors); room = t.room }
+  pub cursor : t ≡ record s {
+    cursors = (if is_sensor (spec_of f.net b).kind then slice_set s.cursors (b - 1) (cursor_at s b + 1) else s.cursors);
+    room = t.room;
+  }
   pub room : length t.room ≡ length s.room
   pub others : (c : ℕ) → IsBlock f.net c → b ≢ c → state_of f after c ≡ state_of f banks c
   pub seated : AreSeated f after

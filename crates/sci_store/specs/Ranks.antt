@@ -1,13 +1,16 @@
 -- Where entries stand in the order in which their blocks are called.
-use Rattle.std.specs.Prelude.{◌≡◌, ◌≢◌, ◌↔◌, ℕ, ◌<◌, Bool, true, ◌&&◌, nat_eq, List, length, map, slice_index_or, AllPairs}
+use Rattle.std.specs.Prelude.{◌≡◌, ◌≢◌, ◌↔◌, ℕ, ◌<◌, Bool, true, ◌&&◌, nat_eq, List, length, map, slice_index_or, All, AllPairs}
 use Rattle.std.specs.List.{filter}
 use mathlib.Core.Bool.{beq}
 use Rattle.std.specs.List.Sorted.{IsPermutation}
 use Rattle.sci_forms.specs.Names.{number_of}
 use Rattle.sci_reaction.specs.declared.entry.Entry.{Entry}
+use Rattle.sci_reaction.specs.Kept.{entries_of}
+use Rattle.sci_bank.specs.declared.runs.Call.{Call}
+use Rattle.sci_store.specs.declared.row.Run.{Run}
 use Rattle.sci_store.specs.declared.row.Rank.{Rank}
 use Rattle.sci_store.specs.Frame.{Fixed, seat_of}
-use Rattle.sci_store.specs.Rows.{is_guarded, IsAlone, StandsBefore}
+use Rattle.sci_store.specs.Rows.{is_guarded, IsAlone, StandsBefore, call_of, IsRun}
 
 -- two blocks that follow one another are of one run
 abbrev pub are_alike : Rank → Rank → Bool
@@ -28,7 +31,9 @@ pub record AreRanksOf (f : Fixed) (depth : Entry → ℕ) (sorted : List Entry) 
 
 -- these entries are at the places that the ranks tell
 abbrev pub AreAt : List Entry → List Rank → List Entry → Type 0
-AreAt es ranks sorted = (k : ℕ) (e : Entry) (r : Rank) → k < length ranks → ((slice_index_or ranks k r).at < length es) × (slice_index_or es (slice_index_or ranks k r).at e ≡ slice_index_or sorted k e)
+AreAt es ranks sorted =
+    (k : ℕ) (e : Entry) (r : Rank) → k < length ranks
+    → ((slice_index_or ranks k r).at < length es) × (slice_index_or es (slice_index_or ranks k r).at e ≡ slice_index_or sorted k e)
 
 -- one for each of the entries that are meant, in order
 pub record AreRanked (f : Fixed) (is : Entry → Bool) (depth : Entry → ℕ) (es : List Entry) (ranks : List Rank) : Type 0 where
@@ -38,3 +43,20 @@ pub record AreRanked (f : Fixed) (is : Entry → Bool) (depth : Entry → ℕ) (
   pub ranks_of : AreRanksOf f depth sorted ranks
   pub at_places : AreAt es ranks sorted
   pub apart : AllPairs (λ (r q : Rank). r.at ≢ q.at) ranks
+
+-- ---- what is made by ranks, whichever entries they order, and by whichever depth
+
+-- the calls of the entries in order
+abbrev pub AreCallsBy : Fixed → (es : List Entry) → (ranks : List Rank) → List Call → Type 0
+AreCallsBy f es ranks calls =
+    (depth : Entry → ℕ) (sorted : List Entry) → AreRanksOf f depth sorted ranks → AreAt es ranks sorted → calls ≡ map (call_of f) sorted
+
+-- their runs
+abbrev pub AreRunsBy : Fixed → (ranks : List Rank) → List Run → Type 0
+AreRunsBy f ranks runs = (depth : Entry → ℕ) (sorted : List Entry) → AreRanksOf f depth sorted ranks → All (IsRun f depth sorted) runs
+
+-- those that guards may leave idle
+abbrev pub AreGuardedBy : (es : List Entry) → (ranks : List Rank) → (guarded : List Entry) → Type 0
+AreGuardedBy es ranks guarded =
+    (f : Fixed) (depth : Entry → ℕ) (sorted : List Entry) → AreRanksOf f depth sorted ranks → AreAt es ranks sorted
+    → entries_of guarded ≡ entries_of (filter is_guarded sorted)

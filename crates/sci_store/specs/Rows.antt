@@ -244,8 +244,12 @@ shown_values s (w ∷ ws) = (if is_shown s.marks w then between s.values w.start
 abbrev pub state_calls_in : Row → Run → List Call
 state_calls_in r run = between r.state_calls run.start run.end
 
+-- the calls of a run with guards, by the marks: those of the entries that apply
+abbrev pub guarded_calls : Row → Run → List Mark → List Call
+guarded_calls r run marks =
+    chosen_calls marks (calls_in r run) (entries_of (between r.guarded run.entries (run.entries + (run.end - run.start))))
+
 -- the calls that a run makes by the marks: all, or those of the entries that apply
 abbrev pub run_calls : Row → Run → List Mark → List Call
 run_calls r run marks =
-    if run.guarded then chosen_calls marks (calls_in r run) (entries_of (between r.guarded run.entries (run.entries + (run.end - run.start))))
-    else calls_in r run
+    if run.guarded then guarded_calls r run marks else calls_in r run

@@ -40,7 +40,8 @@ pub record AreApart (f : Fixed) (calls : List Call) : Type 0 where
   pub once : AllPairs (λ (c d : Call). c.block ≢ d.block) calls
   pub alike : (i : Columns) (banks : List Meaning) (s t : Standing) (c : Call) → Contains calls c → AgreesBut f (map (λ (d : Call). d.block) calls) s t
       → given f i banks s c.block c.mask ≡ given f i banks t c.block c.mask
-  pub branches : (s t : Standing) (c : Call) → Contains calls c → AgreesBut f (map (λ (d : Call). d.block) calls) s t → branch_of f s c.block ≡ branch_of f t c.block
+  pub branches : (s t : Standing) (c : Call) → Contains calls c → AgreesBut f (map (λ (d : Call). d.block) calls) s t
+      → branch_of f s c.block ≡ branch_of f t c.block
 
 -- these blocks are of one kind
 abbrev pub AreOfKind : Fixed → Kind → List Call → Type 0
@@ -70,7 +71,8 @@ AreValued f i banks s t (c ∷ cs) stop =
 
 -- The blocks of these calls have their values, up to the first that has none. The others keep their values and marks, and all keep their states; the
 -- bank of their kind has counted these calls, and the other banks none. Where there is a stop not all are counted.
-pub record IsRunDone (f : Fixed) (i : Columns) (kind : Kind) (calls : List Call) (s t : Standing) (banks after : List Meaning) (stop : Option (ℕ × StopWord)) : Type 0 where
+pub record IsRunDone (f : Fixed) (i : Columns) (kind : Kind) (calls : List Call) (s t : Standing) (banks after : List Meaning)
+    (stop : Option (ℕ × StopWord)) : Type 0 where
   pub valued : AreValued f i banks s t calls stop
   pub others : (b : ℕ) → IsBlock f.net b → (Contains (map (λ (c : Call). c.block) calls) b → ⊥)
       → (values_at f.net t.values b ≡ values_at f.net s.values b) × (mark_at t.marks b ≡ mark_at s.marks b)
@@ -81,6 +83,10 @@ pub record IsRunDone (f : Fixed) (i : Columns) (kind : Kind) (calls : List Call)
   pub counted : (bank_of banks kind).outs ≤ 18446744073709551615 → (bank_of after kind).outs ≡ min ((bank_of banks kind).outs + called) 18446744073709551615
   pub uncounted : (k : Kind) → k ≢ kind → (bank_of after k).outs ≡ (bank_of banks k).outs
   pub kept : (t.cursors ≡ s.cursors) × (t.lines ≡ s.lines) × (t.sum ≡ s.sum)
+
+-- the same of calls of one kind, whichever it is
+abbrev pub AreDone : Fixed → Columns → (calls : List Call) → (s t : Standing) → (banks after : List Meaning) → Option (ℕ × StopWord) → Type 0
+AreDone f i calls s t banks after stop = (kind : Kind) → AreOfKind f kind calls → IsRunDone f i kind calls s t banks after stop
 
 -- what holds of a store and its banks behind calls
 pub record IsSoundBehind (f : Fixed) (s : Standing) (banks : List Meaning) : Type 0 where

@@ -62,7 +62,8 @@ AreIdle f s = (b : ℕ) → IsBlock f.net b → mark_at s.marks b ≡ idle
 pub record ShowsProgress (f : Fixed) (source : Source) (s : Standing) (w : Progress) : Type 0 where
   pub values : (b : ℕ) → IsBlock f.net b → values_at f.net s.values b ≡ w.values b
   pub applied : (b : ℕ) → IsBlock f.net b → (mark_at s.marks b).active ≡ w.applied b
-  pub branches : (b : ℕ) → IsBlock f.net b → w.applied b ≡ true → IsSync f.net b → branch_on (spec_of f.net b) (input_in f.net w.values b) ≡ (mark_at s.marks b).branch
+  pub branches : (b : ℕ) → IsBlock f.net b → w.applied b ≡ true → IsSync f.net b
+      → branch_on (spec_of f.net b) (input_in f.net w.values b) ≡ (mark_at s.marks b).branch
   pub masks : (b : ℕ) → IsBlock f.net b → w.applied b ≡ true → IsMaskOf f.net source w.values b (mark_at s.marks b).mask
 
 -- ---- the values of a reaction

@@ -1,17 +1,17 @@
 // What one block gives, by its instance in the banks.
 ghost use Rattle.std.specs.Prelude.{◌≡◌, ◌≢◌, ℕ, ◌+◌, ◌≤◌, if◌then◌else◌};
+ghost use Rattle.sci_base.specs.declared.limits.TheConstants.{ALL_ELEMENTS};
 ghost use Rattle.sci_forms.specs.Ports.{Fills};
 ghost use Rattle.sci_forms.specs.Form.{is_sync};
 ghost use Rattle.sci_kinds.specs.Asks.{IsMask, entering};
-ghost use Rattle.sci_kinds.specs.Table.{out, branch};
+ghost use Rattle.sci_kinds.specs.Table.{branch};
 ghost use Rattle.sci_net.specs.Parts.{IsBlock, spec_of};
 ghost use Rattle.sci_net.specs.Net.{all_elements};
 ghost use Rattle.sci_reaction.specs.Equations.{AreInRange};
-ghost use Rattle.sci_places.specs.Flat.{values_at, start_of, IsWhole};
+ghost use Rattle.sci_places.specs.Flat.{values_at, IsWhole};
 ghost use Rattle.sci_places.specs.Layout.{block_span};
 ghost use Rattle.sci_store.specs.Frame.{AreSeated};
-ghost use Rattle.sci_store.specs.Store.{state_of};
-ghost use Rattle.sci_store.specs.Passed.{called, IsComputed};
+ghost use Rattle.sci_store.specs.Passed.{called, IsBlockComputed};
 
 use crate::frame::Frame;
 use sci_bank::library::Library;
@@ -24,7 +24,7 @@ pub fn place(frame: &Frame, block: u32) -> Span
     requires { IsBlock frame.now.net block }
     ensures place { result ≡ block_span frame.now.net block }
     ensures within { result.start + result.len ≤ all_elements frame.now.net.specs }
-    ensures small { all_elements frame.now.net.specs ≤ 65536 }
+    ensures small { all_elements frame.now.net.specs ≤ ALL_ELEMENTS }
 {
     frame.well_formed();
     frame.places.outs(block)
@@ -46,7 +46,7 @@ pub fn compute<B: Bank>(
     requires filled { Fills (entering (spec_of frame.now.net block)) ins.now }
     requires whole { IsWhole frame.now.net values.old }
     requires values { AreInRange frame.now.net (values_at frame.now.net values.old) }
-    ensures computed { let before = lib.old in IsComputed (out (spec_of frame.now.net block) (state_of frame.now before block) mask ins.now) (start_of frame.now.net block) values.old values.new result }
+    ensures computed { let before = lib.old in IsBlockComputed frame.now before block mask ins.now values.old values.new result }
     ensures called { lib.new ≡ called frame.now lib.old block }
     ensures others { (c : ℕ) → IsBlock frame.now.net c → c ≢ block → values_at frame.now.net values.new c ≡ values_at frame.now.net values.old c }
     ensures whole { IsWhole frame.now.net values.new }

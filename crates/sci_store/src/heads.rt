@@ -1,5 +1,6 @@
 // The starts of the lines of a net's values.
 ghost use Rattle.std.specs.Prelude.{◌≡◌, ◌<◌, ◌≤◌, ◌++◌, map, length, IfOk, OnOk};
+ghost use Rattle.sci_base.specs.declared.limits.TheConstants.{PORTS, ALL_ELEMENTS};
 ghost use Rattle.sci_forms.specs.Ports.{total};
 ghost use Rattle.sci_store.specs.Heads.{start_text, named_elements, named_outputs, heads_of};
 
@@ -25,8 +26,8 @@ fn push_elements(heads: &mut Vec<Head>, block: u32, port: u32, count: u32) -> Re
 /// Adds the starts of the lines of a block's outputs.
 fn push_outputs(heads: &mut Vec<Head>, block: u32, outs: &Ports) -> Result<(), NoMemory>
     requires block { block < 10000 }
-    requires few { length outs.now ≤ 64 }
-    requires small { total outs.now ≤ 65536 }
+    requires few { length outs.now ≤ PORTS }
+    requires small { total outs.now ≤ ALL_ELEMENTS }
     ensures { OnOk result (heads.new.items ≡ heads.old.items ++ map start_text (named_outputs block 1 outs.now)) }
 {
     for port in 0..outs.len() {

@@ -1,11 +1,10 @@
 // Lines of a reaction that wait before a sink: that of its start or event, and those of its values.
 ghost use Rattle.std.specs.Prelude.{◌≡◌, ◌+◌, ◌≤◌, ◌++◌, [], codes, length, take, IfOk, OnErr};
-ghost use Rattle.std.specs.Fmt.{signed_decimal};
 ghost use Rattle.sci_io.specs.Taken.{Writes};
 ghost use Rattle.sci_trace.specs.Lines.{line};
 ghost use Rattle.sci_base.specs.declared.observation.Obs.TheVariants.{Start, Event};
-ghost use Rattle.sci_store.specs.Heads.{value_lines};
-ghost use Rattle.sci_store.specs.Paged.{paged, IsKeptBack};
+ghost use Rattle.sci_store.specs.Heads.{value_line, value_lines};
+ghost use Rattle.sci_store.specs.Paged.{paged, IsKeptBack, WaitsWithin};
 ghost use Rattle.sci_store.specs.Written.{IsHeader};
 
 use crate::digit_table::DigitTable;
@@ -122,7 +121,7 @@ impl Lines {
     #[inline(always)]
     fn add(&mut self, head: &Head, value: i64)
         requires { length self.old ≤ 4050 }
-        ensures { self.new ≡ self.old ++ (head.now ++ (signed_decimal value ++ codes "\n")) }
+        ensures { self.new ≡ self.old ++ (value_line head.now value) }
     {
         let at = head.put_at(&mut self.text, self.len);
         let at = self.digits.number_at(&mut self.text, at, value);
@@ -132,9 +131,9 @@ impl Lines {
     // Writes the line of a value behind its start; where there is no room for it, what waits is given to the sink first.
     #[inline(always)]
     fn put<S: Sink>(&mut self, head: &Head, value: i64, out: &mut S) -> Result<(), Failed>
-        ensures written { Writes (paged (S.state out.old) self.old) (paged (S.state out.new) self.new) (head.now ++ (signed_decimal value ++ codes "\n")) result }
+        ensures written { Writes (paged (S.state out.old) self.old) (paged (S.state out.new) self.new) (value_line head.now value) result }
         ensures emptied { OnErr result (self.new ≡ []) }
-        ensures waits { length self.old ≤ 4050 → IsKeptBack (S.state out.old) (S.state out.new) self.old self.new (head.now ++ (signed_decimal value ++ codes "\n")) result }
+        ensures waits { length self.old ≤ 4050 → IsKeptBack (S.state out.old) (S.state out.new) self.old self.new (value_line head.now value) result }
     {
         if self.len > ONE_MORE {
             self.give(out)?;
@@ -155,7 +154,7 @@ impl Lines {
         requires { length heads.now ≡ length values.now }
         ensures written { Writes (paged (S.state out.old) self.old) (paged (S.state out.new) self.new) (value_lines heads.now values.now) result }
         ensures emptied { OnErr result (self.new ≡ []) }
-        ensures waits { length self.old + length (value_lines heads.now values.now) ≤ 4050 → IsKeptBack (S.state out.old) (S.state out.new) self.old self.new (value_lines heads.now values.now) result }
+        ensures waits { WaitsWithin 4050 (S.state out.old) (S.state out.new) self.old self.new (value_lines heads.now values.now) result }
     {
         for at in 0..values.len() {
             self.put(&heads[at], values[at], out)?;

@@ -3,7 +3,7 @@ ghost use Rattle.std.specs.Prelude.{◌≡◌, ◌≤◌, ℕ, length, All, Cont
 ghost use Rattle.sci_store.specs.Marks.{idle, mark_at};
 
 /// What is known of a block in a reaction.
-#[derive(Clone, Copy, Debug, Drop, PartialEq, Eq)]
+#[derive(Clone, Copy, Drop)]
 pub struct Mark {
     /// Whether it has its values, since it is active.
     pub active: bool,

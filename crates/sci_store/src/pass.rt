@@ -11,9 +11,9 @@ ghost use Rattle.sci_bank.specs.Library.{bank_of};
 ghost use Rattle.sci_store.specs.Entries.{HasMark};
 ghost use Rattle.sci_store.specs.Frame.{AreSeated};
 ghost use Rattle.sci_store.specs.Store.{IsStore, AreIdle, ShowsMemory};
-ghost use Rattle.sci_store.specs.Passed.{IsPassed};
-ghost use Rattle.sci_store.specs.Rows.{IsReadyRow, IsRowOf, HasBegun, KeepsBegun, between, calls_in, run_calls, IsMarked, marked, chosen_calls};
-ghost use Rattle.sci_store.specs.Runs.{IsCallIn, AreApart, AreOfKind, IsRunDone, IsSoundBehind, stop_of, lesser};
+ghost use Rattle.sci_store.specs.Reaction.{Passes};
+ghost use Rattle.sci_store.specs.Rows.{IsReadyRow, IsRowOf, HasBegun, KeepsBegun, calls_in, guarded_calls, run_calls, IsMarked, marked, chosen_calls};
+ghost use Rattle.sci_store.specs.Runs.{IsCallIn, AreApart, AreDone, IsRunDone, IsSoundBehind, stop_of, lesser};
 
 use crate::entries::activation;
 use crate::frame::Frame;
@@ -137,7 +137,7 @@ impl Store {
         requires apart { AreApart frame.now calls.now }
         requires values { AreInRange frame.now.net (values_at frame.now.net self.old.values) }
         requires columns { AreColumns frame.now.net inputs.now }
-        ensures done { (kind : Kind) → AreOfKind frame.now kind calls.now → IsRunDone frame.now inputs.now kind calls.now self.old self.new lib.old lib.new result }
+        ensures done { AreDone frame.now inputs.now calls.now self.old self.new lib.old lib.new result }
         ensures sound { IsSoundBehind frame.now self.new lib.new }
         ensures values { AreInRange frame.now.net (values_at frame.now.net self.new.values) }
     {
@@ -165,7 +165,7 @@ impl Store {
         requires apart { AreApart frame.now (take count self.old.chosen) }
         requires values { AreInRange frame.now.net (values_at frame.now.net self.old.values) }
         requires columns { AreColumns frame.now.net inputs.now }
-        ensures done { (kind : Kind) → AreOfKind frame.now kind (take count self.old.chosen) → IsRunDone frame.now inputs.now kind (take count self.old.chosen) self.old self.new lib.old lib.new result }
+        ensures done { AreDone frame.now inputs.now (take count self.old.chosen) self.old self.new lib.old lib.new result }
         ensures sound { IsSoundBehind frame.now self.new lib.new }
         ensures values { AreInRange frame.now.net (values_at frame.now.net self.new.values) }
     {
@@ -195,7 +195,7 @@ impl Store {
         requires values { AreInRange frame.now.net (values_at frame.now.net self.old.values) }
         requires columns { AreColumns frame.now.net inputs.now }
         requires guarded { run.now.guarded ≡ true }
-        ensures done { IsRunDone frame.now inputs.now run.now.kind (chosen_calls self.old.marks (calls_in row.now run.now) (entries_of (between row.now.guarded run.now.entries (run.now.entries + (run.now.end - run.now.start))))) self.old self.new lib.old lib.new result }
+        ensures done { IsRunDone frame.now inputs.now run.now.kind (guarded_calls row.now run.now self.old.marks) self.old self.new lib.old lib.new result }
         ensures sound { IsSoundBehind frame.now self.new lib.new }
         ensures values { AreInRange frame.now.net (values_at frame.now.net self.new.values) }
     {
@@ -260,7 +260,7 @@ impl Store {
         requires row { (s : Source) × IsLoopFree frame.now.net s × IsRowOf frame.now s row.now }
         requires counts { (k : Kind) → (bank_of lib.old k).outs ≤ 18446744073709551615 }
         requires memory { (m : Memory) × ShowsMemory frame.now self.old lib.old m × IsMemory frame.now.net m }
-        ensures passed { (s : Source) (m : Memory) → IsLoopFree frame.now.net s → IsRowOf frame.now s row.now → ShowsMemory frame.now self.old lib.old m → IsMemory frame.now.net m → IsPassed frame.now inputs.now s m self.old self.new lib.old lib.new result }
+        ensures passed { Passes frame.now inputs.now row.now self.old self.new lib.old lib.new result }
         ensures sound { IsSoundBehind frame.now self.new lib.new }
         ensures values { AreInRange frame.now.net (values_at frame.now.net self.new.values) }
         ensures kept { KeepsBegun frame.now row.now self.new }

@@ -1,6 +1,6 @@
 // The row of a source: the blocks that it may activate, made ready for its reactions.
-ghost use Rattle.std.specs.Prelude.{◌≡◌, ◌≢◌, ◌<◌, ◌↔◌, ℕ, List, [], map, length, true, nat_eq, All, AllPairs, Contains, IfOk, OnOk, IsTrue, is_none, ◌&&◌};
-ghost use Rattle.std.specs.List.{IsDistinct, filter};
+ghost use Rattle.std.specs.Prelude.{◌≡◌, ◌≢◌, ◌<◌, ◌↔◌, ℕ, List, map, length, true, nat_eq, All, AllPairs, Contains, IfOk, OnOk, IsTrue, is_none, ◌&&◌};
+ghost use Rattle.std.specs.List.{IsDistinct};
 ghost use Rattle.sci_forms.specs.Form.{has_delay, is_halt, remembers};
 ghost use Rattle.sci_net.specs.Parts.{IsBlock};
 ghost use Rattle.sci_reaction.specs.declared.entry.Entry.{Entry};
@@ -8,9 +8,10 @@ ghost use Rattle.sci_reaction.specs.Kept.{entries_of};
 ghost use Rattle.sci_reaction.specs.Schedule.{blocks_of};
 ghost use Rattle.sci_store.specs.Blocks.{AreBlocksByNumber};
 ghost use Rattle.sci_store.specs.Chosen.{of_kinds};
-ghost use Rattle.sci_store.specs.Frame.{Fixed, seat_of};
-ghost use Rattle.sci_store.specs.Ranks.{are_alike, IsRankOf, AreRanked, AreRanksOf, AreAt};
-ghost use Rattle.sci_store.specs.Rows.{is_guarded, IsAlone, call_of, IsRun, Join, then_block, shows_from, IsRowFor, AreByNumber, guarded_blocks};
+ghost use Rattle.sci_store.specs.Frame.{seat_of};
+ghost use Rattle.sci_store.specs.Ranks.{are_alike, IsRankOf, AreRanked, AreCallsBy, AreRunsBy, AreGuardedBy};
+ghost use Rattle.sci_store.specs.Members.{AreGuardedMembers, shown_members};
+ghost use Rattle.sci_store.specs.Rows.{is_guarded, IsAlone, Join, then_block, IsRowFor, AreByNumber, guarded_blocks};
 
 use crate::frame::Frame;
 use sci_bank::Call;
@@ -22,7 +23,7 @@ use std::marker::Model;
 use std::mem::replace;
 
 /// Blocks of one depth and one kind, by number.
-#[derive(Clone, Copy, Debug, Drop, PartialEq, Eq)]
+#[derive(Clone, Copy, Drop)]
 pub(crate) struct Run {
     pub kind: Kind,
     /// Whether their bank does them in one call.
@@ -46,7 +47,7 @@ pub(crate) struct Runs {
 }
 
 /// Values that are shown in one piece, from `start` to before `end`.
-#[derive(Clone, Copy, Debug, Drop, PartialEq, Eq)]
+#[derive(Clone, Copy, Drop)]
 pub(crate) struct Show {
     pub start: usize,
     pub end: usize,
@@ -74,7 +75,7 @@ pub struct Row {
 }
 
 // Where a block stands among the calls: by depth, those without guards first, and those first that their bank does in one call.
-#[derive(Clone, Copy, Debug, Drop, PartialEq, Eq, PartialOrd, Ord)]
+#[derive(Clone, Copy, Drop, PartialEq, Eq, PartialOrd, Ord)]
 struct Rank {
     depth: usize,
     guarded: bool,
@@ -169,7 +170,7 @@ fn calls(
 ) -> Result<Vec<Call>, NoMemory>
     requires places { All (λ r. r.at < length entries.now) order.now }
     requires blocks { All (λ r. IsBlock frame.now.net r.block) order.now }
-    ensures { IfOk result (λ v. (depth : Entry → ℕ) (sorted : List Entry) → AreRanksOf frame.now depth sorted order.now → AreAt entries.now order.now sorted → v.items ≡ map (call_of frame.now) sorted) }
+    ensures { IfOk result (λ v. AreCallsBy frame.now entries.now order.now v.items) }
 {
     let mut calls = Vec::with_capacity(alloc, order.len())?;
     for rank in order {
@@ -185,7 +186,7 @@ fn calls(
 // The runs of blocks in an order.
 fn runs_of(alloc: Global, frame: &Frame, order: &[Rank]) -> Result<Vec<Run>, NoMemory>
     requires { All (λ r. IsBlock frame.now.net r.block) order.now }
-    ensures runs { IfOk result (λ v. (depth : Entry → ℕ) (es : List Entry) → AreRanksOf frame.now depth es order.now → All (IsRun frame.now depth es) v.items) }
+    ensures runs { IfOk result (λ v. AreRunsBy frame.now order.now v.items) }
     ensures joined { IfOk result (λ v. Join 0 (length order.now) v.items) }
 {
     let mut runs = Vec::new(alloc);
@@ -223,9 +224,9 @@ fn in_runs(
 ) -> Result<Runs, NoMemory>
     requires places { All (λ r. r.at < length entries.now) order.now }
     requires blocks { All (λ r. IsBlock frame.now.net r.block) order.now }
-    ensures runs { IfOk result (λ v. (depth : Entry → ℕ) (es : List Entry) → AreRanksOf frame.now depth es order.now → All (IsRun frame.now depth es) v.runs.items) }
+    ensures runs { IfOk result (λ v. AreRunsBy frame.now order.now v.runs.items) }
     ensures joined { IfOk result (λ v. Join 0 (length order.now) v.runs.items) }
-    ensures calls { IfOk result (λ v. (depth : Entry → ℕ) (sorted : List Entry) → AreRanksOf frame.now depth sorted order.now → AreAt entries.now order.now sorted → v.calls.items ≡ map (call_of frame.now) sorted) }
+    ensures calls { IfOk result (λ v. AreCallsBy frame.now entries.now order.now v.calls.items) }
 {
     Ok(Runs {
         runs: runs_of(alloc, frame, order)?,
@@ -237,7 +238,7 @@ fn in_runs(
 fn guarded(alloc: Global, entries: &mut [Entry], order: &[Rank]) -> Result<Vec<Entry>, NoMemory>
     requires places { All (λ r. r.at < length entries.old) order.now }
     requires apart { AllPairs (λ r q. r.at ≢ q.at) order.now }
-    ensures { IfOk result (λ v. (f : Fixed) (depth : Entry → ℕ) (sorted : List Entry) → AreRanksOf f depth sorted order.now → AreAt entries.old order.now sorted → entries_of v.items ≡ entries_of (filter is_guarded sorted)) }
+    ensures { IfOk result (λ v. AreGuardedBy entries.old order.now v.items) }
 {
     let mut kept = Vec::new(alloc);
     for rank in order {
@@ -256,7 +257,7 @@ fn guarded(alloc: Global, entries: &mut [Entry], order: &[Rank]) -> Result<Vec<E
 }
 
 // A block of a row, and whether it is guarded.
-#[derive(Clone, Copy, Debug, Drop, PartialEq, Eq, PartialOrd, Ord)]
+#[derive(Clone, Copy, Drop, PartialEq, Eq, PartialOrd, Ord)]
 struct Member {
     block: u32,
     guarded: bool,
@@ -314,7 +315,7 @@ fn push_show(shows: &mut Vec<Show>, show: Show) -> Result<(), NoMemory>
 // The values of some blocks that are shown, by block.
 fn shows(alloc: Global, frame: &Frame, members: &[Member]) -> Result<Vec<Show>, NoMemory>
     requires { All (λ m. IsBlock frame.now.net m.block) members.now }
-    ensures { (guarded : List ℕ) → All (λ m. (m.guarded ≡ true) ↔ Contains guarded m.block) members.now → IfOk result (λ v. v.items ≡ shows_from frame.now guarded [] (map (λ m. m.block) members.now)) }
+    ensures { (guarded : List ℕ) → AreGuardedMembers guarded members.now → IfOk result (λ v. v.items ≡ shown_members frame.now guarded members.now) }
 {
     let mut shows = Vec::new(alloc);
     for member in members {
@@ -370,7 +371,9 @@ impl Model for Row {
 
     ghost Value = { Plain };
 
-    ghost view = { λ r. record { runs = r.values.runs.items; calls = r.values.calls.items; guarded = r.entries.items; state_runs = r.states.runs.items; state_calls = r.states.calls.items; shows = r.shows.items; blocks = r.blocks.items; delays = r.delays.items; halts = r.halts.items } };
+    ghost use Rattle.sci_store.specs.Views.{seen_row};
+
+    ghost view = { seen_row };
 }
 
 impl Row {

@@ -15,7 +15,7 @@ use sci_net::Net;
 use std::alloc::Global;
 
 /// Where a block is kept: its kind's bank and its slot there; and the place of its first activation output among the net's sources.
-#[derive(Clone, Copy, Debug, Drop, PartialEq, Eq)]
+#[derive(Clone, Copy, Drop)]
 pub struct Seat {
     pub kind: Kind,
     pub slot: usize,

@@ -1,5 +1,6 @@
 // What changes from one reaction to the next.
-ghost use Rattle.std.specs.Prelude.{◌≡◌, ℕ, ◌+◌, ◌-◌, ◌<◌, ◌≤◌, ◌^◌, ◌++◌, ◌∷◌, [], ◌<ℤ◌, pos, slice_set, take, length, All, Contains, true, IfOk, IsSome, OnOk, OnErr};
+ghost use Rattle.std.specs.Prelude.{◌≡◌, ℕ, ◌+◌, ◌-◌, ◌<◌, ◌≤◌, ◌^◌, ◌++◌, ◌∷◌, [], ◌<ℤ◌, pos, slice_set, take, length, All, Contains, true, IfOk, IsSome};
+ghost use Rattle.std.specs.Prelude.{OnOk, OnErr};
 ghost use Rattle.sci_base.specs.Lists.{at, listed};
 ghost use Rattle.sci_io.specs.Taken.{Writes};
 ghost use Rattle.sci_trace.specs.Lines.{line, text};
@@ -7,14 +8,10 @@ ghost use Rattle.sci_forms.specs.Ports.{total};
 ghost use Rattle.sci_forms.specs.Form.{has_delay};
 ghost use Rattle.sci_kinds.specs.Asks.{IsMask, IsState};
 ghost use Rattle.sci_forms.specs.Words.{held_of};
-ghost use Rattle.sci_net.specs.declared.Source.{Source};
 ghost use Rattle.sci_net.specs.Parts.{IsBlock, spec_of};
 ghost use Rattle.sci_forms.specs.Form.{is_sensor};
-ghost use Rattle.sci_reaction.specs.Memory.{Memory, IsMemory, AreColumns, next_value, first_memory};
-ghost use Rattle.sci_reaction.specs.Equations.{Signals, AreInRange, input_in, all_inputs};
-ghost use Rattle.sci_run.specs.Activity.{Activity, IsActivity, halts};
-ghost use Rattle.sci_forms.specs.Form.{is_halt};
-ghost use Rattle.sci_run.specs.Observed.{blocks_seen};
+ghost use Rattle.sci_reaction.specs.Memory.{AreColumns, next_value, first_memory};
+ghost use Rattle.sci_reaction.specs.Equations.{AreInRange};
 ghost use Rattle.sci_places.specs.Flat.{values_at, IsWhole};
 
 use crate::block::{compute, place, take_branch};
@@ -54,7 +51,9 @@ impl Model for Store {
 
     ghost Value = { Standing };
 
-    ghost view = { λ s. record { values = s.values.items; cursors = s.cursors.items; marks = s.marks.items; room = s.ins.items; chosen = s.chosen.items; lines = s.tally.lines; sum = s.tally.sum } };
+    ghost use Rattle.sci_store.specs.Views.{standing};
+
+    ghost view = { standing };
 }
 
 /// Adds the values that a block holds before its first activation.
@@ -84,15 +83,15 @@ impl Store {
     ghost use Rattle.sci_store.specs.Marks.{idle, mark_at};
     ghost use Rattle.sci_store.specs.Blocks.{AreBlocksByNumber};
     ghost use Rattle.sci_store.specs.Frame.{AreSeated};
-    ghost use Rattle.sci_store.specs.Store.{Standing, IsStore, AreIdle, cursor_at, state_of, ShowsValues};
-    ghost use Rattle.sci_store.specs.Passed.{given, IsEvaluated, IsStepped, IsStateStepped, IsBlockStepped, ShowsBefore, AreAlikeCounts, KeepsValues};
-    ghost use Rattle.sci_store.specs.Written.{AreAmong, IsPlain, IsHeader, tallied, tallied_values};
-    ghost use Rattle.sci_store.specs.Chosen.{active_of_kinds};
+    ghost use Rattle.sci_store.specs.Store.{Standing, IsStore, AreIdle, cursor_at, state_of};
+    ghost use Rattle.sci_store.specs.Passed.{IsAnswered, IsStateStepped, IsBlockStepped, AreAlikeCounts, KeepsValues};
+    ghost use Rattle.sci_store.specs.Written.{IsPlain, IsHeader, tallied, tallied_values};
     ghost use Rattle.sci_store.specs.Rows.{IsReadyRow, KeepsBegun, IsShowOf, is_shown, between, active_calls, state_calls_in, shown_values};
     ghost use Rattle.sci_store.specs.Runs.{AreStepped, AreCalledOnce, called_blocks, MayStep, MayStepAmong, lines_of};
     ghost use Rattle.sci_store.specs.Delays.{delays_in};
     ghost use Rattle.sci_store.specs.Paged.{paged};
-    ghost use Rattle.sci_store.specs.Entering.{IsEntered};
+    ghost use Rattle.sci_store.specs.Entering.{IsEntered, inputs_of, HasNext};
+    ghost use Rattle.sci_store.specs.Reaction.{IfSeen, Steps, TellsHalt};
 
     /// The store before a run.
     pub fn new(alloc: Global, frame: &Frame) -> Result<Store, NoMemory>
@@ -254,7 +253,7 @@ impl Store {
         requires store { IsStore frame.now self.old }
         requires block { IsBlock frame.now.net block }
         ensures within { result ≤ length self.new.room }
-        ensures gathered { take result self.new.room ≡ all_inputs (spec_of frame.now.net block) (input_in frame.now.net (values_at frame.now.net self.old.values) block) }
+        ensures gathered { take result self.new.room ≡ inputs_of frame.now self.old block }
         ensures same { self.new ≡ record self.old { room = self.new.room } }
         ensures room { length self.new.room ≡ length self.old.room }
     {
@@ -278,7 +277,7 @@ impl Store {
         requires mask { IsMask (spec_of frame.now.net block) mask }
         requires values { AreInRange frame.now.net (values_at frame.now.net self.old.values) }
         requires columns { AreColumns frame.now.net inputs.now }
-        ensures answer { let before = lib.old in IsEvaluated frame.now before lib.new self.old self.new block mask (given frame.now inputs.now before self.old block mask) result }
+        ensures answer { let before = lib.old in IsAnswered frame.now inputs.now before lib.new self.old self.new block mask result }
         ensures store { IsStore frame.now self.new }
         ensures seated { AreSeated frame.now lib.new }
         ensures values { AreInRange frame.now.net (values_at frame.now.net self.new.values) }
@@ -348,8 +347,8 @@ impl Store {
         requires store { IsStore frame.now self.old }
         requires row { IsReadyRow frame.now row.now }
         requires begun { KeepsBegun frame.now row.now self.old }
-        ensures written { (s : Source) (y : Signals) (active : Activity) → ShowsValues frame.now s self.old y active → AreAmong frame.now.net active row.now.blocks → Writes (paged (S.state out.old) lines.old) (S.state out.new) (text (blocks_seen 1 frame.now.net.specs y active)) result }
-        ensures counted { OnOk result ((s : Source) (y : Signals) (active : Activity) → ShowsValues frame.now s self.old y active → AreAmong frame.now.net active row.now.blocks → self.new ≡ tallied self.old (blocks_seen 1 frame.now.net.specs y active)) }
+        ensures written { IfSeen frame.now self.old row.now (λ seen. Writes (paged (S.state out.old) lines.old) (S.state out.new) (text seen) result) }
+        ensures counted { OnOk result (IfSeen frame.now self.old row.now (λ seen. self.new ≡ tallied self.old seen)) }
         ensures same { self.new ≡ record self.old { lines = self.new.lines; sum = self.new.sum } }
         ensures empty { lines.new ≡ [] }
     {
@@ -388,8 +387,8 @@ impl Store {
         requires row { IsReadyRow frame.now row.now }
         requires begun { KeepsBegun frame.now row.now self.old }
         requires header { IsHeader header.now }
-        ensures written { (s : Source) (y : Signals) (active : Activity) → ShowsValues frame.now s self.old y active → AreAmong frame.now.net active row.now.blocks → Writes (S.state out.old) (S.state out.new) (text (header.now ∷ blocks_seen 1 frame.now.net.specs y active)) result }
-        ensures counted { OnOk result ((s : Source) (y : Signals) (active : Activity) → ShowsValues frame.now s self.old y active → AreAmong frame.now.net active row.now.blocks → self.new ≡ tallied self.old (header.now ∷ blocks_seen 1 frame.now.net.specs y active)) }
+        ensures written { IfSeen frame.now self.old row.now (λ seen. Writes (S.state out.old) (S.state out.new) (text (header.now ∷ seen)) result) }
+        ensures counted { OnOk result (IfSeen frame.now self.old row.now (λ seen. self.new ≡ tallied self.old (header.now ∷ seen))) }
         ensures same { self.new ≡ record self.old { lines = self.new.lines; sum = self.new.sum } }
     {
         frame.well_formed();
@@ -446,7 +445,7 @@ impl Store {
     fn go_on(&mut self, frame: &Frame, inputs: &Inputs, block: u32)
         requires store { IsStore frame.now self.old }
         requires block { IsBlock frame.now.net block }
-        requires sensed { IsSome (next_value inputs.now (spec_of frame.now.net block) (cursor_at self.old block)) }
+        requires sensed { HasNext frame.now inputs.now self.old block }
         ensures { self.new ≡ record self.old { cursors = slice_set self.old.cursors (block - 1) (cursor_at self.old block + 1) } }
     {
         if self.sense(frame, inputs, block).is_some() {
@@ -462,7 +461,7 @@ impl Store {
         requires block { IsBlock frame.now.net block }
         requires values { AreInRange frame.now.net (values_at frame.now.net self.old.values) }
         requires mask { IsMask (spec_of frame.now.net block) (mark_at self.old.marks block).mask }
-        requires sensed { is_sensor (spec_of frame.now.net block).kind ≡ true → IsSome (next_value inputs.now (spec_of frame.now.net block) (cursor_at self.old block)) }
+        requires sensed { is_sensor (spec_of frame.now.net block).kind ≡ true → HasNext frame.now inputs.now self.old block }
         requires state { IsState (spec_of frame.now.net block) (state_of frame.now lib.old block) }
         ensures { IsBlockStepped frame.now block self.old self.new lib.old lib.new }
     {
@@ -565,7 +564,7 @@ impl Store {
         requires row { IsReadyRow frame.now row.now }
         requires begun { KeepsBegun frame.now row.now self.old }
         requires may_step { MayStep frame.now inputs.now self.old lib.old }
-        ensures stepped { (s : Source) (m : Memory) (y : Signals) (active : Activity) → IsActivity frame.now.net s y active → ShowsValues frame.now s self.old y active → AreAmong frame.now.net active row.now.blocks → ShowsBefore frame.now self.old lib.old m → IsMemory frame.now.net m → IsStepped frame.now s m y self.new lib.new }
+        ensures stepped { Steps frame.now row.now self.old self.new lib.old lib.new }
         ensures values { KeepsValues self.old self.new }
         ensures store { IsStore frame.now self.new }
         ensures seated { AreSeated frame.now lib.new }
@@ -581,7 +580,7 @@ impl Store {
     pub fn halts(&self, frame: &Frame, blocks: &[u32]) -> bool
         requires store { IsStore frame.now self.now }
         requires blocks { AreBlocksByNumber frame.now.net blocks.now }
-        ensures { (s : Source) (y : Signals) (active : Activity) → ShowsValues frame.now s self.now y active → AreAmong frame.now.net (active_of_kinds frame.now.net is_halt active) blocks.now → result ≡ halts frame.now.net active }
+        ensures { TellsHalt frame.now self.now blocks.now result }
     {
         for block in blocks {
             if frame.is_halt(*block) && self.is_active(*block) {

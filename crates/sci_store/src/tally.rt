@@ -3,7 +3,7 @@ ghost use Rattle.std.specs.Prelude.{◌≡◌, length};
 ghost use Rattle.sci_store.specs.Tally.{lines_after, sum_with};
 
 /// Counts of the observations of a run.
-#[derive(Clone, Copy, Debug, Drop, PartialEq, Eq)]
+#[derive(Clone, Copy, Drop)]
 pub struct Tally {
     /// How many there were; the count stays at 2^64 - 1 once there.
     pub lines: u64,

@@ -1,5 +1,6 @@
 -- What holds of all texts and dumps.
-use Rattle.std.specs.Prelude.{◌≡◌, ℕ, ◌≤◌, ◌^◌, List, length, Option}
+use Rattle.std.specs.Prelude.{◌≡◌, ℕ, ◌≤◌, List, length, Option}
+use Rattle.sci_base.specs.declared.limits.TheConstants.{TICKS}
 use Rattle.sci_net.specs.Parts.{Parts}
 use Rattle.sci_net.specs.Net.{IsNet, all_elements}
 use Rattle.sci_vcd.specs.Waveforms.{Waveforms, AreSignals, IsDump}
@@ -27,4 +28,4 @@ NetSignals = (n : Parts) → IsNet n → AreSignals (signals_of n) × (length (s
 -- what is written tick by tick is a dump's text behind each of them
 abbrev pub WrittenIsDump : Type 0
 WrittenIsDump =
-    (o : Writing) (told : Option Waveforms) (t : ℕ) → IsWriting o → HasTold o told → MayClose o.closed t → t ≤ 2 ^ 62 → IsTickTold o told t
+    (o : Writing) (told : Option Waveforms) (t : ℕ) → IsWriting o → HasTold o told → MayClose o.closed t → t ≤ TICKS → IsTickTold o told t

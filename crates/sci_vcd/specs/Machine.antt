@@ -1,5 +1,6 @@
 -- The lines of a dump, one by one, and how far they have come.
-use Rattle.std.specs.Prelude.{◌≡◌, ℕ, ◌+◌, ◌^◌, ◌<◌, ◌≤◌, ℤ, List, [], ◌∷◌, ◌++◌, length, Option, Some, None, Bool, ◌&&◌, not, nat_eq, nat_lt, if◌then◌else◌, codes}
+use Rattle.std.specs.Prelude.{◌≡◌, ℕ, ◌+◌, ◌<◌, ◌≤◌, ℤ, List, [], ◌∷◌, ◌++◌, length, Option, Some, None, Bool, ◌&&◌, not, nat_eq, nat_lt, if◌then◌else◌, codes}
+use Rattle.sci_base.specs.declared.limits.TheConstants.{ALL_ELEMENTS, TICKS}
 use Rattle.sci_base.specs.Fit.{int_eq}
 use Rattle.sci_vcd.specs.declared.signal.Signal.{Signal}
 use Rattle.sci_vcd.specs.declared.signal.Change.{Change}
@@ -44,7 +45,7 @@ fixed text line next w = after text line >>= ended (at_stage next w)
 
 -- g may be the next signal, and n is its number
 abbrev pub may_join : List Signal → ℕ → Signal → Bool
-may_join before n g = nat_eq n (length before + 1) && (nat_lt (length before) 65536 && (is_within g && rises before g))
+may_join before n g = nat_eq n (length before + 1) && (nat_lt (length before) ALL_ELEMENTS && (is_within g && rises before g))
 
 abbrev pub joining : Waveforms → ℕ × Signal → Option State
 joining w x = if may_join w.signals x.0 x.1 then Some (at_stage Signals (with_signal w x.1)) else None
@@ -125,7 +126,7 @@ pub record HasTick (w : Waveforms) (t : ℕ) : Type 0 where
   pub dump : IsDump w
   pub some : 0 < length w.signals
   pub later : (last_change w).tick < t
-  pub early : t ≤ 2 ^ 62
+  pub early : t ≤ TICKS
 
 abbrev pub Stands : Stage → Waveforms → Type 0
 Stands Timescale w = w ≡ nothing

@@ -1,5 +1,6 @@
 -- Reading a line from left to right: a value and the bytes after it, or none.
 use Rattle.std.specs.Prelude.{ℕ, ◌+◌, ◌*◌, ◌-◌, ◌^◌, ℤ, pos, ◌-ℤ◌, List, [], ◌∷◌, length, Option, Some, None, Bool, ◌&&◌, nat_eq, nat_le, if◌then◌else◌, codes, unsigned_abs}
+use Rattle.sci_base.specs.declared.limits.TheConstants.{TICKS}
 use Rattle.sci_text.specs.Reading.{◌>>=◌, or_else, after, ended}
 use Rattle.sci_text.specs.Numbers.{digits_front, digits_rest, number_at}
 use Rattle.sci_base.specs.declared.Ty.{Ty}
@@ -61,4 +62,4 @@ change_at line =
 
 -- a tick, behind its #
 unfoldable pub tick_at : List ℕ → Option ℕ
-tick_at bytes = number_at (2 ^ 62 + 1) bytes >>= λ n. ended n.0 n.1
+tick_at bytes = number_at (TICKS + 1) bytes >>= λ n. ended n.0 n.1

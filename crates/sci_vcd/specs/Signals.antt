@@ -1,5 +1,6 @@
 -- The signals of a net: the elements of all regular outputs, by block, port and element.
 use Rattle.std.specs.Prelude.{◌≡◌, ℕ, zero, suc, ◌+◌, ◌-◌, ◌≤◌, List, [], ◌∷◌, ◌++◌, take, length, slice_index_or, All}
+use Rattle.sci_base.specs.declared.limits.TheConstants.{PORT_ELEMENTS}
 use Rattle.sci_base.specs.declared.Ty.{Ty}
 use Rattle.sci_forms.specs.declared.ports.Port.{Port}
 use Rattle.sci_forms.specs.declared.spec.Spec.{Spec}
@@ -29,7 +30,7 @@ signals_of n = block_signals 1 n.specs
 
 -- an output has at most so many elements
 abbrev pub AreSmall : List Port → Type 0
-AreSmall ps = All (λ p. elements p ≤ 256) ps
+AreSmall ps = All (λ p. elements p ≤ PORT_ELEMENTS) ps
 
 -- how many signals stand before those of block b
 abbrev pub before_block : Parts → ℕ → ℕ

@@ -1,5 +1,6 @@
 -- What a value change dump says: its signals, their first values, and each later change of one.
-use Rattle.std.specs.Prelude.{◌≡◌, ◌≢◌, ℕ, ◌+◌, ◌-◌, ◌^◌, ◌<◌, ◌≤◌, ℤ, pos, List, [], ◌∷◌, ◌++◌, length, filter, Bool, true, ◌&&◌, ◌||◌, nat_eq, nat_lt, nat_le, if◌then◌else◌, slice_index_or}
+use Rattle.std.specs.Prelude.{◌≡◌, ◌≢◌, ℕ, ◌+◌, ◌-◌, ◌<◌, ◌≤◌, ℤ, pos, List, [], ◌∷◌, ◌++◌, length, filter, Bool, true, ◌&&◌, ◌||◌, nat_eq, nat_lt, nat_le, if◌then◌else◌, slice_index_or}
+use Rattle.sci_base.specs.declared.limits.TheConstants.{BLOCKS, PORTS, PORT_ELEMENTS, ALL_ELEMENTS, TICKS}
 use Rattle.sci_base.specs.declared.Ty.{Ty}
 use Rattle.sci_base.specs.declared.Ty.TheVariants.{I32}
 use Rattle.sci_base.specs.Fit.{in_range}
@@ -33,7 +34,7 @@ counts greatest n = nat_le 1 n && nat_le n greatest
 
 -- an element of an output of a block that a net may have
 abbrev pub is_within : Signal → Bool
-is_within g = counts 2048 g.block && (counts 64 g.port && counts 256 g.element)
+is_within g = counts BLOCKS g.block && (counts PORTS g.port && counts PORT_ELEMENTS g.element)
 
 -- by block, port and element
 abbrev pub precedes : Signal → Signal → Bool
@@ -45,7 +46,7 @@ rises before g = nat_eq (length before) 0 || precedes (slice_index_or before (le
 
 -- The signal may be the next behind these.
 pub record Joins (before : List Signal) (g : Signal) : Type 0 where
-  pub few : length before < 65536
+  pub few : length before < ALL_ELEMENTS
   pub within : is_within g ≡ true
   pub behind : rises before g ≡ true
 
@@ -91,7 +92,7 @@ value_behind v n (c ∷ cs) = value_behind (if nat_eq c.signal n then c.value el
 -- The change may be the next behind these: later than the last, at most at tick 2^62, and to another value of the signal's type.
 pub record Follows (gs : List Signal) (first : List ℤ) (before : List Change) (c : Change) : Type 0 where
   pub known : counts (length gs) c.signal ≡ true
-  pub early : c.tick ≤ 2 ^ 62
+  pub early : c.tick ≤ TICKS
   pub later : is_later (last_of (length gs) before) c ≡ true
   pub fits : in_range (type_of gs c.signal) c.value ≡ true
   pub another : c.value ≢ value_behind (first_of first c.signal) c.signal before

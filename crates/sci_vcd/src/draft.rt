@@ -1,6 +1,7 @@
 // The signals, first values and changes of a dump in memory, put in one by one.
 
 ghost use Rattle.std.specs.Prelude.{◌≡◌, ◌≤◌, [], length, IfOk};
+ghost use Rattle.sci_base.specs.declared.limits.TheConstants.{ALL_ELEMENTS};
 ghost use Rattle.sci_vcd.specs.Waveforms.{type_of, value_at};
 ghost use Rattle.sci_vcd.specs.Draft.{waveforms_of, IsLinked};
 ghost use Rattle.sci_vcd.specs.Machine.{nothing, with_signal, with_first, with_change, last_change, value_now};
@@ -10,7 +11,7 @@ use sci_base::{NoMemory, Ty};
 use std::alloc::Global;
 
 /// A change, and how many changes there are up to the one before it of the same signal; 0 where it is the signal's first.
-#[derive(Clone, Copy, Debug, Drop)]
+#[derive(Clone, Copy, Drop)]
 pub struct Linked {
     pub change: Change,
     pub earlier: usize,
@@ -86,7 +87,7 @@ impl Draft {
 
     /// The last change; where there is none, what stands for one at tick 0, which tells all signals.
     pub fn last(&self) -> Change
-        requires few { length self.now.signals.items ≤ 65536 }
+        requires few { length self.now.signals.items ≤ ALL_ELEMENTS }
         ensures { result ≡ last_change (waveforms_of self.now) }
     {
         let count = self.entries.len();

@@ -7,8 +7,8 @@ ghost use Rattle.sci_text.specs.Reading.{ended};
 ghost use Rattle.sci_vcd.specs.Reading.{bits_of, number_of, decoded, type_at, name_at, signal_at, change_at, tick_at};
 
 use crate::Signal;
-use sci_base::Ty;
 use sci_base::bits::two_to;
+use sci_base::{Ty, limits};
 use sci_text::{after_text, digits_len, number};
 
 /// A variable's kind and width, and what stands behind them.
@@ -95,7 +95,7 @@ pub fn read_change(line: &[u8]) -> Option<(&[u8], u32)>
 pub fn read_tick(bytes: &[u8]) -> Option<u64>
     ensures { result ≡ tick_at bytes.now }
 {
-    let (tick, rest) = number((1 << 62) + 1, bytes)?;
+    let (tick, rest) = number(limits::TICKS + 1, bytes)?;
     if rest.is_empty() { Some(tick) } else { None }
 }
 

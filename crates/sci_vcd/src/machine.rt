@@ -1,6 +1,7 @@
 // One line of a dump after another.
 
 ghost use Rattle.std.specs.Prelude.{◌≡◌, ◌≤◌, ◌<◌, [], length, IfOk};
+ghost use Rattle.sci_base.specs.declared.limits.TheConstants.{ALL_ELEMENTS};
 ghost use Rattle.sci_base.specs.Fit.{int_eq};
 ghost use Rattle.sci_vcd.specs.Waveforms.{rises};
 ghost use Rattle.sci_vcd.specs.Draft.{waveforms_of, IsLinked};
@@ -13,10 +14,11 @@ use crate::draft::Draft;
 use crate::line::{decoded, read_change, read_signal, read_tick};
 use crate::signal::counts;
 use crate::{Change, Signal};
+use sci_base::limits;
 use sci_text::{Stop, after_text};
 
 /// Which line comes next.
-#[derive(Clone, Copy, Debug, Drop)]
+#[derive(Clone, Copy, Drop)]
 pub enum Stage {
     Timescale,
     Scope,
@@ -77,7 +79,7 @@ fn may_join(before: &[Signal], number: u32, signal: &Signal) -> bool
     ensures { result ≡ machine.may_join before.now number signal.now }
 {
     number as usize == before.len() + 1
-        && before.len() < 65536
+        && before.len() < limits::ALL_ELEMENTS as usize
         && signal.is_within()
         && rises(before, signal)
 }
@@ -128,7 +130,7 @@ pub fn is_equal(v: i64, w: i64) -> bool
 /// Whether the change is later than the last one, and to another value.
 fn may_change(draft: &Draft, change: &Change) -> bool
     requires linked { IsLinked draft.now }
-    requires few { length draft.now.signals.items ≤ 65536 }
+    requires few { length draft.now.signals.items ≤ ALL_ELEMENTS }
     requires one_each { length draft.now.first.items ≡ length draft.now.signals.items }
     requires least { 1 ≤ change.now.signal }
     requires most { change.now.signal ≤ length draft.now.signals.items }
@@ -139,7 +141,7 @@ fn may_change(draft: &Draft, change: &Change) -> bool
 
 fn changing(draft: Draft, change: Change) -> Result<Reader, Stop>
     requires linked { IsLinked draft }
-    requires few { length draft.signals.items ≤ 65536 }
+    requires few { length draft.signals.items ≤ ALL_ELEMENTS }
     requires one_each { length draft.first.items ≡ length draft.signals.items }
     requires least { 1 ≤ change.signal }
     requires most { change.signal ≤ length draft.signals.items }
@@ -159,7 +161,7 @@ fn changing(draft: Draft, change: Change) -> Result<Reader, Stop>
 /// The value of signal `signal` at this tick.
 fn turning(draft: Draft, tick: u64, digits: &[u8], signal: u32) -> Result<Reader, Stop>
     requires linked { IsLinked draft }
-    requires few { length draft.signals.items ≤ 65536 }
+    requires few { length draft.signals.items ≤ ALL_ELEMENTS }
     requires one_each { length draft.first.items ≡ length draft.signals.items }
     ensures gives { Gives state_of result (machine.turning (waveforms_of draft) tick (digits.now, signal)) }
     ensures linked { IfOk result (λ r. IsLinked r.draft) }
@@ -182,7 +184,7 @@ fn turning(draft: Draft, tick: u64, digits: &[u8], signal: u32) -> Result<Reader
 
 /// Whether the tick is later than the last one, and some signal may change at it.
 fn may_tick(draft: &Draft, tick: u64) -> bool
-    requires { length draft.now.signals.items ≤ 65536 }
+    requires { length draft.now.signals.items ≤ ALL_ELEMENTS }
     ensures { result ≡ machine.may_tick (waveforms_of draft.now) tick }
 {
     0 < draft.signals.len() && draft.last().tick < tick
@@ -190,7 +192,7 @@ fn may_tick(draft: &Draft, tick: u64) -> bool
 
 fn ticking(draft: Draft, tick: u64) -> Result<Reader, Stop>
     requires linked { IsLinked draft }
-    requires few { length draft.signals.items ≤ 65536 }
+    requires few { length draft.signals.items ≤ ALL_ELEMENTS }
     ensures gives { Gives state_of result (machine.ticking (waveforms_of draft) tick) }
     ensures linked { IfOk result (λ r. IsLinked r.draft) }
 {
@@ -239,7 +241,7 @@ fn next_value(draft: Draft, line: &[u8]) -> Result<Reader, Stop>
 /// A change at this tick.
 fn next_change(draft: Draft, tick: u64, line: &[u8]) -> Result<Reader, Stop>
     requires linked { IsLinked draft }
-    requires few { length draft.signals.items ≤ 65536 }
+    requires few { length draft.signals.items ≤ ALL_ELEMENTS }
     requires one_each { length draft.first.items ≡ length draft.signals.items }
     ensures gives { Gives state_of result (machine.pass_at (Stage.Tick tick) (waveforms_of draft) line.now) }
     ensures linked { IfOk result (λ r. IsLinked r.draft) }
@@ -253,7 +255,7 @@ fn next_change(draft: Draft, tick: u64, line: &[u8]) -> Result<Reader, Stop>
 /// A later tick, behind its #.
 fn later_tick(draft: Draft, rest: &[u8]) -> Result<Reader, Stop>
     requires linked { IsLinked draft }
-    requires few { length draft.signals.items ≤ 65536 }
+    requires few { length draft.signals.items ≤ ALL_ELEMENTS }
     ensures gives { Gives state_of result (machine.ticked (waveforms_of draft) rest.now) }
     ensures linked { IfOk result (λ r. IsLinked r.draft) }
 {
@@ -266,7 +268,7 @@ fn later_tick(draft: Draft, rest: &[u8]) -> Result<Reader, Stop>
 /// A later tick, or a further change at the last one.
 fn next_tick(draft: Draft, line: &[u8]) -> Result<Reader, Stop>
     requires linked { IsLinked draft }
-    requires few { length draft.signals.items ≤ 65536 }
+    requires few { length draft.signals.items ≤ ALL_ELEMENTS }
     requires one_each { length draft.first.items ≡ length draft.signals.items }
     ensures gives { Gives state_of result (machine.pass_at Stage.Ticks (waveforms_of draft) line.now) }
     ensures linked { IfOk result (λ r. IsLinked r.draft) }

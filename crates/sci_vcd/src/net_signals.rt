@@ -1,6 +1,7 @@
 // The signals of a net.
 
 ghost use Rattle.std.specs.Prelude.{◌≡◌, ◌+◌, ◌<◌, ◌≤◌, ◌^◌, ◌++◌, length, IfOk, OnOk, true};
+ghost use Rattle.sci_base.specs.declared.limits.TheConstants.{PORTS, PORT_ELEMENTS};
 ghost use Rattle.sci_vcd.specs.Signals.{element_signals, output_signals, signals_of, AreSmall, AreStarts};
 
 use crate::Signal;
@@ -24,7 +25,7 @@ fn push_elements(
     port: u32,
     count: u32,
 ) -> Result<(), NoMemory>
-    requires { count ≤ 256 }
+    requires { count ≤ PORT_ELEMENTS }
     ensures { OnOk result (signals.new.items ≡ signals.old.items ++ element_signals ty block port count) }
 {
     for element in 0..count {
@@ -40,7 +41,7 @@ fn push_elements(
 
 /// The outputs of a block.
 fn push_outputs(signals: &mut Vec<Signal>, block: u32, outs: &Ports) -> Result<(), NoMemory>
-    requires few { length outs.now ≤ 64 }
+    requires few { length outs.now ≤ PORTS }
     requires small { AreSmall outs.now }
     ensures { OnOk result (signals.new.items ≡ signals.old.items ++ output_signals block 1 outs.now) }
 {

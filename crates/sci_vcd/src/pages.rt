@@ -1,6 +1,7 @@
 // Old and new values of all signals, by pages of 64 of which some are marked: those of the others are the same.
 
 ghost use Rattle.std.specs.Prelude.{◌≡◌, ◌≤◌, ◌<◌, ◌*◌, ◌+◌, min, length, IfOk, All, false};
+ghost use Rattle.sci_base.specs.declared.limits.TheConstants.{ALL_ELEMENTS};
 ghost use Rattle.sci_io.specs.Taken.{Writes};
 ghost use Rattle.sci_text.specs.Lines.{joined};
 ghost use Rattle.sci_vcd.specs.Spelling.{change_lines};
@@ -15,7 +16,7 @@ pub const PAGE: usize = 64;
 /// The place behind the last value of a page.
 fn page_end(page: usize, count: usize) -> usize
     requires within { page * 64 ≤ count }
-    requires few { count ≤ 65536 }
+    requires few { count ≤ ALL_ELEMENTS }
     ensures { result ≡ page_end page count }
 {
     count.min(page * PAGE + PAGE)
@@ -31,11 +32,12 @@ fn put_page<S: Sink>(
     tick: u64,
     out: &mut S,
 ) -> Result<u64, Failed>
-    requires few { length signals.now ≤ 65536 }
+    requires few { length signals.now ≤ ALL_ELEMENTS }
     requires old { length old.now ≡ length signals.now }
     requires new { length new.now ≡ length signals.now }
     requires within { page * 64 ≤ length signals.now }
-    ensures written { Writes (S.state out.old) (S.state out.new) (joined (change_lines signals.now told (changes_within tick (page * 64) (page_end page (length signals.now)) old.now new.now))) result }
+    ensures written { Writes (S.state out.old) (S.state out.new) (joined
+        (change_lines signals.now told (changes_within tick (page * 64) (page_end page (length signals.now)) old.now new.now))) result }
     ensures told { IfOk result (λ t. t ≡ told_behind told (changes_within tick (page * 64) (page_end page (length signals.now)) old.now new.now)) }
 {
     let end = page_end(page, signals.len());
@@ -57,12 +59,13 @@ fn put_any_page<S: Sink>(
     tick: u64,
     out: &mut S,
 ) -> Result<u64, Failed>
-    requires few { length signals.now ≤ 65536 }
+    requires few { length signals.now ≤ ALL_ELEMENTS }
     requires old { length old.now ≡ length signals.now }
     requires new { length new.now ≡ length signals.now }
     requires marked { AreMarked old.now new.now marked.now }
     requires page { page < length marked.now }
-    ensures written { Writes (S.state out.old) (S.state out.new) (joined (change_lines signals.now told (changes_within tick (page * 64) (page_end page (length signals.now)) old.now new.now))) result }
+    ensures written { Writes (S.state out.old) (S.state out.new) (joined
+        (change_lines signals.now told (changes_within tick (page * 64) (page_end page (length signals.now)) old.now new.now))) result }
     ensures told { IfOk result (λ t. t ≡ told_behind told (changes_within tick (page * 64) (page_end page (length signals.now)) old.now new.now)) }
 {
     if !marked[page] {
@@ -81,7 +84,7 @@ pub fn put_changes<S: Sink>(
     tick: u64,
     out: &mut S,
 ) -> Result<(), Failed>
-    requires few { length signals.now ≤ 65536 }
+    requires few { length signals.now ≤ ALL_ELEMENTS }
     requires old { length old.now ≡ length signals.now }
     requires new { length new.now ≡ length signals.now }
     requires marked { AreMarked old.now new.now marked.now }
@@ -96,7 +99,7 @@ pub fn put_changes<S: Sink>(
 
 /// The new values of a page in place of the old.
 fn settle_page(old: &mut [i64], new: &[i64], page: usize)
-    requires few { length old.old ≤ 65536 }
+    requires few { length old.old ≤ ALL_ELEMENTS }
     requires one_each { length new.now ≡ length old.old }
     requires within { page * 64 ≤ length old.old }
     ensures { old.new ≡ settled old.old new.now (page * 64) (page_end page (length old.old)) }
@@ -108,7 +111,7 @@ fn settle_page(old: &mut [i64], new: &[i64], page: usize)
 
 /// All new values in place of the old; no page is marked then.
 pub fn settle(old: &mut [i64], new: &[i64], marked: &mut [bool])
-    requires few { length old.old ≤ 65536 }
+    requires few { length old.old ≤ ALL_ELEMENTS }
     requires one_each { length new.now ≡ length old.old }
     requires marked { AreMarked old.old new.now marked.old }
     ensures old { old.new ≡ new.now }

@@ -1,6 +1,7 @@
 // Putting the lines of a dump.
 
 ghost use Rattle.std.specs.Prelude.{◌≡◌, ◌≤◌, ◌<◌, ◌+◌, length, IfOk};
+ghost use Rattle.sci_base.specs.declared.limits.TheConstants.{ALL_ELEMENTS};
 ghost use Rattle.sci_io.specs.Taken.{Writes};
 ghost use Rattle.sci_vcd.specs.Spelling as spelling;
 ghost use Rattle.sci_text.specs.Lines.{with_lf, joined};
@@ -38,7 +39,7 @@ fn put_tick<S: Sink>(tick: u64, out: &mut S) -> Result<(), Failed>
 }
 
 fn put_signals<S: Sink>(signals: &[Signal], out: &mut S) -> Result<(), Failed>
-    requires { length signals.now ≤ 65536 }
+    requires { length signals.now ≤ ALL_ELEMENTS }
     ensures { Writes (S.state out.old) (S.state out.new) (joined (spelling.signal_lines 1 signals.now)) result }
 {
     for at in 0..signals.len() {
@@ -48,7 +49,7 @@ fn put_signals<S: Sink>(signals: &[Signal], out: &mut S) -> Result<(), Failed>
 }
 
 fn put_values<S: Sink>(signals: &[Signal], values: &[i64], out: &mut S) -> Result<(), Failed>
-    requires few { length signals.now ≤ 65536 }
+    requires few { length signals.now ≤ ALL_ELEMENTS }
     requires one_each { length values.now ≡ length signals.now }
     ensures { Writes (S.state out.old) (S.state out.new) (joined (value_lines signals.now 1 values.now)) result }
 {
@@ -60,7 +61,7 @@ fn put_values<S: Sink>(signals: &[Signal], values: &[i64], out: &mut S) -> Resul
 
 /// All that stands before the changes: the signals, and their first values.
 pub fn put_head<S: Sink>(signals: &[Signal], values: &[i64], out: &mut S) -> Result<(), Failed>
-    requires few { length signals.now ≤ 65536 }
+    requires few { length signals.now ≤ ALL_ELEMENTS }
     requires one_each { length values.now ≡ length signals.now }
     ensures { Writes (S.state out.old) (S.state out.new) (joined (head_part signals.now values.now)) result }
 {
@@ -91,7 +92,7 @@ pub fn put_change<S: Sink>(
     tick: u64,
     out: &mut S,
 ) -> Result<u64, Failed>
-    requires few { length signals.now ≤ 65536 }
+    requires few { length signals.now ≤ ALL_ELEMENTS }
     requires within { at < length signals.now }
     ensures written { Writes (S.state out.old) (S.state out.new) (joined (change_lines signals.now told (change_here tick (at + 1) old new))) result }
     ensures told { IfOk result (λ t. t ≡ told_behind told (change_here tick (at + 1) old new)) }

@@ -14,7 +14,7 @@ use sci_text::{Stop, split_line};
 use std::alloc::Global;
 
 /// Why bytes are no dump.
-#[derive(Debug, PartialEq, Eq, Drop)]
+#[derive(Drop)]
 pub enum VcdStop {
     /// This line, counted from 1, is the first wrong one: the lines before it begin some dump's text, and with it they don't, or it has no LF
     /// or is missing.

@@ -3,10 +3,10 @@
 ghost use Rattle.std.specs.Prelude.{◌≡◌};
 ghost use Rattle.sci_vcd.specs.Waveforms.{counts, is_within, precedes, is_later};
 
-use sci_base::Ty;
+use sci_base::{Ty, limits};
 
 /// A signal of a dump: an element of a regular output, each counted from 1, and its type.
-#[derive(Clone, Copy, Debug, Drop, PartialEq, Eq)]
+#[derive(Clone, Copy, Drop)]
 pub struct Signal {
     pub block: u32,
     pub port: u32,
@@ -15,7 +15,7 @@ pub struct Signal {
 }
 
 /// From this tick on the signal of this number, counted from 1, has this value.
-#[derive(Clone, Copy, Debug, Drop, PartialEq, Eq)]
+#[derive(Clone, Copy, Drop)]
 pub struct Change {
     pub tick: u64,
     pub signal: u32,
@@ -34,7 +34,9 @@ impl Signal {
     pub fn is_within(&self) -> bool
         ensures { result ≡ is_within self.now }
     {
-        counts(2048, self.block) && counts(64, self.port) && counts(256, self.element)
+        counts(limits::BLOCKS, self.block)
+            && counts(limits::PORTS, self.port)
+            && counts(limits::PORT_ELEMENTS, self.element)
     }
 
     /// Whether it stands before the other, by block, port and element.

@@ -1,6 +1,7 @@
 // Writing a dump as a net runs.
 
-ghost use Rattle.std.specs.Prelude.{◌≡◌, ◌≤◌, ◌+◌, ◌-◌, ◌^◌, true, length, slice_index_or, IfOk, OnOk, OnErr};
+ghost use Rattle.std.specs.Prelude.{◌≡◌, ◌≤◌, ◌+◌, ◌-◌, true, length, slice_index_or, IfOk, OnOk, OnErr};
+ghost use Rattle.sci_base.specs.declared.limits.TheConstants.{TICKS};
 ghost use Rattle.sci_base.specs.Fit.{in_range};
 ghost use Rattle.sci_io.specs.Taken.{Writes};
 ghost use Rattle.sci_vcd.specs.Waveforms.{type_of};
@@ -35,7 +36,13 @@ impl Model for VcdOut {
 
     ghost view = { λ o. record { signals = o.signals.items; starts = o.starts.items; written = o.written.items; noted = o.noted.items; closed = o.closed } };
 
-    ghost invariant = { λ o. IsKept (record { signals = o.signals.items; starts = o.starts.items; written = o.written.items; noted = o.noted.items; closed = o.closed }) o.marked.items };
+    ghost invariant = { λ o. IsKept (record {
+      signals = o.signals.items;
+      starts = o.starts.items;
+      written = o.written.items;
+      noted = o.noted.items;
+      closed = o.closed;
+    }) o.marked.items };
 }
 
 impl VcdOut {
@@ -115,7 +122,7 @@ impl VcdOut {
     /// closed: what was noted and written stays, so that the same tick is due still.
     pub fn close_tick<S: Sink>(&mut self, date: u64, out: &mut S) -> Result<(), Failed>
         requires rises { MayClose self.old.closed date }
-        requires early { date ≤ 2 ^ 62 }
+        requires early { date ≤ TICKS }
         ensures written { Writes (S.state out.old) (S.state out.new) (tick_text self.old date) result }
         ensures closed { OnOk result (self.new ≡ closed_at self.old date) }
         ensures kept { OnErr result (self.new ≡ self.old) }

@@ -1,5 +1,6 @@
 // The verdict on a diagram and on its file, phase by phase.
 ghost use Rattle.std.specs.Prelude.{◌≤◌, length};
+ghost use Rattle.sci_base.specs.declared.limits.TheConstants.{DIAGRAM_BYTES};
 ghost use Rattle.sci_diagram.specs.Objects.{diagram_view};
 ghost use Rattle.sci_flat.specs.Ready.{IsReady};
 ghost use Rattle.sci_verdict.specs.Verdict.{IsTyped, IsChecked, IsMeasured, IsTreeTyped, IsTreeChecked};
@@ -40,7 +41,7 @@ pub fn check_diagram(alloc: Global, diagram: &Diagram) -> Result<Checked, Stop>
 /// The typed net of a diagram's file, or the first rule that it breaks: of the file's form (1 to 6), of tags (34, 31, 32,
 /// 33), of blocks and links (14, 7, 9, 10, 11, 8; 12, 13), of what feeds each input (15, 16), of types and sizes (17 to 23).
 pub fn typed_net(alloc: Global, bytes: &[u8]) -> Result<Net, Stop>
-    requires { length bytes.now ≤ 16777216 }
+    requires { length bytes.now ≤ DIAGRAM_BYTES }
     ensures { IsTyped bytes.now result }
 {
     let diagram = read(alloc, bytes)?;
@@ -50,7 +51,7 @@ pub fn typed_net(alloc: Global, bytes: &[u8]) -> Result<Net, Stop>
 /// The typed net of a diagram's file with its static schedules, or the first rule that it breaks: one of those of `typed_net`, or
 /// else a loop at the least source that has one (24), or schedules that are too long (25).
 pub fn check(alloc: Global, bytes: &[u8]) -> Result<Checked, Stop>
-    requires { length bytes.now ≤ 16777216 }
+    requires { length bytes.now ≤ DIAGRAM_BYTES }
     ensures { IsChecked bytes.now result }
 {
     let net = typed_net(alloc, bytes)?;
@@ -61,7 +62,7 @@ pub fn check(alloc: Global, bytes: &[u8]) -> Result<Checked, Stop>
 /// The typed net of a diagram's file with the size of its static schedules, which are not built; or the first rule that it breaks, one of
 /// those of `check`.
 pub fn measure(alloc: Global, bytes: &[u8]) -> Result<Measured, Stop>
-    requires { length bytes.now ≤ 16777216 }
+    requires { length bytes.now ≤ DIAGRAM_BYTES }
     ensures { IsMeasured bytes.now result }
 {
     let net = typed_net(alloc, bytes)?;

@@ -1,5 +1,5 @@
 -- The loop that drives a run and its dump.
-use Rattle.std.proofs.Common.{◌≡◌, ℕ, ◌+◌, ◌-◌, ◌^◌, ◌≤◌, List, [], ◌∷◌, ◌++◌, Bool, true, refl, sym, ap, ◌∙◌, subst, arith, append-nil, append_assoc, Result, Ok, Err}
+use Rattle.std.proofs.Common.{◌≡◌, ℕ, ◌+◌, ◌-◌, ◌^◌, ◌≤◌, List, [], ◌∷◌, ◌++◌, Bool, true, false, refl, sym, ap, ◌∙◌, subst, arith, append-nil, append_assoc, Result, Ok, Err}
 use Rattle.std.specs.Prelude.{Option, None, min, if◌then◌else◌}
 use Rattle.sci_base.specs.declared.observation.Obs.{Obs}
 use Rattle.sci_base.specs.declared.observation.EndWord.{EndWord}
@@ -36,9 +36,9 @@ use Rattle.sci_wave.proofs.Completed.{reached_early, rises, completed_behind}
 
 -- ---- a sink that never fails
 
-pub never_fails : {T : Type 0} (r : Result T Failed) (e : Failed) (b c : Bool) (text : List ℕ) → r ≡ Err e → Writes (direct None 0 b) (direct None 0 c) text r → ⊥
-never_fails (Ok x) e b c text is h = absurd (cc is)
-never_fails (Err f) e b c text is h = let rose : min (0 + 1) (2 ^ 64 - 1) ≤ 0 = h.cause in omega (arith, rose)
+pub never_fails : {T : Type 0} (r : Result T Failed) (e : Failed) (text : List ℕ) → r ≡ Err e → Writes (direct None 0 false) (direct None 0 false) text r → ⊥
+never_fails (Ok x) e text is h = absurd (cc is)
+never_fails (Err f) e text is h = let one_more : 0 ≡ min (0 + 1) (2 ^ 64 - 1) = h.cause in omega (arith, one_more)
 
 -- ---- a text more
 

@@ -1,5 +1,6 @@
 -- The laws of the dump of a run.
-use Rattle.std.specs.Prelude.{◌≡◌, ◌≤◌, ◌^◌, ℕ}
+use Rattle.std.specs.Prelude.{◌≡◌, ◌≤◌, ℕ}
+use Rattle.sci_base.specs.declared.limits.TheConstants.{TICKS}
 use Rattle.sci_net.specs.Parts.{Parts}
 use Rattle.sci_net.specs.Net.{IsNet}
 use Rattle.sci_reaction.specs.Memory.{Columns, AreColumns}
@@ -9,7 +10,9 @@ use Rattle.sci_wave.specs.RunDump.{IsRunDump}
 
 -- a run has a dump, where the input file is in range and the bound on time is that of words
 abbrev pub SomeRunDump : Type 0
-SomeRunDump = (n : Parts) (i : Columns) (until limit : ℕ) → IsNet n → AreLoopFree n → AreColumns n i → until ≤ 2 ^ 62 → (w : Waveforms) × IsRunDump n i until limit w
+SomeRunDump =
+    (n : Parts) (i : Columns) (until limit : ℕ) → IsNet n → AreLoopFree n → AreColumns n i → until ≤ TICKS
+    → (w : Waveforms) × IsRunDump n i until limit w
 
 -- and no other
 abbrev pub OneRunDump : Type 0

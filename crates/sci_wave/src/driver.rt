@@ -1,22 +1,20 @@
 // A run that is written as a dump.
-ghost use Rattle.std.specs.Prelude.{◌≡◌, ℕ, ◌≤◌, ◌^◌, List, IfOk, IfSome, IfNone, if◌then◌else◌};
-ghost use Rattle.sci_base.specs.declared.observation.Obs.{Obs};
+ghost use Rattle.std.specs.Prelude.{◌≡◌, ◌≤◌, List, IfOk, IfSome, IfNone};
+ghost use Rattle.sci_base.specs.declared.limits.TheConstants.{TICKS, EVENTS};
 ghost use Rattle.sci_base.specs.declared.observation.StopWord.{StopWord as Word};
 ghost use Rattle.sci_io.specs.Taken.{Writes};
-ghost use Rattle.sci_net.specs.Parts.{IsBlock};
 ghost use Rattle.sci_net.specs.Net.{IsNet};
-ghost use Rattle.sci_places.specs.Flat.{values_at};
 ghost use Rattle.sci_reaction.specs.Memory.{AreColumns};
 ghost use Rattle.sci_run.specs.Laws.{AreLoopFree};
-ghost use Rattle.sci_run.specs.Run.{State, IsRun};
+ghost use Rattle.sci_run.specs.Run.{State};
 ghost use Rattle.sci_bank.specs.Bank.{Meaning};
 ghost use Rattle.sci_bank.specs.Library.{IsFull};
 ghost use Rattle.sci_sim.specs.At.{IsAt, IsAtStart};
-ghost use Rattle.sci_sim.specs.Steps.{IsFinished};
+ghost use Rattle.sci_sim.specs.Steps.{HasRun};
 ghost use Rattle.sci_vcd.specs.Waveforms.{Waveforms};
 ghost use Rattle.sci_vcd.specs.Spelling.{spelling};
 ghost use Rattle.sci_vcd.specs.Writing.{IsWriting, IsOutset, MayClose};
-ghost use Rattle.sci_wave.specs.Noted.{IsOf};
+ghost use Rattle.sci_wave.specs.Noted.{IsOf, NotesActive};
 ghost use Rattle.sci_wave.specs.Following.{due_text, moved_to};
 ghost use Rattle.sci_wave.specs.RunDump.{IsRunDump};
 
@@ -46,7 +44,7 @@ fn stop_of(step: Step) -> Option<StopWord>
 /// Closes the tick of this date where the last reaction has a later one, and writes what is due for it.
 fn close_past<S: Sink>(dump: &mut VcdOut, date: u64, now: u64, out: &mut S) -> Result<(), Failed>
     requires may { MayClose dump.old.closed date }
-    requires early { date ≤ 2 ^ 62 }
+    requires early { date ≤ TICKS }
     ensures written { Writes (S.state out.old) (S.state out.new) (due_text dump.old date now) result }
     ensures moved { IfOk result (λ u. dump.new ≡ moved_to dump.old date now) }
 {
@@ -59,13 +57,13 @@ fn close_past<S: Sink>(dump: &mut VcdOut, date: u64, now: u64, out: &mut S) -> R
 /// Follows a reaction with values: closes the tick of this date where the reaction has a later one, and notes what the active blocks hold.
 fn follow<S: Sink>(ready: &Ready, dump: &mut VcdOut, date: u64, out: &mut S) -> Result<(), Failed>
     requires may { MayClose dump.old.closed date }
-    requires early { date ≤ 2 ^ 62 }
+    requires early { date ≤ TICKS }
     requires net { IsNet ready.now.fixed.net }
     requires of { IsOf ready.now.fixed.net dump.old }
     requires stands { (banks : List Meaning) × (st : State) × IsAt ready.now banks st }
     ensures written { Writes (S.state out.old) (S.state out.new) (due_text dump.old date ready.entry.now.now) result }
     ensures moved { IfOk result (λ u. dump.new ≡ record (moved_to dump.old date ready.entry.now.now) { noted = dump.new.noted }) }
-    ensures noted { IfOk result (λ u. (banks : List Meaning) (st : State) → IsAt ready.entry.now banks st → (b : ℕ) → IsBlock ready.entry.now.fixed.net b → values_at ready.entry.now.fixed.net dump.new.noted b ≡ (if st.active b then st.memory.held b else values_at ready.entry.now.fixed.net dump.old.noted b)) }
+    ensures noted { IfOk result (λ u. NotesActive ready.entry.now dump.old dump.new) }
     ensures writing { IfOk result (λ u. IsWriting dump.new) }
 {
     close_past(dump, date, ready.now(), out)?;
@@ -88,19 +86,19 @@ pub fn dump_run<S: Sink, B: Bank>(
 ) -> Result<RunEnd, Failed>
     requires net { IsNet ready.old.fixed.net }
     requires free { AreLoopFree ready.old.fixed.net }
-    requires until { until ≤ 2 ^ 62 }
-    requires limit { limit ≤ 1000000 }
+    requires until { until ≤ TICKS }
+    requires limit { limit ≤ EVENTS }
     requires columns { AreColumns ready.old.fixed.net ins.now }
     requires start { IsAtStart ready.old.fixed.net ready.old lib.old }
     requires outset { IsOutset ready.old.fixed.net dump.old }
     ensures written { (w : Waveforms) × IsRunDump ready.old.fixed.net ins.now until limit w × Writes (S.state out.old) (S.state out.new) (spelling w) result }
-    ensures finished { IfOk result (λ e. (os : List Obs) × IsRun ready.old.fixed.net ins.now until limit os × IsFinished ins.now until limit ready.new lib.new os e) }
+    ensures finished { IfOk result (HasRun ready.old.fixed.net ins.now until limit ready.new lib.new) }
     ensures net { ready.new.fixed ≡ ready.old.fixed }
     ensures full { IsFull lib.new }
 {
     note_all(ready, dump);
     dump.well_formed();
-    let mut trace = SureSink::new();
+    let mut trace = SureSink;
     let mut date = 0;
     for _reaction in 0..limit + 1 {
         let step = ready.step(lib, ins, until, limit, &mut trace)?;

@@ -1,13 +1,12 @@
 // Noting what the outputs of blocks hold.
-ghost use Rattle.std.specs.Prelude.{◌≡◌, ℕ, if◌then◌else◌, List};
+ghost use Rattle.std.specs.Prelude.{◌≡◌, ℕ, List};
 ghost use Rattle.sci_net.specs.Parts.{IsBlock};
 ghost use Rattle.sci_net.specs.Net.{IsNet};
 ghost use Rattle.sci_places.specs.Flat.{values_at};
 ghost use Rattle.sci_run.specs.Run.{State};
 ghost use Rattle.sci_bank.specs.Bank.{Meaning};
-ghost use Rattle.sci_store.specs.Marks.{mark_at};
 ghost use Rattle.sci_sim.specs.At.{IsAt};
-ghost use Rattle.sci_wave.specs.Noted.{IsOf, IsMemoryThere, with_block, holds_there};
+ghost use Rattle.sci_wave.specs.Noted.{IsOf, IsMemoryThere, NotesActive, with_block, with_active, holds_there};
 
 use sci_sim::Ready;
 use sci_vcd::VcdOut;
@@ -34,7 +33,7 @@ fn note_if_active(ready: &Ready, dump: &mut VcdOut, block: u32)
     requires net { IsNet ready.now.fixed.net }
     requires of { IsOf ready.now.fixed.net dump.old }
     requires fits { IsMemoryThere ready.now }
-    ensures { dump.new ≡ (if (mark_at ready.entry.now.store.marks block).active then with_block ready.entry.now.fixed.net dump.old block (holds_there ready.entry.now block) else dump.old) }
+    ensures { dump.new ≡ with_active ready.entry.now dump.old block }
 {
     if ready.is_active(block) {
         note_block(ready, dump, block);
@@ -61,7 +60,7 @@ pub fn note_active(ready: &Ready, dump: &mut VcdOut)
     requires of { IsOf ready.now.fixed.net dump.old }
     requires stands { (banks : List Meaning) × (st : State) × IsAt ready.now banks st }
     ensures rest { dump.new ≡ record dump.old { noted = dump.new.noted } }
-    ensures noted { (banks : List Meaning) (st : State) → IsAt ready.entry.now banks st → (b : ℕ) → IsBlock ready.entry.now.fixed.net b → values_at ready.entry.now.fixed.net dump.new.noted b ≡ (if st.active b then st.memory.held b else values_at ready.entry.now.fixed.net dump.old.noted b) }
+    ensures noted { NotesActive ready.entry.now dump.old dump.new }
 {
     dump.well_formed();
     for block in ready.possible() {

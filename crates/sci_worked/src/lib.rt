@@ -1,12 +1,10 @@
-//! Calls between the layers, tried on values that were worked out by hand: a run that is walked step by step, what a net needs of its input
-//! file, the C of a net and of a delay, the bulk diagram. There is nothing here but tests.
+//! Numbers that are fitted, events that are pending, and readers and writers that are interrupted or fail, tried on values that were worked out by hand.
+//! There is nothing here but tests.
 #![tactic(auto)]
 
 #[cfg(test)]
-mod bulk;
+mod fitting;
 #[cfg(test)]
-mod code;
+mod pending;
 #[cfg(test)]
-mod judged;
-#[cfg(test)]
-mod walk;
+mod streams;

@@ -83,7 +83,8 @@ fn put_end<S: Sink>(refusal: &Refusal, err: &mut S) -> Result<(), Failed>
 }
 
 fn put_where<S: Sink>(refusal: &Refusal, err: &mut S) -> Result<(), Failed>
-    ensures { Writes (S.state err.old) (S.state err.new) (place_text refusal.now.place.path.items ++ (details_text refusal.now.detail.items ++ codes "\n")) result }
+    ensures { Writes (S.state err.old) (S.state err.new) (place_text refusal.now.place.path.items
+        ++ (details_text refusal.now.detail.items ++ codes "\n")) result }
 {
     put_place(refusal.place.path.as_slice(), err)?;
     put_end(refusal, err)

@@ -7,7 +7,7 @@ use sci_base::NoMemory;
 use std::alloc::Global;
 
 /// From where steps lead to a port.
-#[derive(Clone, Copy, Debug, Drop, PartialEq, Eq)]
+#[derive(Clone, Copy, Drop)]
 pub enum Before {
     /// No step leads to it.
     Nothing,

@@ -9,7 +9,7 @@ use sci_blocks::PortClass;
 
 /// The numbers of an object's ports, one after another: its regular inputs, its regular outputs, its activation inputs and its activation
 /// outputs.
-#[derive(Clone, Copy, Debug, Drop, PartialEq, Eq)]
+#[derive(Clone, Copy, Drop)]
 pub struct Seat {
     /// The number of the first port.
     pub first: u32,

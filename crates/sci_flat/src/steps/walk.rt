@@ -2,7 +2,8 @@
 ghost use Rattle.std.specs.Prelude.{◌≡◌, ◌<◌, ◌^◌, ◌++◌, All, Some, OnOk, IfOk, length};
 ghost use Rattle.sci_diagram.specs.Objects.{diagram_view, object_view, listed};
 ghost use Rattle.sci_flat.specs.Seat.{past};
-ghost use Rattle.sci_flat.specs.Numbers.{object_seat, seats, own_past, insides_past, inside_past, steps_by, object_steps_by, blocks_by, object_blocks_by, tags_by, object_tags_by, through_numbers, unless_passed, tag_numbers};
+ghost use Rattle.sci_flat.specs.Numbers.{object_seat, seats, own_past, insides_past, inside_past, steps_by, object_steps_by, blocks_by, object_blocks_by};
+ghost use Rattle.sci_flat.specs.Numbers.{tags_by, object_tags_by, through_numbers, unless_passed, tag_numbers};
 ghost use Rattle.sci_blocks.specs.Rows.{pass_through};
 
 use crate::steps::link::add_link;

@@ -2,7 +2,7 @@ use Rattle.std.proofs.Common.{arith, ◌≡◌, ◌<◌, length, sym, subst, IfO
 use Rattle.sci_forms.specs.declared.Kind.TheVariants.{Extractor}
 use Rattle.sci_cgen_blocks.specs.Recipes.{recipe_of}
 use Rattle.sci_cgen_blocks.specs.Plain.{plain_recipe}
-use Rattle.sci_cgen_blocks.proofs.KindBounds.{asks_as, few_ins, shift_places, bit_to_set, bit_to_clear, bits_in_order, bits_within, few_selected, names_element}
+use Rattle.sci_cgen_blocks.proofs.KindBounds.{asks_as, few_ins, shift_places, bit_to_set, bit_to_clear, bits_in_order, bits_within, names_element}
 use Rattle.sci_cgen_blocks.proofs.kind_recipes.recipe.Goals as goal
 
 pub summation-requires : goal.summation-requires
@@ -40,9 +40,6 @@ extract_bits-requires-clause-order c = bits_in_order c.args.s.now c.requires.is_
 
 pub extract_bits-requires-clause-few : goal.extract_bits-requires-clause-few
 extract_bits-requires-clause-few c = bits_within c.args.s.now c.requires.is_typed c.in-ExtractBits.is
-
-pub select-requires : goal.select-requires
-select-requires c = few_selected c.args.s.now c.requires.is_typed c.in-Select.is
 
 pub returns-in-Summation : goal.returns-in-Summation
 returns-in-Summation c = subst (λ k. IfOk c.summation.result (λ r. plain_recipe r ≡ recipe_of k c.args.s.now c.args.e)) (sym c.in-Summation.is) c.summation.ensures
@@ -85,12 +82,6 @@ returns-in-BitClear c = subst (λ k. IfOk c.bit_clear.result (λ r. plain_recipe
 
 pub returns-in-ExtractBits : goal.returns-in-ExtractBits
 returns-in-ExtractBits c = subst (λ k. IfOk c.extract_bits.result (λ r. plain_recipe r ≡ recipe_of k c.args.s.now c.args.e)) (sym c.in-ExtractBits.is) c.extract_bits.ensures
-
-pub returns-in-Switch2 : goal.returns-in-Switch2
-returns-in-Switch2 c = subst (λ k. IfOk c.switched.result (λ r. plain_recipe r ≡ recipe_of k c.args.s.now c.args.e)) (sym c.in-Switch2.is) c.switched.ensures
-
-pub returns-in-Select : goal.returns-in-Select
-returns-in-Select c = subst (λ k. IfOk c.select.result (λ r. plain_recipe r ≡ recipe_of k c.args.s.now c.args.e)) (sym c.in-Select.is) c.select.ensures
 
 pub returns-in-Signum : goal.returns-in-Signum
 returns-in-Signum c = subst (λ k. IfOk c.signum.result (λ r. plain_recipe r ≡ recipe_of k c.args.s.now c.args.e)) (sym c.in-Signum.is) c.signum.ensures

@@ -3,4 +3,4 @@ use Rattle.sci_cgen_blocks.proofs.NextTexts.{next_is}
 use Rattle.sci_cgen_blocks.proofs.laws.next_state_law.Goals as goal
 
 pub returns : goal.returns
-returns c env s p x m u n w is_typed st fills holds = next_is env s p x m u w holds next_law next_reads_law is_typed st fills n
+returns c env s p x m u n w is_typed st count fills holds = next_is env s p x m u w holds next_law next_reads_law is_typed st count fills n

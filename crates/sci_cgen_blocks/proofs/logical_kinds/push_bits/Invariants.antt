@@ -1,14 +1,14 @@
 -- The changes so far, and those of the inputs to come.
 use Rattle.std.proofs.Common.{◌≡◌, ◌++◌, ◌-◌, ℕ}
 use Rattle.sci_base.specs.declared.Ty.{Ty}
-use Rattle.c_ast.specs.declared.Op.TheVariants.{Div, Rem}
+use Rattle.c_ast.specs.declared.Op.TheVariants.{Mul}
 use Rattle.sci_cgen_blocks.specs.Terms.{Term, input, scratch, both}
-use Rattle.sci_cgen_blocks.specs.Recipes.{natural, pattern, counted}
+use Rattle.sci_cgen_blocks.specs.Recipes.{highest_bit, counted}
 use Rattle.sci_cgen_blocks.specs.Plain.{works_of}
 use Rattle.sci_cgen_blocks.proofs.logical_kinds.push_bits.Given as goal
 
 abbrev pub bit_term : Ty → ℕ → ℕ → Term
-bit_term ty e k = both Rem (both Div (pattern ty (input k e)) (scratch 3)) (natural 2)
+bit_term ty e k = highest_bit ty (both Mul (input k e) (scratch 3))
 
 abbrev pub invariant-loop-port : goal.invariant-loop-port
 invariant-loop-port l =

@@ -11,9 +11,9 @@ run-requires-clause-start g c = stands_there _ _ _ c.in_ok-ready.ensures.start
 
 pub returns-clause-ran : goal.returns-clause-ran
 returns-clause-ran g c =
-    has_run _ _ c.of-inputs.result _ _ _ _ _ c.run.result (search rules) c.in_ok-ready.ensures.start.net (search rules) c.requires.plan c.run.ensures.written c.run.ensures.finished
+    has_run _ _ c.of-inputs.result _ _ _ c.run.result (search rules) c.in_ok-ready.ensures.start.net (search rules) c.requires.plan c.run.ensures.written c.run.ensures.finished
 
 pub returns-clause-counts_run : goal.returns-clause-counts_run
 returns-clause-counts_run g c =
-    has_counts _ _ c.of-inputs.result _ _ _ _ _ c.run.result (search rules) c.in_ok-ready.ensures.start.net (search rules) c.requires.plan c.run.ensures.written c.run.ensures.finished
+    has_counts _ _ c.of-inputs.result _ _ _ c.run.result (search rules) c.in_ok-ready.ensures.start.net (search rules) c.requires.plan c.run.ensures.written c.run.ensures.finished
     (ap (λ (f : Fixed). f.net) c.run.ensures.net)

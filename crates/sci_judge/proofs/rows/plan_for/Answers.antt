@@ -4,7 +4,6 @@ use Rattle.std.specs.Prelude.{nat_eq}
 use Rattle.sci_net.specs.Parts.{Parts, IsBlock}
 use Rattle.sci_reaction.specs.Active.{IsAlways}
 use Rattle.sci_reaction.specs.declared.entry.Entry.{Entry as Kept}
-use Rattle.sci_store.specs.Frame.{Fixed}
 use Rattle.sci_store.specs.Rows.{AreEntriesOf}
 use Rattle.sci_judge.specs.Programming.{AreSourcesOf}
 use Rattle.sci_net.specs.Sources.{source_of}
@@ -21,7 +20,7 @@ use Rattle.sci_judge.proofs.rows.plan_for.Goals as goal
 
 pub take-requires : goal.take-requires
 take-requires c =
-    let n = c.args.frame.now.net in
+    let n = c.args.kept.now.fixed.net in
     let k = c.args.source in
     let bs = list_at c.args.reach.now.always k in
     subst (All (λ q. q < c.args.always.now.count)) (sym c.always.ensures)
@@ -30,7 +29,7 @@ take-requires c =
 pub entries-requires-clause-always : goal.entries-requires-clause-always
 entries-requires-clause-always c b =
     let always = c.requires.reach.always_are in
-    let same : c.frame.inside.net ≡ c.args.frame.now.net = ap (λ (f : Fixed). f.net) c.frame.view_is in
+    let same : c.net-net.result.now ≡ c.args.kept.now.fixed.net = c.net-net.ensures in
     subst (λ (n : Parts). Contains c.take.new.self.found b ↔ IsAlways n (source_of n c.args.source) b) (sym same) (
       (λ h. (always c.args.source b c.requires.source).0 (subst (λ xs. Contains xs b) c.always.ensures ((c.in_ok-take.ensures.found b).0 h))),
       λ a. (c.in_ok-take.ensures.found b).1 (subst (λ xs. Contains xs b) (sym c.always.ensures) ((always c.args.source b c.requires.source).1 a)),
@@ -38,23 +37,23 @@ entries-requires-clause-always c b =
 
 pub entries-requires-clause-blocks : goal.entries-requires-clause-blocks
 entries-requires-clause-blocks c =
-    let n = c.frame.inside.net in
+    let n = c.net-net.result.now in
     subst (λ (rs : List Rank). All (λ (r : Rank). IsBlock n r.block) rs) (sym c.deref.ensures.value)
     (ranks_in n c.in_ok-order.order.items (λ b h. Spread-block n (source_of n c.args.source) _ ((c.in_ok-order.ensures.rounds.exactly b).0 h)))
 
-pub of-requires-clause-blocks : goal.of-requires-clause-blocks
-of-requires-clause-blocks c =
-    let n = c.frame.inside.net in
+pub row_of-requires-clause-blocks : goal.row_of-requires-clause-blocks
+row_of-requires-clause-blocks c =
+    let n = c.net-net.result.now in
     let s = source_of n c.args.source in
     let es = c.in_ok-entries.entries.items in
     let blocks : blocks_of (entries_of es) ≡ ranked c.in_ok-order.order.items = c.in_ok-entries.ensures.blocks ∙ ap (λ (rs : List Rank). ranked rs) c.deref.ensures.value in
-    let same : n ≡ c.args.frame.now.net = ap (λ (f : Fixed). f.net) c.frame.view_is in
+    let same : n ≡ c.args.kept.now.fixed.net = c.net-net.ensures in
     subst (λ (m : Parts). All (λ (e : Kept). IsBlock m e.block) es) same
     (blocks_in n s c.in_ok-order.order.items es blocks (λ b h. Spread-block n s _ ((c.in_ok-order.ensures.rounds.exactly b).0 h)))
 
-pub of-requires-clause-once : goal.of-requires-clause-once
-of-requires-clause-once c =
-    let n = c.frame.inside.net in
+pub row_of-requires-clause-once : goal.row_of-requires-clause-once
+row_of-requires-clause-once c =
+    let n = c.net-net.result.now in
     let s = source_of n c.args.source in
     let blocks : blocks_of (entries_of c.in_ok-entries.entries.items) ≡ ranked c.in_ok-order.order.items =
     c.in_ok-entries.ensures.blocks ∙ ap (λ (rs : List Rank). ranked rs) c.deref.ensures.value in
@@ -62,19 +61,19 @@ of-requires-clause-once c =
 
 pub returns-clause-plan : goal.returns-clause-plan
 returns-clause-plan c =
-    let n = c.frame.inside.net in
+    let n = c.net-net.result.now in
     let s = source_of n c.args.source in
     let ranks = c.in_ok-order.order.items in
     let es = c.in_ok-entries.entries.items in
-    let same : n ≡ c.args.frame.now.net = ap (λ (f : Fixed). f.net) c.frame.view_is in
+    let same : n ≡ c.args.kept.now.fixed.net = c.net-net.ensures in
     let blocks : blocks_of (entries_of es) ≡ ranked ranks = c.in_ok-entries.ensures.blocks ∙ ap (λ (rs : List Rank). ranked rs) c.deref.ensures.value in
     let depths : map (λ (e : Kept). e.depth) es ≡ map (λ (r : Rank). r.depth) ranks =
     c.in_ok-entries.ensures.depths ∙ ap (λ (rs : List Rank). map (λ (r : Rank). r.depth) rs) c.deref.ensures.value in
     let are = entries_are n s ranks es blocks depths c.in_ok-order.ensures.rounds c.in_ok-order.ensures.depths c.in_ok-entries.ensures.tells in
-    let row = c.in_ok-of.ensures in
-    let sources = sources_same n c.in_ok-of.field-0.blocks c.possible.new.walk.found c.in_ok-sources.sources.items
+    let row = c.in_ok-row_of.ensures in
+    let sources = sources_same n c.in_ok-row_of.field-0.blocks c.possible.new.walk.found c.in_ok-sources.sources.items
     (λ b h. (c.in_ok-possible.ensures.possible b).1 ((are.exactly b).0 ((row.blocks_are.same b).0 h))) c.in_ok-sources.ensures in
     record {
       row = record { made_of = es; entries = subst (λ (m : Parts). AreEntriesOf m (source_of m c.args.source) es) same are; row = row };
-      sources = subst (λ (m : Parts). AreSourcesOf m c.in_ok-of.field-0.blocks c.in_ok-sources.sources.items) same sources;
+      sources = subst (λ (m : Parts). AreSourcesOf m c.in_ok-row_of.field-0.blocks c.in_ok-sources.sources.items) same sources;
     }

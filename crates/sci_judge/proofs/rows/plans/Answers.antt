@@ -21,7 +21,7 @@ more f plans p each is k d l =
 
 pub loop-source-preserved : goal.loop-source-preserved
 loop-source-preserved c =
-    let f = c.args.frame.now in
+    let f = c.args.kept.now.fixed in
     let plans = c.loop-source.plans.items in
     let p = c.in_ok-plan_for.field-0 in
     let long = c.loop-source.invariant.long in

@@ -6,9 +6,9 @@ use Rattle.sci_judge.proofs.rows.plans.Given as goal
 
 abbrev pub invariant-loop-source : goal.invariant-loop-source
 invariant-loop-source l = record {
-  end : l.source-end ≡ length (sources_of l.frame.net);
-  found : l.found.count ≡ length l.frame.net.specs + 1;
-  always : l.always.count ≡ length l.frame.net.specs + 1;
+  end : l.source-end ≡ length (sources_of l.kept.fixed.net);
+  found : l.found.count ≡ length l.kept.fixed.net.specs + 1;
+  always : l.always.count ≡ length l.kept.fixed.net.specs + 1;
   long : length l.plans.items ≡ l.source;
-  each : (k : ℕ) (d : SourcePlan) → k < length l.plans.items → IsPlanOf l.frame (source_of l.frame.net k) (get_or l.plans.items k d);
+  each : (k : ℕ) (d : SourcePlan) → k < length l.plans.items → IsPlanOf l.kept.fixed (source_of l.kept.fixed.net k) (get_or l.plans.items k d);
 }

@@ -34,4 +34,4 @@ returns g c =
     let i = c.loop-number.number-index in
     let zs = c.args.values.now in
     let due = subst (λ (l : List ℕ). UnderWay (g.S.Sink.state c.args.out.now) (g.S.Sink.state c.loop-number.out) (numbers zs) l) (at_drop_all numbers zs i c.loop-number-test.false) c.loop-number.invariant in
-    last_piece (codes "\n") c.put.result due (same_text c.as_bytes.ensures.value c.put.ensures)
+    last_piece (codes "\n") c.put.result due (same_text c.as_bytes.ensures.value c.put.ensures.written)

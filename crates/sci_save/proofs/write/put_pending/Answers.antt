@@ -10,4 +10,4 @@ returns-in_err-put_events g c =
 
 pub returns : goal.returns
 returns g c =
-    then_writes (events_text c.args.net.now c.args.events.now) (codes "done\n") c.put_events.result c.put.result _ c.in_ok-put_events.was c.put_events.ensures (same_text c.as_bytes.ensures.value c.put.ensures)
+    then_writes (events_text c.args.net.now c.args.events.now) (codes "done\n") c.put_events.result c.put.result _ c.in_ok-put_events.was c.put_events.ensures (same_text c.as_bytes.ensures.value c.put.ensures.written)

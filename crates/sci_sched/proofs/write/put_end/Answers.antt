@@ -10,4 +10,4 @@ returns-in_err-put_guards g c =
 
 pub returns : goal.returns
 returns g c =
-    then_writes (guards_text (guards_of c.args.guards.now)) (codes "\n") c.put_guards.result c.put.result _ c.in_ok-put_guards.was c.put_guards.ensures (same_text c.as_bytes.ensures.value c.put.ensures)
+    then_writes (guards_text (guards_of c.args.guards.now)) (codes "\n") c.put_guards.result c.put.result _ c.in_ok-put_guards.was c.put_guards.ensures (same_text c.as_bytes.ensures.value c.put.ensures.written)

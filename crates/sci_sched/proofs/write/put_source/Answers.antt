@@ -5,7 +5,7 @@ use Rattle.sci_sched.proofs.write.put_source.Goals as goal
 
 pub returns-in-Start : goal.returns-in-Start
 unfolding source_text
-returns-in-Start g c = same_text (c.as_bytes.ensures.value ∙ sym (ap source_text c.in-Start.is)) c.put.ensures
+returns-in-Start g c = same_text (c.as_bytes.ensures.value ∙ sym (ap source_text c.in-Start.is)) c.put.ensures.written
 
 pub returns-in-Port : goal.returns-in-Port
 unfolding source_text

@@ -1,11 +1,11 @@
 use Rattle.std.proofs.Common.{◌+◌, length, ap, arith}
-use Rattle.sci_store.specs.Frame.{Fixed}
+use Rattle.sci_net.specs.Parts.{Parts}
 use Rattle.sci_sim.proofs.Listed.{row_next}
 use Rattle.sci_sim.proofs.image.states.Goals as goal
 
 pub state-requires-clause-state : goal.state-requires-clause-state
 state-requires-clause-state g c =
-    let count = ap (λ (f : Fixed). length f.net.specs) c.frame.view_is in
+    let count = ap (λ (n : Parts). length n.specs) c.net-2.ensures in
     c.requires.states (c.loop-block.block + 1) (record { least = omega arith; most = omega (arith, c.loop-block-test.true, c.len-block-end.ensures, count) })
 
 pub loop-block-preserved : goal.loop-block-preserved

@@ -5,4 +5,4 @@ use Rattle.sci_sim.proofs.Listed.{IsListedTo}
 use Rattle.sci_sim.proofs.image.states.Given as goal
 
 abbrev pub invariant-loop-block : goal.invariant-loop-block
-invariant-loop-block g l = IsListedTo [] (state_of l.frame l.lib) l.block (rows_of l.states.items)
+invariant-loop-block g l = IsListedTo [] (state_of l.kept.fixed l.lib) l.block (rows_of l.states.items)

@@ -10,10 +10,11 @@ use Rattle.sci_sim.proofs.programming.program_block.Given as goal
 
 abbrev pub invariant-loop-port : goal.invariant-loop-port
 invariant-loop-port g l = record {
-  end : l.port-end ≡ (spec_of l.fn.frame.net l.fn.block).evtout;
-  kept : (offset : ℕ) (p : Pending) → Keeps l.fn.frame.net offset (l.fn.date + offset) (g.A.Agenda.meaning l.fn.agenda) (g.A.Agenda.puts l.fn.agenda) p
-      → Keeps l.fn.frame.net offset (l.fn.date + offset) (g.A.Agenda.meaning l.agenda) (g.A.Agenda.puts l.agenda)
-      (with_delays (l.fn.date + offset) (delays_in l.fn.frame l.fn.store) (seat_of l.fn.frame l.fn.block).first_source (ports_to l.fn.block l.port) p);
-  same : l.store ≡ record l.fn.store { room = l.store.room };
-  room : length l.store.room ≡ length l.fn.store.room;
+  end : l.port-end ≡ (spec_of l.fn.kept.fixed.net l.fn.block).evtout;
+  kept : (offset : ℕ) (p : Pending) → Keeps l.fn.kept.fixed.net offset (l.fn.date + offset) (g.A.Agenda.meaning l.fn.agenda) (g.A.Agenda.puts l.fn.agenda) p
+      → Keeps l.fn.kept.fixed.net offset (l.fn.date + offset) (g.A.Agenda.meaning l.agenda) (g.A.Agenda.puts l.agenda)
+      (with_delays (l.fn.date + offset) (delays_in l.fn.kept.fixed l.fn.kept.store) (seat_of l.fn.kept.fixed l.fn.block).first_source (ports_to l.fn.block l.port) p);
+  same : l.kept.store ≡ record l.fn.kept.store { room = l.kept.store.room };
+  room : length l.kept.store.room ≡ length l.fn.kept.store.room;
+  fixed : l.kept.fixed ≡ l.fn.kept.fixed;
 }

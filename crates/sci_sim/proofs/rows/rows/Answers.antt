@@ -19,27 +19,27 @@ module _ (c : In-Some) where
       YieldsList-turn (YieldsList-from_vec {s = c.into_iter-entries-iterator.result} c.args.plan.rows.items gives.0 long) c.loop-entries.yielded c.loop-entries.entries-iterator
       c.loop-entries.yielded_by c.next.result c.next.new.self c.in-Some.entries c.in-Some.is c.next.ensures.steps
 
-  is_row : IsRow c.args.frame.now.net (source_of c.args.frame.now.net (length c.loop-entries.yielded)) (entries_of c.in-Some.entries.items)
-  is_row = row_planned c.args.frame.now.net c.args.plan.rows.items c.requires (length c.loop-entries.yielded) c.in-Some.entries turn.0 turn.1
+  is_row : IsRow c.args.kept.now.fixed.net (source_of c.args.kept.now.fixed.net (length c.loop-entries.yielded)) (entries_of c.in-Some.entries.items)
+  is_row = row_planned c.args.kept.now.fixed.net c.args.plan.rows.items c.requires (length c.loop-entries.yielded) c.in-Some.entries turn.0 turn.1
 
-  free : IsLoopFree c.args.frame.now.net (source_of c.args.frame.now.net (length c.loop-entries.yielded))
-  free = source_planned c.args.frame.now.net c.args.plan.rows.items c.requires (length c.loop-entries.yielded) turn.0
+  free : IsLoopFree c.args.kept.now.fixed.net (source_of c.args.kept.now.fixed.net (length c.loop-entries.yielded))
+  free = source_planned c.args.kept.now.fixed.net c.args.plan.rows.items c.requires (length c.loop-entries.yielded) turn.0
 
-  made_of : AreEntriesOf c.args.frame.now.net (source_of c.args.frame.now.net (length c.loop-entries.yielded)) c.in-Some.entries.items
-  made_of = entries_are c.args.frame.now.net _ c.well_formed-2.ensures.net free c.in-Some.entries.items is_row
+  made_of : AreEntriesOf c.args.kept.now.fixed.net (source_of c.args.kept.now.fixed.net (length c.loop-entries.yielded)) c.in-Some.entries.items
+  made_of = entries_are c.args.kept.now.fixed.net _ c.well_formed-2.ensures.frame.net free c.in-Some.entries.items is_row
 
-pub of-requires-clause-blocks : goal.of-requires-clause-blocks
-of-requires-clause-blocks c =
-    let at = (goal.at.of-requires-clause-blocks c).In-Some in
-    blocks_in c.args.frame.now.net _ c.well_formed-2.ensures.net (free at) c.in-Some.entries.items (is_row at)
+pub row_of-requires-clause-blocks : goal.row_of-requires-clause-blocks
+row_of-requires-clause-blocks c =
+    let at = (goal.at.row_of-requires-clause-blocks c).In-Some in
+    blocks_in c.args.kept.now.fixed.net _ c.well_formed-2.ensures.frame.net (free at) c.in-Some.entries.items (is_row at)
 
-pub of-requires-clause-once : goal.of-requires-clause-once
-of-requires-clause-once c = (made_of (goal.at.of-requires-clause-once c).In-Some).once
+pub row_of-requires-clause-once : goal.row_of-requires-clause-once
+row_of-requires-clause-once c = (made_of (goal.at.row_of-requires-clause-once c).In-Some).once
 
 pub loop-entries-preserved : goal.loop-entries-preserved
 loop-entries-preserved c =
     let at = (goal.at.loop-entries-preserved c).In-Some in
-    let f = c.args.frame.now in
+    let f = c.args.kept.now.fixed in
     let k = length c.loop-entries.yielded in
-    let more = made_more f k c.loop-entries.made.items c.in_ok-of.field-0 (record { made_of = c.in-Some.entries.items; entries = made_of at; row = c.in_ok-of.ensures }) c.loop-entries.invariant in
+    let more = made_more f k c.loop-entries.made.items c.in_ok-row_of.field-0 (record { made_of = c.in-Some.entries.items; entries = made_of at; row = c.in_ok-row_of.ensures }) c.loop-entries.invariant in
     subst (λ (n : _). AreMade f n c.push.new.self.items) (sym (length_push c.loop-entries.yielded c.in-Some.entries)) (subst (AreMade f _) (sym c.in_ok-push.ensures.items) more)

@@ -3,4 +3,4 @@ use Rattle.sci_sim.proofs.Planning.{AreMade}
 use Rattle.sci_sim.proofs.rows.rows.Given as goal
 
 abbrev pub invariant-loop-entries : goal.invariant-loop-entries
-invariant-loop-entries l = AreMade l.frame (length l.yielded) l.made.items
+invariant-loop-entries l = AreMade l.kept.fixed (length l.yielded) l.made.items

@@ -8,4 +8,4 @@ unfolding line
 returns g c =
     let block : to_z w64 (of_z w64 c.args.block) ≡ c.args.block = grind (arith, to_z-of_z) in
     let port : to_z w64 (of_z w64 c.args.port) ≡ c.args.port = grind (arith, to_z-of_z) in
-    simp (c.end_line-at.ensures.text, c.line_from.ensures, c.number_before-at.ensures.text, c.number_before-at-2.ensures.text, c.word_before-at.ensures.text, block, port) at c.put.ensures
+    simp (c.end_line-at.ensures.text, c.line_from.ensures, c.number_before-at.ensures.text, c.number_before-at-2.ensures.text, c.word_before-at.ensures.text, block, port) at c.put.ensures.written

@@ -10,4 +10,4 @@ returns g c =
     let port : to_z w64 (of_z w64 c.args.port) ≡ c.args.port = grind (arith, to_z-of_z) in
     let element : to_z w64 (of_z w64 c.args.element) ≡ c.args.element = grind (arith, to_z-of_z) in
     let value : to_z w64 (of_z w64 c.args.value) ≡ c.args.value = grind (arith, to_z-of_z) in
-    simp (c.end_line-at.ensures.text, c.line_from.ensures, c.number_before-at.ensures.text, c.number_before-at-2.ensures.text, c.number_before-at-3.ensures.text, c.number_before-at-4.ensures.text, c.word_before-at.ensures.text, block, port, element, value) at c.put.ensures
+    simp (c.end_line-at.ensures.text, c.line_from.ensures, c.number_before-at.ensures.text, c.number_before-at-2.ensures.text, c.number_before-at-3.ensures.text, c.number_before-at-4.ensures.text, c.word_before-at.ensures.text, block, port, element, value) at c.put.ensures.written

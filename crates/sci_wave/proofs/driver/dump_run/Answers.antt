@@ -46,7 +46,7 @@ returns-in_err-step-clause-written g c =
     let d = c.loop-reaction.invariant in
     let n = next c.args.ready.now.fixed.net c.args.ins.now c.args.until c.args.limit c.requires.net c.requires.free c.requires.columns c.requires.until c.args.ready.now c.loop-reaction.ready _ _ _ c.loop-reaction.dump c.loop-reaction.date _ _ c.loop-reaction._reaction refl c.loop-reaction.invariant in
     let s = c.step.ensures.reacted d.st n.from n.date n.source n.at n.fires in
-    absurd (never_fails c.step.result _ _ _ _ c.in_err-step.was s.2)
+    absurd (never_fails c.step.result _ _ c.in_err-step.was s.2)
 
 pub returns-in_err-step-clause-net : goal.returns-in_err-step-clause-net
 returns-in_err-step-clause-net g c =

@@ -12,3 +12,6 @@ returns-in-End g c = rw c.in-End.is (goes_then c.text-in-End.ensures (goes_then 
 
 pub returns-in-Stop : goal.returns-in-Stop
 returns-in-Stop g c = rw c.in-Stop.is (goes_then c.text-in-Stop.ensures (goes_then c.expr-in-Stop.ensures (goes_then c.text-in-Stop-2.ensures (goes_then c.expr-in-Stop-2.ensures (goes_then c.text-in-Stop-3.ensures (goes_then c.expr-in-Stop-3.ensures c.text-in-Stop-4.ensures))))))
+
+pub returns-in-Start : goal.returns-in-Start
+returns-in-Start g c = rw c.in-Start.is c.text.ensures

@@ -9,5 +9,4 @@ invariant-loop-byte l = record {
   right : l.self.wrong ≡ None;
   faults : l.self.faults ≡ l.fn.self.faults;
   text : l.self.text ≡ l.fn.self.text;
-  begun : l.self.begun ≡ l.fn.self.begun;
 }

@@ -9,4 +9,4 @@ returns-in_err-put_outputs g c =
 
 pub returns : goal.returns
 returns g c =
-    then_writes (outputs_text c.args.spec.now.outs) (codes "\n") c.put_outputs.result c.put.result _ c.in_ok-put_outputs.was c.put_outputs.ensures (same_text c.as_bytes.ensures.value c.put.ensures)
+    then_writes (outputs_text c.args.spec.now.outs) (codes "\n") c.put_outputs.result c.put.result _ c.in_ok-put_outputs.was c.put_outputs.ensures (same_text c.as_bytes.ensures.value c.put.ensures.written)

@@ -9,4 +9,4 @@ returns-in_err-put_details g c =
 
 pub returns : goal.returns
 returns g c =
-    then_writes (details_text c.args.refusal.now.detail.items) (codes "\n") c.put_details.result c.put.result _ c.in_ok-put_details.was (same_text (ap details_text c.as_slice.ensures.value) c.put_details.ensures) (same_text c.as_bytes.ensures.value c.put.ensures)
+    then_writes (details_text c.args.refusal.now.detail.items) (codes "\n") c.put_details.result c.put.result _ c.in_ok-put_details.was (same_text (ap details_text c.as_slice.ensures.value) c.put_details.ensures) (same_text c.as_bytes.ensures.value c.put.ensures.written)

@@ -15,4 +15,4 @@ returns-in_ok-put_first-in-len1-up g c =
     same_text (place-parts path c.in-len1-up.len_at_least) (then_writes (decimal (get_or path 0 0)) (steps_text (take (length path - 1) (drop 1 path))) c.put_first.result c.put_steps.result _ c.in_ok-put_first-in-len1-up.was c.put_first.ensures c.put_steps.ensures)
 
 pub returns-in-empty : goal.returns-in-empty
-returns-in-empty g c = same_text (c.as_bytes.ensures.value ∙ place-empty c.args.path.now c.in-empty.len_below) c.put.ensures
+returns-in-empty g c = same_text (c.as_bytes.ensures.value ∙ place-empty c.args.path.now c.in-empty.len_below) c.put.ensures.written

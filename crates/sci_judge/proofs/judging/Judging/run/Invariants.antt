@@ -6,9 +6,9 @@ use Rattle.sci_judge.proofs.judging.Judging.run.Given as goal
 
 abbrev pub invariant-loop-fired : goal.invariant-loop-fired
 invariant-loop-fired g l = record {
-  way : IsOnWay l.self.frame l.fn.inputs l.fn.until l.fn.limit l.self.store l.lib l.self.events.pending
+  way : IsOnWay l.self.kept.fixed l.fn.inputs l.fn.until l.fn.limit l.self.kept.store l.lib l.self.events.pending
       (g.S.Sink.state l.fn.out) (g.S.Sink.state l.out) l.firing.date l.firing.source l.fired;
   sound : IsSound l.self;
-  idle : AreIdle l.self.frame l.self.store;
-  same : l.self.frame ≡ l.fn.self.frame;
+  idle : AreIdle l.self.kept.fixed l.self.kept.store;
+  same : l.self.kept.fixed ≡ l.fn.self.kept.fixed;
 }

@@ -3,10 +3,12 @@ use Rattle.sci_sim.proofs.ready.Ready.new.Goals as goal
 
 pub invariant_of-result : goal.invariant_of-result
 invariant_of-result g c =
-    ready_is c.in_ok-frame.frame c.in_ok-rows.rows.items c.in_ok-store.store c.program_first.new.agenda c.well_formed-2.ensures c.in_ok-store.ensures.store c.in_ok-store.ensures.idle c.in_ok-rows.ensures
+    let k = c.in_ok-kept.kept in
+    ready_is k.fixed c.in_ok-rows.rows.items k.store c.program_first.new.agenda c.well_formed-2.ensures.frame c.in_ok-kept.ensures.untold.idle c.in_ok-rows.ensures
 
 pub returns-clause-start : goal.returns-clause-start
 returns-clause-start g c =
-    start_is c.in_ok-frame.frame c.in_ok-rows.rows.items c.in_ok-store.store c.program_first.new.agenda c.well_formed-2.ensures
-    c.in_ok-store.ensures.store c.in_ok-store.ensures.idle c.args.n c.in_ok-frame.ensures.net _ c.in_ok-frame.ensures.full c.well_formed-3.ensures
-    c.in_ok-frame.ensures.seated c.in_ok-store.ensures.held c.in_ok-store.ensures.cursors c.in_ok-store.ensures.lines c.in_ok-store.ensures.sum c.program_first.ensures
+    let k = c.in_ok-kept.kept in
+    let is = c.in_ok-kept.ensures in
+    start_is k.fixed c.in_ok-rows.rows.items k.store c.program_first.new.agenda c.well_formed-2.ensures.frame is.untold.idle c.args.n is.net _ is.full c.well_formed-3.ensures
+    is.seated is.first.held is.first.cursors is.untold.lines is.untold.sum c.program_first.ensures

@@ -25,7 +25,7 @@ returns-in_err-end-clause-written g c os run =
     let n = fires_now c.args.ins.now c.args.until c.args.limit c.args.self.now c.loop-reaction.self _ _ _ c.loop-reaction._reaction c.loop-reaction.invariant in
     let s = c.step.ensures.reacted n.st n.from n.date n.source n.at n.fires in
     let err = err_from_is_err_and c.from_residual.result c.from_residual.ensures.1 in
-    trace_cut c.args.ins.now c.args.until c.args.limit c.args.self.now c.loop-reaction.self _ _ _ c.loop-reaction._reaction c.loop-reaction.invariant s.0 s.1 (subst (λ (x : Running). IsFrame x.fixed) c.self.view_is c.well_formed-2.ensures)
+    trace_cut c.args.ins.now c.args.until c.args.limit c.args.self.now c.loop-reaction.self _ _ _ c.loop-reaction._reaction c.loop-reaction.invariant s.0 s.1 (subst (λ (x : Running). IsFrame x.fixed) c.self.view_is c.well_formed-2.ensures.frame)
     c.step.result c.from_residual.result _ err.0 _ os c.in_err-end.was err.1 run s.2
 
 pub returns-in-Over-clause-written : goal.returns-in-Over-clause-written
@@ -36,7 +36,7 @@ returns-in-Over-clause-written g c os run =
     c.step.ensures.net s.3.1 _ c.in-Over.end c.in-Over.is s.3.0 in
     let trace = trace_is c.args.ins.now c.args.until c.args.limit c.args.self.now c.loop-reaction.self _ _ _ c.loop-reaction._reaction c.loop-reaction.invariant s.0 s.1 c.step.new.self _
     c.step.ensures.net s.3.1 c.in-Over.end f in
-    trace_written c.args.ins.now c.args.until c.args.limit c.args.self.now c.loop-reaction.self _ _ _ c.loop-reaction._reaction c.loop-reaction.invariant s.0 s.1 (subst (λ (x : Running). IsFrame x.fixed) c.self.view_is c.well_formed-2.ensures)
+    trace_written c.args.ins.now c.args.until c.args.limit c.args.self.now c.loop-reaction.self _ _ _ c.loop-reaction._reaction c.loop-reaction.invariant s.0 s.1 (subst (λ (x : Running). IsFrame x.fixed) c.self.view_is c.well_formed-2.ensures.frame)
     _ _ _ os trace run s.2
 
 pub returns-in-Over-clause-finished : goal.returns-in-Over-clause-finished

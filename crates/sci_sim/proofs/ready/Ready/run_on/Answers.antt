@@ -7,7 +7,7 @@ use Rattle.sci_run.specs.Run.{taken}
 use Rattle.sci_store.specs.Frame.{Fixed, IsFrame}
 use Rattle.sci_store.specs.Written.{tallied}
 use Rattle.sci_sim.specs.At.{Running}
-use Rattle.sci_sim.proofs.Steps.{at_tallied, tallied_is, ok_as, err_as}
+use Rattle.sci_sim.proofs.Steps.{at_tallied, tallied_is, ok_as, err_as, ready_kept}
 use Rattle.sci_sim.proofs.Runs.{not_over}
 use Rattle.sci_sim.proofs.Resting.{rest_begins, fires_now, goes_further, finished_by, all_tallied, rest_cut, rest_written, rest_is, due_rest, due_only, due_at_once, ready_tallied}
 use Rattle.sci_sim.proofs.ready.Ready.run_on.Goals as goal
@@ -16,17 +16,20 @@ pub returns-in_err-observe-clause-written : goal.returns-in_err-observe-clause-w
 returns-in_err-observe-clause-written g c st os at rest =
     let word = c.in-Some.word in
     let err = err_from_is_err_and c.from_residual.result c.from_residual.ensures.1 in
-    let frame = subst (λ (x : Running). IsFrame x.fixed) c.self.view_is c.well_formed-2.ensures in
+    let frame = subst (λ (x : Running). IsFrame x.fixed) c.self.view_is c.well_formed-2.ensures.frame in
     same_text (sym (append-nil (line (End word))) ∙ ap text (due_only c.args.ins.now c.args.until c.args.limit st c.args.self.now word (c.in-Some.ensures _ st at) frame os rest))
     (err_as c.observe.result c.from_residual.result _ err.0 c.in_err-observe.was err.1 c.observe.ensures.written)
 
+pub invariant_of-self : goal.invariant_of-self
+invariant_of-self g c = ready_kept _ c.observe.new.self c.in_err-observe.ensures.fixed c.in_err-observe.ensures.kept c.self.invariant
+
 pub invariant_of-self-in-Some : goal.invariant_of-self-in-Some
-invariant_of-self-in-Some g c = ready_tallied _ c.observe.new.self (End c.in-Some.word ∷ []) c.in_ok-observe.ensures.counted c.self.invariant
+invariant_of-self-in-Some g c = ready_tallied _ c.observe.new.self (End c.in-Some.word ∷ []) c.in_ok-observe.ensures.fixed c.in_ok-observe.ensures.counted c.self.invariant
 
 pub returns-in-Some-clause-written : goal.returns-in-Some-clause-written
 returns-in-Some-clause-written g c st os at rest =
     let word = c.in-Some.word in
-    let frame = subst (λ (x : Running). IsFrame x.fixed) c.self.view_is c.well_formed-2.ensures in
+    let frame = subst (λ (x : Running). IsFrame x.fixed) c.self.view_is c.well_formed-2.ensures.frame in
     same_text (sym (append-nil (line (End word))) ∙ ap text (due_only c.args.ins.now c.args.until c.args.limit st c.args.self.now word (c.in-Some.ensures _ st at) frame os rest))
     (ok_as _ _ c.in_ok-observe.ensures.written)
 
@@ -35,12 +38,13 @@ returns-in-Some-clause-finished g c st at =
     let word = c.in-Some.word in
     let view = c.self.view_is in
     let due = c.in-Some.ensures _ st at in
+    let fixed = c.in_ok-observe.ensures.fixed in
     let counted = c.in_ok-observe.ensures.counted in
-    let last = at_tallied c.args.self.now _ _ st (End word ∷ []) c.observe.new.self view at counted in (
+    let last = at_tallied c.args.self.now _ _ st (End word ∷ []) c.observe.new.self view at fixed counted in (
       End word ∷ [],
       due_rest c.args.ins.now c.args.until c.args.limit st c.args.self.now word due,
-      due_at_once c.args.ins.now c.args.until c.args.limit st c.args.self.now word due _ _ (ap (λ (x : Running). x.fixed) view) last,
-      tallied_is c.args.self.now.store c.observe.new.self (End word ∷ []) (counted ∙ ap (λ (x : Running). tallied x.store (End word ∷ [])) view),
+      due_at_once c.args.ins.now c.args.until c.args.limit st c.args.self.now word due _ _ (fixed ∙ ap (λ (x : Running). x.fixed) view) last,
+      tallied_is c.args.self.now.store c.observe.new.self.store (End word ∷ []) (counted ∙ ap (λ (x : Running). tallied x.store (End word ∷ [])) view),
     )
 
 pub loop-reaction-init : goal.loop-reaction-init
@@ -57,7 +61,7 @@ returns-in_err-end-clause-written g c st os at rest =
     let w = c.loop-reaction.invariant st at in
     let s = c.step.ensures.reacted w.st (taken w.st w.e) w.e.date w.e.source w.at (fires_now c.args.ins.now c.args.until c.args.limit st c.args.self.now c.loop-reaction.self _ _ _ c.loop-reaction._reaction w) in
     let err = err_from_is_err_and c.from_residual-in_err-end.result c.from_residual-in_err-end.ensures.1 in
-    let frame = subst (λ (x : Running). IsFrame x.fixed) c.self.view_is c.well_formed-2.ensures in
+    let frame = subst (λ (x : Running). IsFrame x.fixed) c.self.view_is c.well_formed-2.ensures.frame in
     rest_cut c.args.ins.now c.args.until c.args.limit st c.args.self.now c.loop-reaction.self _ _ _ c.loop-reaction._reaction w s.0 s.1 frame
     c.step.result c.from_residual-in_err-end.result _ err.0 _ os c.in_err-end.was err.1 rest s.2
 
@@ -68,7 +72,7 @@ returns-in-Over-clause-written g c st os at rest =
     let f = finished_by c.args.ins.now c.args.until c.args.limit st c.args.self.now c.loop-reaction.self _ _ _ c.loop-reaction._reaction w s.0 s.1 c.step.new.self _
     c.step.ensures.net s.3.1 _ c.in-Over.end c.in-Over.is s.3.0 in
     let run = rest_is c.args.ins.now c.args.until c.args.limit st c.args.self.now.fixed.net c.step.new.self _ _ c.in-Over.end (ap (λ (x : Fixed). x.net) (c.step.ensures.net ∙ w.fixed)) f in
-    let frame = subst (λ (x : Running). IsFrame x.fixed) c.self.view_is c.well_formed-2.ensures in
+    let frame = subst (λ (x : Running). IsFrame x.fixed) c.self.view_is c.well_formed-2.ensures.frame in
     rest_written c.args.ins.now c.args.until c.args.limit st c.args.self.now c.loop-reaction.self _ _ _ c.loop-reaction._reaction w s.0 s.1 frame _ _ _ os run rest s.2
 
 pub returns-in-Over-clause-finished : goal.returns-in-Over-clause-finished

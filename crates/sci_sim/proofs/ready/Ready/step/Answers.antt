@@ -98,17 +98,18 @@ returns-in_ok-observe-in-Some-due_end-clause-reacted g c st from date source at 
     let net = ap (λ (x : Fixed). x.net) (fixed_stays until r a _ date source from k rest set c.args.ins.now b _ c.in_ok-word.ensures.rest q.0 o _ q.3) in
     let view = c.self.view_is in
     let counted = c.in_ok-observe-in-Some-due_end.ensures.counted in
-    let last = at_tallied b _ _ s.after (End word ∷ []) c.observe.new.self view s.at counted in
+    let fixed = c.in_ok-observe-in-Some-due_end.ensures.fixed in
+    let last = at_tallied b _ _ s.after (End word ∷ []) c.observe.new.self view s.at fixed counted in
     let stays = ap (λ (x : Running). x.fixed) view in
     let over = is_over _ word (c.in-Some-due_end.ensures _ s.after s.at) in
-    let l = leads_to_in c.args.ins.now until c.args.limit date source from r.fixed.net b _ c.observe.new.self _ q.0 s.seen s.after _ (End word ∷ []) view net s.leads last s.row over in
+    let l = leads_to_in c.args.ins.now until c.args.limit date source from r.fixed.net b _ c.observe.new.self _ q.0 s.seen s.after _ (End word ∷ []) view fixed net s.leads last s.row over in
     let reaction = is_tallied until r a _ date source from k rest set c.args.ins.now b _ c.in_ok-word.ensures.rest q.0 o _ q.3 in
-    let end = tallied_is b.store c.observe.new.self (End word ∷ []) (counted ∙ ap (λ (x : Running). tallied x.store (End word ∷ [])) view) in
+    let end = tallied_is b.store c.observe.new.self.store (End word ∷ []) (counted ∙ ap (λ (x : Running). tallied x.store (End word ∷ [])) view) in
     let wrote = same_text (sym (append-nil (line (End word)))) (ok_as _ _ c.in_ok-observe-in-Some-due_end.ensures.written) in (
       q.0,
       o,
       step_written q.0 _ (End word ∷ []) _ _ l.1 q.2 wrote,
-      (l.0, subst (AreTallied r.store c.observe.new.self) (sym l.1) (tallied_more r.store b.store c.observe.new.self (seen_in q.0) (End word ∷ []) reaction end)),
+      (l.0, subst (AreTallied r.store c.observe.new.self.store) (sym l.1) (tallied_more r.store b.store c.observe.new.self.store (seen_in q.0) (End word ∷ []) reaction end)),
     )
 
 pub returns-in_err-observe-in-Some-due_end-clause-reacted : goal.returns-in_err-observe-in-Some-due_end-clause-reacted
@@ -137,7 +138,7 @@ returns-in_err-observe-in-Some-due_end-clause-reacted g c st from date source at
     )
 
 pub invariant_of-self : goal.invariant_of-self
-invariant_of-self g c = ready_kept _ c.observe.new.self c.in_err-observe-in-Some-due_end.ensures.kept c.self.invariant
+invariant_of-self g c = ready_kept _ c.observe.new.self c.in_err-observe-in-Some-due_end.ensures.fixed c.in_err-observe-in-Some-due_end.ensures.kept c.self.invariant
 
 pub invariant_of-self-in-Some-due_end : goal.invariant_of-self-in-Some-due_end
-invariant_of-self-in-Some-due_end g c = ready_tallied _ c.observe.new.self (End c.in-Some-due_end.word ∷ []) c.in_ok-observe-in-Some-due_end.ensures.counted c.self.invariant
+invariant_of-self-in-Some-due_end g c = ready_tallied _ c.observe.new.self (End c.in-Some-due_end.word ∷ []) c.in_ok-observe-in-Some-due_end.ensures.fixed c.in_ok-observe-in-Some-due_end.ensures.counted c.self.invariant

@@ -6,7 +6,7 @@ use Rattle.sci_store.specs.Tally.{lines_after}
 use Rattle.sci_store.specs.Store.{Standing}
 use Rattle.sci_store.proofs.Writing.{same_tally}
 use Rattle.sci_store.proofs.Covering.{row_shows}
-use Rattle.sci_store.proofs.ShownLines.{header_some, unseen, header_counted}
+use Rattle.sci_store.proofs.ShownLines.{unseen, header_counted}
 use Rattle.sci_store.proofs.Headed.{header_first, where_ok, values_counted, shows_counted, unseen_counted}
 use Rattle.sci_store.proofs.store.Store.write_reaction.Given.{Over}
 use Rattle.sci_store.proofs.store.Store.write_reaction.Goals as goal
@@ -30,7 +30,7 @@ count_values-requires g c =
 pub returns-then-take_unseen-clause-written : goal.returns-then-take_unseen-clause-written
 returns-then-take_unseen-clause-written g c source y active shown among =
     unseen (g.S.Sink.state c.args.out.now) (g.S.Sink.state c.take_unseen.new.self) (text (c.args.header.now ∷ blocks_seen 1 c.args.frame.now.net.specs y active)) tt
-    (c.take_unseen.ensures.taken c.if-take_unseen.true) (header_some c.args.header.now (blocks_seen 1 c.args.frame.now.net.specs y active) c.requires.header)
+    (c.take_unseen.ensures.taken c.if-take_unseen.true)
 
 pub returns-then-take_unseen-clause-counted : goal.returns-then-take_unseen-clause-counted
 returns-then-take_unseen-clause-counted g c =

@@ -1,0 +1,5 @@
+pub mod Numbers
+pub mod Ends
+pub mod Fitted
+pub mod Hulls
+pub mod Chosen

@@ -1,3 +1,0 @@
-mod AtStart
-mod Columns
-mod Signals
