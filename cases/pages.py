@@ -68,8 +68,8 @@ def trace_of(name):
 
 
 def furnish(program, work):
-    """A folder in which the lines can be run: the program where they call it, the examples, the tools, and the files that a reader has of his own, as
-    those that the page on targets shows in C."""
+    """A folder in which the lines can be run: the program where they call it, the examples, the tools, the definitions, and the files that a reader has of
+    his own, as those that the page on targets shows in C."""
     os.makedirs(os.path.join(work, 'crates', 'scicos', 'out'))
     os.mkdir(os.path.join(work, 'release'))
     os.mkdir(os.path.join(work, 'inputs'))
@@ -77,7 +77,12 @@ def furnish(program, work):
         os.symlink(program, os.path.join(work, place))
     for folder in ('examples', 'tools', 'bench', 'cases', 'docs', 'python'):
         shutil.copytree(os.path.join(TOP, folder), os.path.join(work, folder))
-    shutil.copy(os.path.join(TOP, 'scicos-kit'), work)
+    for name in ('scicos-kit', 'crates.txt'):
+        shutil.copy(os.path.join(TOP, name), work)
+    for specs in glob.glob(os.path.join(os.path.abspath(TOP), 'crates', '*', 'specs')):
+        crate = os.path.join(work, 'crates', os.path.basename(os.path.dirname(specs)))
+        os.makedirs(crate, exist_ok=True)
+        os.symlink(specs, os.path.join(crate, 'specs'))
     shutil.copy(os.path.join(EXAMPLES, 'first.json'), os.path.join(work, 'my-diagram.json'))
     shutil.copy(os.path.join(EXAMPLES, 'watchdog', 'diagram.json'), os.path.join(work, 'd.json'))
     shown = ['\n'.join(lines) + '\n' for word, lines in blocks(text_of(TOP, 'docs', 'SHIPPING.md')) if word == 'c']

@@ -201,8 +201,8 @@ def wrong_said(path):
 
 
 def checkers(program):
-    """On the C of the counter cppcheck says what the page tells, and its MISRA addon names the rules of the page, each as often, and on the C of the
-    designs no other, where the version is the page's."""
+    """On the C of the counter cppcheck says what the page tells; on the C of the watchdog its MISRA addon names the rules of the page, each as often,
+    and on the C of the counter and of the other designs no other, where the version is the page's."""
     if lacks('the rules of MISRA', 'cppcheck'):
         return ''
     page = text(TOP, 'docs', 'SHIPPING.md')
@@ -215,8 +215,9 @@ def checkers(program):
         counter = os.path.join(work, 'counter.c')
         with open(counter, 'wb') as file:
             file.write(subprocess.run([program, 'ccode', os.path.join(EXAMPLES, 'counter.json')], capture_output=True, timeout=120).stdout)
-        given, *others = pool.map(rules_named, [counter] + PROGRAMS)
+        named = dict(zip([counter] + PROGRAMS, pool.map(rules_named, [counter] + PROGRAMS)))
         wrong = wrong_said(counter)
+    given = named[os.path.join(EXAMPLES, 'watchdog', 'program.c')]
     wrong += [] if given == due and due else ['%r in place of %r' % (given, due)]
-    wrong += ['%s: %r' % (path, named) for path, named in zip(PROGRAMS, others) if not set(named) <= set(due) or named.get('8.4') != '1']
+    wrong += ['%s: %r' % (path, found) for path, found in named.items() if not set(found) <= set(due) or found.get('8.4') != '1']
     return '; '.join(wrong)

@@ -178,7 +178,7 @@ def closed_streams(program):
 def many_events(program, work):
     """Command lines with a long answer, of each kind of it, and what is due."""
     first = text(EXAMPLES, 'first.json')
-    constants = {'objs': [{'obj': 'Block', 'gui': 'CONST_m', 'model': {'out': [256], 'outtyp': [3], 'ipar': [k]}} for k in range(40)]}
+    constants = {'objs': [{'obj': 'Block', 'gui': 'CONST_m', 'model': {'out': [256], 'outtyp': [3], 'ipar': [*range(k, k + 256)]}} for k in range(60)]}
     for name, content in (('f', first), ('n', b'[]'), ('d', text(EXAMPLES, 'clock.json')), ('s', b'save 1\nat 0 0\npend 2 1 1\ndone\n'), ('k', json.dumps(constants).encode())):
         with open(os.path.join(work, name), 'wb') as file:
             file.write(content)

@@ -154,117 +154,6 @@ static void f28(void) {
     v1[INT64_C(24)] = v1[INT64_C(23)];
   }
 }
-static void g2(void) {
-  if (v4[INT64_C(1)]) {
-    sci_val(INT64_C(2), INT64_C(1), INT64_C(1), v1[INT64_C(0)]);
-  }
-  if (v4[INT64_C(2)]) {
-    sci_val(INT64_C(3), INT64_C(1), INT64_C(1), v1[INT64_C(1)]);
-  }
-  if (v4[INT64_C(3)]) {
-    sci_val(INT64_C(4), INT64_C(1), INT64_C(1), v1[INT64_C(2)]);
-  }
-  if (v4[INT64_C(4)]) {
-    sci_val(INT64_C(5), INT64_C(1), INT64_C(1), v1[INT64_C(3)]);
-  }
-  if (v4[INT64_C(5)]) {
-    sci_val(INT64_C(6), INT64_C(1), INT64_C(1), v1[INT64_C(4)]);
-  }
-  if (v4[INT64_C(6)]) {
-    sci_val(INT64_C(7), INT64_C(1), INT64_C(1), v1[INT64_C(5)]);
-  }
-  if (v4[INT64_C(7)]) {
-    sci_val(INT64_C(8), INT64_C(1), INT64_C(1), v1[INT64_C(6)]);
-  }
-  if (v4[INT64_C(8)]) {
-    sci_val(INT64_C(9), INT64_C(1), INT64_C(1), v1[INT64_C(7)]);
-  }
-  if (v4[INT64_C(9)]) {
-    sci_val(INT64_C(10), INT64_C(1), INT64_C(1), v1[INT64_C(8)]);
-  }
-  if (v4[INT64_C(10)]) {
-    sci_val(INT64_C(11), INT64_C(1), INT64_C(1), v1[INT64_C(9)]);
-  }
-  if (v4[INT64_C(11)]) {
-    sci_val(INT64_C(12), INT64_C(1), INT64_C(1), v1[INT64_C(10)]);
-  }
-  if (v4[INT64_C(12)]) {
-    sci_val(INT64_C(13), INT64_C(1), INT64_C(1), v1[INT64_C(11)]);
-  }
-  if (v4[INT64_C(13)]) {
-    sci_val(INT64_C(14), INT64_C(1), INT64_C(1), v1[INT64_C(12)]);
-  }
-  if (v4[INT64_C(15)]) {
-    sci_val(INT64_C(16), INT64_C(1), INT64_C(1), v1[INT64_C(13)]);
-  }
-  if (v4[INT64_C(16)]) {
-    sci_val(INT64_C(17), INT64_C(1), INT64_C(1), v1[INT64_C(14)]);
-  }
-  if (v4[INT64_C(17)]) {
-    sci_val(INT64_C(18), INT64_C(1), INT64_C(1), v1[INT64_C(15)]);
-  }
-  if (v4[INT64_C(19)]) {
-    sci_val(INT64_C(20), INT64_C(1), INT64_C(1), v1[INT64_C(16)]);
-  }
-  if (v4[INT64_C(20)]) {
-    sci_val(INT64_C(21), INT64_C(1), INT64_C(1), v1[INT64_C(17)]);
-  }
-  if (v4[INT64_C(21)]) {
-    sci_val(INT64_C(22), INT64_C(1), INT64_C(1), v1[INT64_C(18)]);
-  }
-  if (v4[INT64_C(22)]) {
-    sci_val(INT64_C(23), INT64_C(1), INT64_C(1), v1[INT64_C(19)]);
-  }
-  if (v4[INT64_C(23)]) {
-    sci_val(INT64_C(24), INT64_C(1), INT64_C(1), v1[INT64_C(20)]);
-  }
-  if (v4[INT64_C(24)]) {
-    sci_val(INT64_C(25), INT64_C(1), INT64_C(1), v1[INT64_C(21)]);
-  }
-  if (v4[INT64_C(25)]) {
-    sci_val(INT64_C(26), INT64_C(1), INT64_C(1), v1[INT64_C(22)]);
-  }
-  if (v4[INT64_C(26)]) {
-    sci_val(INT64_C(27), INT64_C(1), INT64_C(1), v1[INT64_C(23)]);
-  }
-  if (v4[INT64_C(27)]) {
-    sci_val(INT64_C(28), INT64_C(1), INT64_C(1), v1[INT64_C(24)]);
-  }
-  if (v4[INT64_C(0)]) {
-    e1 = INT64_C(5);
-    if ((int64_t)(e1 >= INT64_C(0))) {
-      v6[INT64_C(0)] = (d1 + e1);
-      v7[INT64_C(0)] = o1;
-      o1 = (o1 + INT64_C(1));
-    }
-  }
-  if (v4[INT64_C(18)]) {
-    e1 = (((int64_t)(v1[INT64_C(15)] >= INT64_C(0)) * (((int64_t)(v1[INT64_C(15)] <= INT64_C(2147483647)) * v1[INT64_C(15)]) + ((int64_t)(v1[INT64_C(15)] > INT64_C(2147483647)) * INT64_C(2147483647)))) - (int64_t)(v1[INT64_C(15)] < INT64_C(0)));
-    if ((int64_t)(e1 >= INT64_C(0))) {
-      v6[INT64_C(1)] = (d1 + e1);
-      v7[INT64_C(1)] = o1;
-      o1 = (o1 + INT64_C(1));
-    }
-  }
-  if (v4[INT64_C(2)]) {
-    v2[INT64_C(0)] = v1[INT64_C(5)];
-  }
-  if (v4[INT64_C(7)]) {
-    v2[INT64_C(1)] = v1[INT64_C(10)];
-  }
-  if (v4[INT64_C(19)]) {
-    v2[INT64_C(2)] = v1[INT64_C(18)];
-  }
-  if (v4[INT64_C(22)]) {
-    v2[INT64_C(3)] = v1[INT64_C(21)];
-  }
-}
-static void g1(void) {
-  for (k1 = INT64_C(0); k1 < INT64_C(28); k1 = k1 + INT64_C(1)) {
-    v4[k1] = INT64_C(0);
-    v5[k1] = INT64_C(0);
-  }
-}
 static void g3(void) {
   b1 = (-INT64_C(1));
   for (k1 = INT64_C(0); k1 < INT64_C(2); k1 = k1 + INT64_C(1)) {
@@ -279,50 +168,45 @@ static void g3(void) {
 }
 static void s0(void) {
   sci_start();
-  v4[INT64_C(4)] = INT64_C(1);
   f5();
-  v4[INT64_C(8)] = INT64_C(1);
   f9();
-  v4[INT64_C(10)] = INT64_C(1);
   f11();
-  v4[INT64_C(12)] = INT64_C(1);
   f13();
-  v4[INT64_C(15)] = INT64_C(1);
   f16();
-  v4[INT64_C(16)] = INT64_C(1);
   f17();
-  v4[INT64_C(20)] = INT64_C(1);
   f21();
-  v4[INT64_C(23)] = INT64_C(1);
   f24();
-  v4[INT64_C(25)] = INT64_C(1);
   f26();
-  v4[INT64_C(26)] = INT64_C(1);
   f27();
+  sci_val(INT64_C(5), INT64_C(1), INT64_C(1), v1[INT64_C(3)]);
+  sci_val(INT64_C(9), INT64_C(1), INT64_C(1), v1[INT64_C(7)]);
+  sci_val(INT64_C(11), INT64_C(1), INT64_C(1), v1[INT64_C(9)]);
+  sci_val(INT64_C(13), INT64_C(1), INT64_C(1), v1[INT64_C(11)]);
+  sci_val(INT64_C(16), INT64_C(1), INT64_C(1), v1[INT64_C(13)]);
+  sci_val(INT64_C(17), INT64_C(1), INT64_C(1), v1[INT64_C(14)]);
+  sci_val(INT64_C(21), INT64_C(1), INT64_C(1), v1[INT64_C(17)]);
+  sci_val(INT64_C(24), INT64_C(1), INT64_C(1), v1[INT64_C(20)]);
+  sci_val(INT64_C(26), INT64_C(1), INT64_C(1), v1[INT64_C(22)]);
+  sci_val(INT64_C(27), INT64_C(1), INT64_C(1), v1[INT64_C(23)]);
 }
 static void s1(void) {
   sci_event(d1, INT64_C(1), INT64_C(1));
-  v4[INT64_C(0)] = INT64_C(1);
+  v5[INT64_C(14)] = INT64_C(0);
+  v4[INT64_C(17)] = INT64_C(0);
+  v4[INT64_C(18)] = INT64_C(0);
+  v4[INT64_C(19)] = INT64_C(0);
+  v4[INT64_C(27)] = INT64_C(0);
+  v4[INT64_C(21)] = INT64_C(0);
   f1();
-  v4[INT64_C(1)] = INT64_C(1);
   f2();
-  v4[INT64_C(2)] = INT64_C(1);
   f3();
-  v4[INT64_C(7)] = INT64_C(1);
   f8();
-  v4[INT64_C(3)] = INT64_C(1);
   f4();
-  v4[INT64_C(5)] = INT64_C(1);
   f6();
-  v4[INT64_C(6)] = INT64_C(1);
   f7();
-  v4[INT64_C(9)] = INT64_C(1);
   f10();
-  v4[INT64_C(11)] = INT64_C(1);
   f12();
-  v4[INT64_C(13)] = INT64_C(1);
   f14();
-  v4[INT64_C(14)] = INT64_C(1);
   f15();
   v5[INT64_C(14)] = (((int64_t)(v1[INT64_C(12)] >= INT64_C(1)) * (((int64_t)(v1[INT64_C(12)] <= INT64_C(3)) * v1[INT64_C(12)]) + ((int64_t)(v1[INT64_C(12)] > INT64_C(3)) * INT64_C(3)))) + (int64_t)(v1[INT64_C(12)] < INT64_C(1)));
   v3[INT64_C(17)] = INT64_C(0);
@@ -366,35 +250,75 @@ static void s1(void) {
   if (v4[INT64_C(21)]) {
     f22();
   }
+  sci_val(INT64_C(2), INT64_C(1), INT64_C(1), v1[INT64_C(0)]);
+  sci_val(INT64_C(3), INT64_C(1), INT64_C(1), v1[INT64_C(1)]);
+  sci_val(INT64_C(4), INT64_C(1), INT64_C(1), v1[INT64_C(2)]);
+  sci_val(INT64_C(6), INT64_C(1), INT64_C(1), v1[INT64_C(4)]);
+  sci_val(INT64_C(7), INT64_C(1), INT64_C(1), v1[INT64_C(5)]);
+  sci_val(INT64_C(8), INT64_C(1), INT64_C(1), v1[INT64_C(6)]);
+  sci_val(INT64_C(10), INT64_C(1), INT64_C(1), v1[INT64_C(8)]);
+  sci_val(INT64_C(12), INT64_C(1), INT64_C(1), v1[INT64_C(10)]);
+  sci_val(INT64_C(14), INT64_C(1), INT64_C(1), v1[INT64_C(12)]);
+  if (v4[INT64_C(17)]) {
+    sci_val(INT64_C(18), INT64_C(1), INT64_C(1), v1[INT64_C(15)]);
+  }
+  if (v4[INT64_C(19)]) {
+    sci_val(INT64_C(20), INT64_C(1), INT64_C(1), v1[INT64_C(16)]);
+  }
+  if (v4[INT64_C(21)]) {
+    sci_val(INT64_C(22), INT64_C(1), INT64_C(1), v1[INT64_C(18)]);
+  }
+  if (v4[INT64_C(27)]) {
+    sci_val(INT64_C(28), INT64_C(1), INT64_C(1), v1[INT64_C(24)]);
+  }
+  e1 = INT64_C(5);
+  if ((int64_t)(e1 >= INT64_C(0))) {
+    v6[INT64_C(0)] = (d1 + e1);
+    v7[INT64_C(0)] = o1;
+    o1 = (o1 + INT64_C(1));
+  }
+  if (v4[INT64_C(18)]) {
+    e1 = (((int64_t)(v1[INT64_C(15)] >= INT64_C(0)) * (((int64_t)(v1[INT64_C(15)] <= INT64_C(2147483647)) * v1[INT64_C(15)]) + ((int64_t)(v1[INT64_C(15)] > INT64_C(2147483647)) * INT64_C(2147483647)))) - (int64_t)(v1[INT64_C(15)] < INT64_C(0)));
+    if ((int64_t)(e1 >= INT64_C(0))) {
+      v6[INT64_C(1)] = (d1 + e1);
+      v7[INT64_C(1)] = o1;
+      o1 = (o1 + INT64_C(1));
+    }
+  }
+  v2[INT64_C(0)] = v1[INT64_C(5)];
+  v2[INT64_C(1)] = v1[INT64_C(10)];
+  if (v4[INT64_C(19)]) {
+    v2[INT64_C(2)] = v1[INT64_C(18)];
+  }
 }
 static void s2(void) {
   sci_event(d1, INT64_C(19), INT64_C(1));
-  v4[INT64_C(22)] = INT64_C(1);
   f23();
-  v4[INT64_C(27)] = INT64_C(1);
   v3[INT64_C(27)] = INT64_C(1);
   f28();
-  v4[INT64_C(24)] = INT64_C(1);
   f25();
+  sci_val(INT64_C(23), INT64_C(1), INT64_C(1), v1[INT64_C(19)]);
+  sci_val(INT64_C(25), INT64_C(1), INT64_C(1), v1[INT64_C(21)]);
+  sci_val(INT64_C(28), INT64_C(1), INT64_C(1), v1[INT64_C(24)]);
+  v2[INT64_C(3)] = v1[INT64_C(21)];
 }
 static void g4(void) {
   if ((int64_t)(d2 < INT64_C(0))) {
     sci_end(INT64_C(2));
+  } else {
+    if ((int64_t)(d2 > u1)) {
+      sci_end(INT64_C(3));
+    } else {
+      d1 = v6[b1];
+      v6[b1] = (-INT64_C(1));
+      if ((int64_t)(b1 < INT64_C(1))) {
+        s1();
+      } else {
+        s2();
+      }
+      g3();
+    }
   }
-  if ((int64_t)(d2 > u1)) {
-    sci_end(INT64_C(3));
-  }
-  d1 = v6[b1];
-  v6[b1] = (-INT64_C(1));
-  g1();
-  if ((int64_t)(b1 == INT64_C(0))) {
-    s1();
-  }
-  if ((int64_t)(b1 == INT64_C(1))) {
-    s2();
-  }
-  g2();
-  g3();
 }
 void sci_main(void) {
   v6[INT64_C(1)] = (-INT64_C(1));
@@ -402,7 +326,6 @@ void sci_main(void) {
   u1 = sci_until();
   n1 = sci_limit();
   s0();
-  g2();
   g3();
   for (i1 = INT64_C(0); i1 < n1; i1 = i1 + INT64_C(1)) {
     g4();

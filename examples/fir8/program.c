@@ -15,6 +15,7 @@ static int64_t v4[10];
 static int64_t v6[1];
 static int64_t v7[1];
 static int64_t t1;
+static int64_t t2;
 static int64_t n1;
 static int64_t i1;
 static int64_t d2;
@@ -45,14 +46,9 @@ static void f3(void) {
   v1[INT64_C(1)] = t1;
 }
 static void f4(void) {
-  v1[INT64_C(2)] = v2[INT64_C(0)];
-  v1[INT64_C(3)] = v2[INT64_C(1)];
-  v1[INT64_C(4)] = v2[INT64_C(2)];
-  v1[INT64_C(5)] = v2[INT64_C(3)];
-  v1[INT64_C(6)] = v2[INT64_C(4)];
-  v1[INT64_C(7)] = v2[INT64_C(5)];
-  v1[INT64_C(8)] = v2[INT64_C(6)];
-  v1[INT64_C(9)] = v2[INT64_C(7)];
+  for (t1 = INT64_C(0); t1 < INT64_C(8); t1 = t1 + INT64_C(1)) {
+    v1[(t1 + INT64_C(2))] = v2[(t1 + INT64_C(0))];
+  }
 }
 static void f5(void) {
   v1[INT64_C(10)] = v1[INT64_C(2)];
@@ -84,80 +80,21 @@ static void f7(void) {
   v1[INT64_C(32)] = INT64_C(1);
 }
 static void f8(void) {
-  t1 = (v1[INT64_C(17)] * v1[INT64_C(25)]);
-  if ((int64_t)(t1 < (-INT64_C(2147483648)))) {
-    sci_stop(INT64_C(0), INT64_C(8), INT64_C(0));
+  for (t2 = INT64_C(0); t2 < INT64_C(8); t2 = t2 + INT64_C(1)) {
+    t1 = (v1[(t2 + INT64_C(17))] * v1[(t2 + INT64_C(25))]);
+    if ((int64_t)(t1 < (-INT64_C(2147483648)))) {
+      sci_stop(INT64_C(0), INT64_C(8), INT64_C(0));
+    }
+    if ((int64_t)(t1 > INT64_C(2147483647))) {
+      sci_stop(INT64_C(0), INT64_C(8), INT64_C(0));
+    }
+    v1[(t2 + INT64_C(33))] = t1;
   }
-  if ((int64_t)(t1 > INT64_C(2147483647))) {
-    sci_stop(INT64_C(0), INT64_C(8), INT64_C(0));
-  }
-  v1[INT64_C(33)] = t1;
-  t1 = (v1[INT64_C(18)] * v1[INT64_C(26)]);
-  if ((int64_t)(t1 < (-INT64_C(2147483648)))) {
-    sci_stop(INT64_C(0), INT64_C(8), INT64_C(0));
-  }
-  if ((int64_t)(t1 > INT64_C(2147483647))) {
-    sci_stop(INT64_C(0), INT64_C(8), INT64_C(0));
-  }
-  v1[INT64_C(34)] = t1;
-  t1 = (v1[INT64_C(19)] * v1[INT64_C(27)]);
-  if ((int64_t)(t1 < (-INT64_C(2147483648)))) {
-    sci_stop(INT64_C(0), INT64_C(8), INT64_C(0));
-  }
-  if ((int64_t)(t1 > INT64_C(2147483647))) {
-    sci_stop(INT64_C(0), INT64_C(8), INT64_C(0));
-  }
-  v1[INT64_C(35)] = t1;
-  t1 = (v1[INT64_C(20)] * v1[INT64_C(28)]);
-  if ((int64_t)(t1 < (-INT64_C(2147483648)))) {
-    sci_stop(INT64_C(0), INT64_C(8), INT64_C(0));
-  }
-  if ((int64_t)(t1 > INT64_C(2147483647))) {
-    sci_stop(INT64_C(0), INT64_C(8), INT64_C(0));
-  }
-  v1[INT64_C(36)] = t1;
-  t1 = (v1[INT64_C(21)] * v1[INT64_C(29)]);
-  if ((int64_t)(t1 < (-INT64_C(2147483648)))) {
-    sci_stop(INT64_C(0), INT64_C(8), INT64_C(0));
-  }
-  if ((int64_t)(t1 > INT64_C(2147483647))) {
-    sci_stop(INT64_C(0), INT64_C(8), INT64_C(0));
-  }
-  v1[INT64_C(37)] = t1;
-  t1 = (v1[INT64_C(22)] * v1[INT64_C(30)]);
-  if ((int64_t)(t1 < (-INT64_C(2147483648)))) {
-    sci_stop(INT64_C(0), INT64_C(8), INT64_C(0));
-  }
-  if ((int64_t)(t1 > INT64_C(2147483647))) {
-    sci_stop(INT64_C(0), INT64_C(8), INT64_C(0));
-  }
-  v1[INT64_C(38)] = t1;
-  t1 = (v1[INT64_C(23)] * v1[INT64_C(31)]);
-  if ((int64_t)(t1 < (-INT64_C(2147483648)))) {
-    sci_stop(INT64_C(0), INT64_C(8), INT64_C(0));
-  }
-  if ((int64_t)(t1 > INT64_C(2147483647))) {
-    sci_stop(INT64_C(0), INT64_C(8), INT64_C(0));
-  }
-  v1[INT64_C(39)] = t1;
-  t1 = (v1[INT64_C(24)] * v1[INT64_C(32)]);
-  if ((int64_t)(t1 < (-INT64_C(2147483648)))) {
-    sci_stop(INT64_C(0), INT64_C(8), INT64_C(0));
-  }
-  if ((int64_t)(t1 > INT64_C(2147483647))) {
-    sci_stop(INT64_C(0), INT64_C(8), INT64_C(0));
-  }
-  v1[INT64_C(40)] = t1;
 }
 static void f9(void) {
-  v1[INT64_C(41)] = v1[INT64_C(33)];
-  v1[INT64_C(42)] = v1[INT64_C(34)];
-  v1[INT64_C(43)] = v1[INT64_C(35)];
-  v1[INT64_C(44)] = v1[INT64_C(36)];
-  v1[INT64_C(45)] = v1[INT64_C(37)];
-  v1[INT64_C(46)] = v1[INT64_C(38)];
-  v1[INT64_C(47)] = v1[INT64_C(39)];
-  v1[INT64_C(48)] = v1[INT64_C(40)];
+  for (t1 = INT64_C(0); t1 < INT64_C(8); t1 = t1 + INT64_C(1)) {
+    v1[(t1 + INT64_C(41))] = v1[(t1 + INT64_C(33))];
+  }
 }
 static void f10(void) {
   t1 = INT64_C(0);
@@ -177,99 +114,6 @@ static void f10(void) {
   }
   v1[INT64_C(49)] = t1;
 }
-static void g2(void) {
-  if (v4[INT64_C(1)]) {
-    sci_val(INT64_C(2), INT64_C(1), INT64_C(1), v1[INT64_C(0)]);
-  }
-  if (v4[INT64_C(2)]) {
-    sci_val(INT64_C(3), INT64_C(1), INT64_C(1), v1[INT64_C(1)]);
-  }
-  if (v4[INT64_C(3)]) {
-    sci_val(INT64_C(4), INT64_C(1), INT64_C(1), v1[INT64_C(2)]);
-    sci_val(INT64_C(4), INT64_C(1), INT64_C(2), v1[INT64_C(3)]);
-    sci_val(INT64_C(4), INT64_C(1), INT64_C(3), v1[INT64_C(4)]);
-    sci_val(INT64_C(4), INT64_C(1), INT64_C(4), v1[INT64_C(5)]);
-    sci_val(INT64_C(4), INT64_C(1), INT64_C(5), v1[INT64_C(6)]);
-    sci_val(INT64_C(4), INT64_C(1), INT64_C(6), v1[INT64_C(7)]);
-    sci_val(INT64_C(4), INT64_C(1), INT64_C(7), v1[INT64_C(8)]);
-    sci_val(INT64_C(4), INT64_C(1), INT64_C(8), v1[INT64_C(9)]);
-  }
-  if (v4[INT64_C(4)]) {
-    sci_val(INT64_C(5), INT64_C(1), INT64_C(1), v1[INT64_C(10)]);
-    sci_val(INT64_C(5), INT64_C(1), INT64_C(2), v1[INT64_C(11)]);
-    sci_val(INT64_C(5), INT64_C(1), INT64_C(3), v1[INT64_C(12)]);
-    sci_val(INT64_C(5), INT64_C(1), INT64_C(4), v1[INT64_C(13)]);
-    sci_val(INT64_C(5), INT64_C(1), INT64_C(5), v1[INT64_C(14)]);
-    sci_val(INT64_C(5), INT64_C(1), INT64_C(6), v1[INT64_C(15)]);
-    sci_val(INT64_C(5), INT64_C(1), INT64_C(7), v1[INT64_C(16)]);
-  }
-  if (v4[INT64_C(5)]) {
-    sci_val(INT64_C(6), INT64_C(1), INT64_C(1), v1[INT64_C(17)]);
-    sci_val(INT64_C(6), INT64_C(1), INT64_C(2), v1[INT64_C(18)]);
-    sci_val(INT64_C(6), INT64_C(1), INT64_C(3), v1[INT64_C(19)]);
-    sci_val(INT64_C(6), INT64_C(1), INT64_C(4), v1[INT64_C(20)]);
-    sci_val(INT64_C(6), INT64_C(1), INT64_C(5), v1[INT64_C(21)]);
-    sci_val(INT64_C(6), INT64_C(1), INT64_C(6), v1[INT64_C(22)]);
-    sci_val(INT64_C(6), INT64_C(1), INT64_C(7), v1[INT64_C(23)]);
-    sci_val(INT64_C(6), INT64_C(1), INT64_C(8), v1[INT64_C(24)]);
-  }
-  if (v4[INT64_C(6)]) {
-    sci_val(INT64_C(7), INT64_C(1), INT64_C(1), v1[INT64_C(25)]);
-    sci_val(INT64_C(7), INT64_C(1), INT64_C(2), v1[INT64_C(26)]);
-    sci_val(INT64_C(7), INT64_C(1), INT64_C(3), v1[INT64_C(27)]);
-    sci_val(INT64_C(7), INT64_C(1), INT64_C(4), v1[INT64_C(28)]);
-    sci_val(INT64_C(7), INT64_C(1), INT64_C(5), v1[INT64_C(29)]);
-    sci_val(INT64_C(7), INT64_C(1), INT64_C(6), v1[INT64_C(30)]);
-    sci_val(INT64_C(7), INT64_C(1), INT64_C(7), v1[INT64_C(31)]);
-    sci_val(INT64_C(7), INT64_C(1), INT64_C(8), v1[INT64_C(32)]);
-  }
-  if (v4[INT64_C(7)]) {
-    sci_val(INT64_C(8), INT64_C(1), INT64_C(1), v1[INT64_C(33)]);
-    sci_val(INT64_C(8), INT64_C(1), INT64_C(2), v1[INT64_C(34)]);
-    sci_val(INT64_C(8), INT64_C(1), INT64_C(3), v1[INT64_C(35)]);
-    sci_val(INT64_C(8), INT64_C(1), INT64_C(4), v1[INT64_C(36)]);
-    sci_val(INT64_C(8), INT64_C(1), INT64_C(5), v1[INT64_C(37)]);
-    sci_val(INT64_C(8), INT64_C(1), INT64_C(6), v1[INT64_C(38)]);
-    sci_val(INT64_C(8), INT64_C(1), INT64_C(7), v1[INT64_C(39)]);
-    sci_val(INT64_C(8), INT64_C(1), INT64_C(8), v1[INT64_C(40)]);
-  }
-  if (v4[INT64_C(8)]) {
-    sci_val(INT64_C(9), INT64_C(1), INT64_C(1), v1[INT64_C(41)]);
-    sci_val(INT64_C(9), INT64_C(2), INT64_C(1), v1[INT64_C(42)]);
-    sci_val(INT64_C(9), INT64_C(3), INT64_C(1), v1[INT64_C(43)]);
-    sci_val(INT64_C(9), INT64_C(4), INT64_C(1), v1[INT64_C(44)]);
-    sci_val(INT64_C(9), INT64_C(5), INT64_C(1), v1[INT64_C(45)]);
-    sci_val(INT64_C(9), INT64_C(6), INT64_C(1), v1[INT64_C(46)]);
-    sci_val(INT64_C(9), INT64_C(7), INT64_C(1), v1[INT64_C(47)]);
-    sci_val(INT64_C(9), INT64_C(8), INT64_C(1), v1[INT64_C(48)]);
-  }
-  if (v4[INT64_C(9)]) {
-    sci_val(INT64_C(10), INT64_C(1), INT64_C(1), v1[INT64_C(49)]);
-  }
-  if (v4[INT64_C(0)]) {
-    e1 = INT64_C(1);
-    if ((int64_t)(e1 >= INT64_C(0))) {
-      v6[INT64_C(0)] = (d1 + e1);
-      v7[INT64_C(0)] = o1;
-      o1 = (o1 + INT64_C(1));
-    }
-  }
-  if (v4[INT64_C(3)]) {
-    v2[INT64_C(0)] = v1[INT64_C(17)];
-    v2[INT64_C(1)] = v1[INT64_C(18)];
-    v2[INT64_C(2)] = v1[INT64_C(19)];
-    v2[INT64_C(3)] = v1[INT64_C(20)];
-    v2[INT64_C(4)] = v1[INT64_C(21)];
-    v2[INT64_C(5)] = v1[INT64_C(22)];
-    v2[INT64_C(6)] = v1[INT64_C(23)];
-    v2[INT64_C(7)] = v1[INT64_C(24)];
-  }
-}
-static void g1(void) {
-  for (k1 = INT64_C(0); k1 < INT64_C(10); k1 = k1 + INT64_C(1)) {
-    v4[k1] = INT64_C(0);
-  }
-}
 static void g3(void) {
   b1 = (-INT64_C(1));
   for (k1 = INT64_C(0); k1 < INT64_C(1); k1 = k1 + INT64_C(1)) {
@@ -284,52 +128,79 @@ static void g3(void) {
 }
 static void s0(void) {
   sci_start();
-  v4[INT64_C(6)] = INT64_C(1);
   f7();
+  for (t1 = INT64_C(0); t1 < INT64_C(8); t1 = t1 + INT64_C(1)) {
+    sci_val(INT64_C(7), INT64_C(1), (t1 + INT64_C(1)), v1[(t1 + INT64_C(25))]);
+  }
 }
 static void s1(void) {
   sci_event(d1, INT64_C(1), INT64_C(1));
-  v4[INT64_C(0)] = INT64_C(1);
   f1();
-  v4[INT64_C(1)] = INT64_C(1);
   f2();
-  v4[INT64_C(3)] = INT64_C(1);
   f4();
-  v4[INT64_C(2)] = INT64_C(1);
   f3();
-  v4[INT64_C(4)] = INT64_C(1);
   f5();
-  v4[INT64_C(5)] = INT64_C(1);
   f6();
-  v4[INT64_C(7)] = INT64_C(1);
   f8();
-  v4[INT64_C(8)] = INT64_C(1);
   f9();
-  v4[INT64_C(9)] = INT64_C(1);
   f10();
+  sci_val(INT64_C(2), INT64_C(1), INT64_C(1), v1[INT64_C(0)]);
+  sci_val(INT64_C(3), INT64_C(1), INT64_C(1), v1[INT64_C(1)]);
+  for (t1 = INT64_C(0); t1 < INT64_C(8); t1 = t1 + INT64_C(1)) {
+    sci_val(INT64_C(4), INT64_C(1), (t1 + INT64_C(1)), v1[(t1 + INT64_C(2))]);
+  }
+  for (t1 = INT64_C(0); t1 < INT64_C(7); t1 = t1 + INT64_C(1)) {
+    sci_val(INT64_C(5), INT64_C(1), (t1 + INT64_C(1)), v1[(t1 + INT64_C(10))]);
+  }
+  for (t1 = INT64_C(0); t1 < INT64_C(8); t1 = t1 + INT64_C(1)) {
+    sci_val(INT64_C(6), INT64_C(1), (t1 + INT64_C(1)), v1[(t1 + INT64_C(17))]);
+  }
+  for (t1 = INT64_C(0); t1 < INT64_C(8); t1 = t1 + INT64_C(1)) {
+    sci_val(INT64_C(8), INT64_C(1), (t1 + INT64_C(1)), v1[(t1 + INT64_C(33))]);
+  }
+  sci_val(INT64_C(9), INT64_C(1), INT64_C(1), v1[INT64_C(41)]);
+  sci_val(INT64_C(9), INT64_C(2), INT64_C(1), v1[INT64_C(42)]);
+  sci_val(INT64_C(9), INT64_C(3), INT64_C(1), v1[INT64_C(43)]);
+  sci_val(INT64_C(9), INT64_C(4), INT64_C(1), v1[INT64_C(44)]);
+  sci_val(INT64_C(9), INT64_C(5), INT64_C(1), v1[INT64_C(45)]);
+  sci_val(INT64_C(9), INT64_C(6), INT64_C(1), v1[INT64_C(46)]);
+  sci_val(INT64_C(9), INT64_C(7), INT64_C(1), v1[INT64_C(47)]);
+  sci_val(INT64_C(9), INT64_C(8), INT64_C(1), v1[INT64_C(48)]);
+  sci_val(INT64_C(10), INT64_C(1), INT64_C(1), v1[INT64_C(49)]);
+  e1 = INT64_C(1);
+  if ((int64_t)(e1 >= INT64_C(0))) {
+    v6[INT64_C(0)] = (d1 + e1);
+    v7[INT64_C(0)] = o1;
+    o1 = (o1 + INT64_C(1));
+  }
+  v2[INT64_C(0)] = v1[INT64_C(17)];
+  v2[INT64_C(1)] = v1[INT64_C(18)];
+  v2[INT64_C(2)] = v1[INT64_C(19)];
+  v2[INT64_C(3)] = v1[INT64_C(20)];
+  v2[INT64_C(4)] = v1[INT64_C(21)];
+  v2[INT64_C(5)] = v1[INT64_C(22)];
+  v2[INT64_C(6)] = v1[INT64_C(23)];
+  v2[INT64_C(7)] = v1[INT64_C(24)];
 }
 static void g4(void) {
   if ((int64_t)(d2 < INT64_C(0))) {
     sci_end(INT64_C(2));
+  } else {
+    if ((int64_t)(d2 > u1)) {
+      sci_end(INT64_C(3));
+    } else {
+      d1 = v6[b1];
+      v6[b1] = (-INT64_C(1));
+      s1();
+      g3();
+    }
   }
-  if ((int64_t)(d2 > u1)) {
-    sci_end(INT64_C(3));
-  }
-  d1 = v6[b1];
-  v6[b1] = (-INT64_C(1));
-  g1();
-  if ((int64_t)(b1 == INT64_C(0))) {
-    s1();
-  }
-  g2();
-  g3();
 }
 void sci_main(void) {
   o1 = INT64_C(1);
   u1 = sci_until();
   n1 = sci_limit();
   s0();
-  g2();
   g3();
   for (i1 = INT64_C(0); i1 < n1; i1 = i1 + INT64_C(1)) {
     g4();

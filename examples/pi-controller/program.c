@@ -116,54 +116,6 @@ static void f11(void) {
   }
   v1[INT64_C(9)] = t1;
 }
-static void g2(void) {
-  if (v4[INT64_C(1)]) {
-    sci_val(INT64_C(2), INT64_C(1), INT64_C(1), v1[INT64_C(0)]);
-  }
-  if (v4[INT64_C(2)]) {
-    sci_val(INT64_C(3), INT64_C(1), INT64_C(1), v1[INT64_C(1)]);
-  }
-  if (v4[INT64_C(3)]) {
-    sci_val(INT64_C(4), INT64_C(1), INT64_C(1), v1[INT64_C(2)]);
-  }
-  if (v4[INT64_C(4)]) {
-    sci_val(INT64_C(5), INT64_C(1), INT64_C(1), v1[INT64_C(3)]);
-  }
-  if (v4[INT64_C(5)]) {
-    sci_val(INT64_C(6), INT64_C(1), INT64_C(1), v1[INT64_C(4)]);
-  }
-  if (v4[INT64_C(6)]) {
-    sci_val(INT64_C(7), INT64_C(1), INT64_C(1), v1[INT64_C(5)]);
-  }
-  if (v4[INT64_C(7)]) {
-    sci_val(INT64_C(8), INT64_C(1), INT64_C(1), v1[INT64_C(6)]);
-  }
-  if (v4[INT64_C(8)]) {
-    sci_val(INT64_C(9), INT64_C(1), INT64_C(1), v1[INT64_C(7)]);
-  }
-  if (v4[INT64_C(9)]) {
-    sci_val(INT64_C(10), INT64_C(1), INT64_C(1), v1[INT64_C(8)]);
-  }
-  if (v4[INT64_C(10)]) {
-    sci_val(INT64_C(11), INT64_C(1), INT64_C(1), v1[INT64_C(9)]);
-  }
-  if (v4[INT64_C(0)]) {
-    e1 = INT64_C(10);
-    if ((int64_t)(e1 >= INT64_C(0))) {
-      v6[INT64_C(0)] = (d1 + e1);
-      v7[INT64_C(0)] = o1;
-      o1 = (o1 + INT64_C(1));
-    }
-  }
-  if (v4[INT64_C(5)]) {
-    v2[INT64_C(0)] = v1[INT64_C(9)];
-  }
-}
-static void g1(void) {
-  for (k1 = INT64_C(0); k1 < INT64_C(11); k1 = k1 + INT64_C(1)) {
-    v4[k1] = INT64_C(0);
-  }
-}
 static void g3(void) {
   b1 = (-INT64_C(1));
   for (k1 = INT64_C(0); k1 < INT64_C(1); k1 = k1 + INT64_C(1)) {
@@ -181,51 +133,54 @@ static void s0(void) {
 }
 static void s1(void) {
   sci_event(d1, INT64_C(1), INT64_C(1));
-  v4[INT64_C(0)] = INT64_C(1);
   f1();
-  v4[INT64_C(1)] = INT64_C(1);
   f2();
-  v4[INT64_C(2)] = INT64_C(1);
   f3();
-  v4[INT64_C(5)] = INT64_C(1);
   f6();
-  v4[INT64_C(3)] = INT64_C(1);
   f4();
-  v4[INT64_C(4)] = INT64_C(1);
   f5();
-  v4[INT64_C(6)] = INT64_C(1);
   f7();
-  v4[INT64_C(7)] = INT64_C(1);
   f8();
-  v4[INT64_C(8)] = INT64_C(1);
   f9();
-  v4[INT64_C(9)] = INT64_C(1);
   f10();
-  v4[INT64_C(10)] = INT64_C(1);
   f11();
+  sci_val(INT64_C(2), INT64_C(1), INT64_C(1), v1[INT64_C(0)]);
+  sci_val(INT64_C(3), INT64_C(1), INT64_C(1), v1[INT64_C(1)]);
+  sci_val(INT64_C(4), INT64_C(1), INT64_C(1), v1[INT64_C(2)]);
+  sci_val(INT64_C(5), INT64_C(1), INT64_C(1), v1[INT64_C(3)]);
+  sci_val(INT64_C(6), INT64_C(1), INT64_C(1), v1[INT64_C(4)]);
+  sci_val(INT64_C(7), INT64_C(1), INT64_C(1), v1[INT64_C(5)]);
+  sci_val(INT64_C(8), INT64_C(1), INT64_C(1), v1[INT64_C(6)]);
+  sci_val(INT64_C(9), INT64_C(1), INT64_C(1), v1[INT64_C(7)]);
+  sci_val(INT64_C(10), INT64_C(1), INT64_C(1), v1[INT64_C(8)]);
+  sci_val(INT64_C(11), INT64_C(1), INT64_C(1), v1[INT64_C(9)]);
+  e1 = INT64_C(10);
+  if ((int64_t)(e1 >= INT64_C(0))) {
+    v6[INT64_C(0)] = (d1 + e1);
+    v7[INT64_C(0)] = o1;
+    o1 = (o1 + INT64_C(1));
+  }
+  v2[INT64_C(0)] = v1[INT64_C(9)];
 }
 static void g4(void) {
   if ((int64_t)(d2 < INT64_C(0))) {
     sci_end(INT64_C(2));
+  } else {
+    if ((int64_t)(d2 > u1)) {
+      sci_end(INT64_C(3));
+    } else {
+      d1 = v6[b1];
+      v6[b1] = (-INT64_C(1));
+      s1();
+      g3();
+    }
   }
-  if ((int64_t)(d2 > u1)) {
-    sci_end(INT64_C(3));
-  }
-  d1 = v6[b1];
-  v6[b1] = (-INT64_C(1));
-  g1();
-  if ((int64_t)(b1 == INT64_C(0))) {
-    s1();
-  }
-  g2();
-  g3();
 }
 void sci_main(void) {
   o1 = INT64_C(1);
   u1 = sci_until();
   n1 = sci_limit();
   s0();
-  g2();
   g3();
   for (i1 = INT64_C(0); i1 < n1; i1 = i1 + INT64_C(1)) {
     g4();

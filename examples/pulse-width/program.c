@@ -43,34 +43,6 @@ static void f4(void) {
 static void f5(void) {
   v1[INT64_C(2)] = (int64_t)(v1[INT64_C(0)] < v1[INT64_C(1)]);
 }
-static void g2(void) {
-  if (v4[INT64_C(1)]) {
-    sci_val(INT64_C(2), INT64_C(1), INT64_C(1), v1[INT64_C(0)]);
-  }
-  if (v4[INT64_C(3)]) {
-    sci_val(INT64_C(4), INT64_C(1), INT64_C(1), v1[INT64_C(1)]);
-  }
-  if (v4[INT64_C(4)]) {
-    sci_val(INT64_C(5), INT64_C(1), INT64_C(1), v1[INT64_C(2)]);
-  }
-  if (v4[INT64_C(0)]) {
-    e1 = INT64_C(1);
-    if ((int64_t)(e1 >= INT64_C(0))) {
-      v6[INT64_C(0)] = (d1 + e1);
-      v7[INT64_C(0)] = o1;
-      o1 = (o1 + INT64_C(1));
-    }
-  }
-  if (v4[INT64_C(1)]) {
-    v2[INT64_C(0)] = ((int64_t)((v2[INT64_C(0)] + INT64_C(1)) < INT64_C(8)) * (v2[INT64_C(0)] + INT64_C(1)));
-  }
-}
-static void g1(void) {
-  for (k1 = INT64_C(0); k1 < INT64_C(5); k1 = k1 + INT64_C(1)) {
-    v4[k1] = INT64_C(0);
-    v5[k1] = INT64_C(0);
-  }
-}
 static void g3(void) {
   b1 = (-INT64_C(1));
   for (k1 = INT64_C(0); k1 < INT64_C(1); k1 = k1 + INT64_C(1)) {
@@ -88,11 +60,10 @@ static void s0(void) {
 }
 static void s1(void) {
   sci_event(d1, INT64_C(1), INT64_C(1));
-  v4[INT64_C(0)] = INT64_C(1);
+  v5[INT64_C(2)] = INT64_C(0);
+  v4[INT64_C(3)] = INT64_C(0);
   f1();
-  v4[INT64_C(1)] = INT64_C(1);
   f2();
-  v4[INT64_C(2)] = INT64_C(1);
   f3();
   v5[INT64_C(2)] = (INT64_C(2) - (int64_t)(v1[INT64_C(0)] > INT64_C(0)));
   if ((int64_t)(v5[INT64_C(2)] == INT64_C(2))) {
@@ -101,31 +72,39 @@ static void s1(void) {
   if (v4[INT64_C(3)]) {
     f4();
   }
-  v4[INT64_C(4)] = INT64_C(1);
   f5();
+  sci_val(INT64_C(2), INT64_C(1), INT64_C(1), v1[INT64_C(0)]);
+  if (v4[INT64_C(3)]) {
+    sci_val(INT64_C(4), INT64_C(1), INT64_C(1), v1[INT64_C(1)]);
+  }
+  sci_val(INT64_C(5), INT64_C(1), INT64_C(1), v1[INT64_C(2)]);
+  e1 = INT64_C(1);
+  if ((int64_t)(e1 >= INT64_C(0))) {
+    v6[INT64_C(0)] = (d1 + e1);
+    v7[INT64_C(0)] = o1;
+    o1 = (o1 + INT64_C(1));
+  }
+  v2[INT64_C(0)] = ((int64_t)((v2[INT64_C(0)] + INT64_C(1)) < INT64_C(8)) * (v2[INT64_C(0)] + INT64_C(1)));
 }
 static void g4(void) {
   if ((int64_t)(d2 < INT64_C(0))) {
     sci_end(INT64_C(2));
+  } else {
+    if ((int64_t)(d2 > u1)) {
+      sci_end(INT64_C(3));
+    } else {
+      d1 = v6[b1];
+      v6[b1] = (-INT64_C(1));
+      s1();
+      g3();
+    }
   }
-  if ((int64_t)(d2 > u1)) {
-    sci_end(INT64_C(3));
-  }
-  d1 = v6[b1];
-  v6[b1] = (-INT64_C(1));
-  g1();
-  if ((int64_t)(b1 == INT64_C(0))) {
-    s1();
-  }
-  g2();
-  g3();
 }
 void sci_main(void) {
   o1 = INT64_C(1);
   u1 = sci_until();
   n1 = sci_limit();
   s0();
-  g2();
   g3();
   for (i1 = INT64_C(0); i1 < n1; i1 = i1 + INT64_C(1)) {
     g4();

@@ -69,27 +69,23 @@ static void f10(void) {
 }
 static void f11(void) {
   if (((v3[INT64_C(10)] / INT64_C(1)) % INT64_C(2))) {
-    v1[INT64_C(17)] = v1[INT64_C(1)];
-    v1[INT64_C(18)] = v1[INT64_C(2)];
-    v1[INT64_C(19)] = v1[INT64_C(3)];
-    v1[INT64_C(20)] = v1[INT64_C(4)];
+    for (t1 = INT64_C(0); t1 < INT64_C(4); t1 = t1 + INT64_C(1)) {
+      v1[(t1 + INT64_C(17))] = v1[(t1 + INT64_C(1))];
+    }
   } else {
     if (((v3[INT64_C(10)] / INT64_C(2)) % INT64_C(2))) {
-      v1[INT64_C(17)] = v1[INT64_C(5)];
-      v1[INT64_C(18)] = v1[INT64_C(6)];
-      v1[INT64_C(19)] = v1[INT64_C(7)];
-      v1[INT64_C(20)] = v1[INT64_C(8)];
+      for (t1 = INT64_C(0); t1 < INT64_C(4); t1 = t1 + INT64_C(1)) {
+        v1[(t1 + INT64_C(17))] = v1[(t1 + INT64_C(5))];
+      }
     } else {
       if (((v3[INT64_C(10)] / INT64_C(4)) % INT64_C(2))) {
-        v1[INT64_C(17)] = v1[INT64_C(9)];
-        v1[INT64_C(18)] = v1[INT64_C(10)];
-        v1[INT64_C(19)] = v1[INT64_C(11)];
-        v1[INT64_C(20)] = v1[INT64_C(12)];
+        for (t1 = INT64_C(0); t1 < INT64_C(4); t1 = t1 + INT64_C(1)) {
+          v1[(t1 + INT64_C(17))] = v1[(t1 + INT64_C(9))];
+        }
       } else {
-        v1[INT64_C(17)] = v1[INT64_C(13)];
-        v1[INT64_C(18)] = v1[INT64_C(14)];
-        v1[INT64_C(19)] = v1[INT64_C(15)];
-        v1[INT64_C(20)] = v1[INT64_C(16)];
+        for (t1 = INT64_C(0); t1 < INT64_C(4); t1 = t1 + INT64_C(1)) {
+          v1[(t1 + INT64_C(17))] = v1[(t1 + INT64_C(13))];
+        }
       }
     }
   }
@@ -104,34 +100,29 @@ static void g2(void) {
     sci_val(INT64_C(5), INT64_C(1), INT64_C(1), v1[INT64_C(0)]);
   }
   if (v4[INT64_C(6)]) {
-    sci_val(INT64_C(7), INT64_C(1), INT64_C(1), v1[INT64_C(1)]);
-    sci_val(INT64_C(7), INT64_C(1), INT64_C(2), v1[INT64_C(2)]);
-    sci_val(INT64_C(7), INT64_C(1), INT64_C(3), v1[INT64_C(3)]);
-    sci_val(INT64_C(7), INT64_C(1), INT64_C(4), v1[INT64_C(4)]);
+    for (t1 = INT64_C(0); t1 < INT64_C(4); t1 = t1 + INT64_C(1)) {
+      sci_val(INT64_C(7), INT64_C(1), (t1 + INT64_C(1)), v1[(t1 + INT64_C(1))]);
+    }
   }
   if (v4[INT64_C(7)]) {
-    sci_val(INT64_C(8), INT64_C(1), INT64_C(1), v1[INT64_C(5)]);
-    sci_val(INT64_C(8), INT64_C(1), INT64_C(2), v1[INT64_C(6)]);
-    sci_val(INT64_C(8), INT64_C(1), INT64_C(3), v1[INT64_C(7)]);
-    sci_val(INT64_C(8), INT64_C(1), INT64_C(4), v1[INT64_C(8)]);
+    for (t1 = INT64_C(0); t1 < INT64_C(4); t1 = t1 + INT64_C(1)) {
+      sci_val(INT64_C(8), INT64_C(1), (t1 + INT64_C(1)), v1[(t1 + INT64_C(5))]);
+    }
   }
   if (v4[INT64_C(8)]) {
-    sci_val(INT64_C(9), INT64_C(1), INT64_C(1), v1[INT64_C(9)]);
-    sci_val(INT64_C(9), INT64_C(1), INT64_C(2), v1[INT64_C(10)]);
-    sci_val(INT64_C(9), INT64_C(1), INT64_C(3), v1[INT64_C(11)]);
-    sci_val(INT64_C(9), INT64_C(1), INT64_C(4), v1[INT64_C(12)]);
+    for (t1 = INT64_C(0); t1 < INT64_C(4); t1 = t1 + INT64_C(1)) {
+      sci_val(INT64_C(9), INT64_C(1), (t1 + INT64_C(1)), v1[(t1 + INT64_C(9))]);
+    }
   }
   if (v4[INT64_C(9)]) {
-    sci_val(INT64_C(10), INT64_C(1), INT64_C(1), v1[INT64_C(13)]);
-    sci_val(INT64_C(10), INT64_C(1), INT64_C(2), v1[INT64_C(14)]);
-    sci_val(INT64_C(10), INT64_C(1), INT64_C(3), v1[INT64_C(15)]);
-    sci_val(INT64_C(10), INT64_C(1), INT64_C(4), v1[INT64_C(16)]);
+    for (t1 = INT64_C(0); t1 < INT64_C(4); t1 = t1 + INT64_C(1)) {
+      sci_val(INT64_C(10), INT64_C(1), (t1 + INT64_C(1)), v1[(t1 + INT64_C(13))]);
+    }
   }
   if (v4[INT64_C(10)]) {
-    sci_val(INT64_C(11), INT64_C(1), INT64_C(1), v1[INT64_C(17)]);
-    sci_val(INT64_C(11), INT64_C(1), INT64_C(2), v1[INT64_C(18)]);
-    sci_val(INT64_C(11), INT64_C(1), INT64_C(3), v1[INT64_C(19)]);
-    sci_val(INT64_C(11), INT64_C(1), INT64_C(4), v1[INT64_C(20)]);
+    for (t1 = INT64_C(0); t1 < INT64_C(4); t1 = t1 + INT64_C(1)) {
+      sci_val(INT64_C(11), INT64_C(1), (t1 + INT64_C(1)), v1[(t1 + INT64_C(17))]);
+    }
   }
   if (v4[INT64_C(11)]) {
     sci_val(INT64_C(12), INT64_C(1), INT64_C(1), v1[INT64_C(21)]);
@@ -197,6 +188,7 @@ static void s0(void) {
   f9();
   v4[INT64_C(9)] = INT64_C(1);
   f10();
+  g2();
 }
 static void s1(void) {
   sci_event(d1, INT64_C(1), INT64_C(1));
@@ -260,6 +252,7 @@ static void s1(void) {
   if (v4[INT64_C(3)]) {
     f4();
   }
+  g2();
 }
 static void s2(void) {
   sci_event(d1, INT64_C(2), INT64_C(1));
@@ -295,6 +288,7 @@ static void s2(void) {
   if (v4[INT64_C(3)]) {
     f4();
   }
+  g2();
 }
 static void s3(void) {
   sci_event(d1, INT64_C(3), INT64_C(1));
@@ -330,6 +324,7 @@ static void s3(void) {
   if (v4[INT64_C(3)]) {
     f4();
   }
+  g2();
 }
 static void s4(void) {
   sci_event(d1, INT64_C(4), INT64_C(1));
@@ -365,31 +360,34 @@ static void s4(void) {
   if (v4[INT64_C(3)]) {
     f4();
   }
+  g2();
 }
 static void g4(void) {
   if ((int64_t)(d2 < INT64_C(0))) {
     sci_end(INT64_C(2));
+  } else {
+    if ((int64_t)(d2 > u1)) {
+      sci_end(INT64_C(3));
+    } else {
+      d1 = v6[b1];
+      v6[b1] = (-INT64_C(1));
+      g1();
+      if ((int64_t)(b1 < INT64_C(2))) {
+        if ((int64_t)(b1 < INT64_C(1))) {
+          s1();
+        } else {
+          s2();
+        }
+      } else {
+        if ((int64_t)(b1 < INT64_C(3))) {
+          s3();
+        } else {
+          s4();
+        }
+      }
+      g3();
+    }
   }
-  if ((int64_t)(d2 > u1)) {
-    sci_end(INT64_C(3));
-  }
-  d1 = v6[b1];
-  v6[b1] = (-INT64_C(1));
-  g1();
-  if ((int64_t)(b1 == INT64_C(0))) {
-    s1();
-  }
-  if ((int64_t)(b1 == INT64_C(1))) {
-    s2();
-  }
-  if ((int64_t)(b1 == INT64_C(2))) {
-    s3();
-  }
-  if ((int64_t)(b1 == INT64_C(3))) {
-    s4();
-  }
-  g2();
-  g3();
 }
 void sci_main(void) {
   v6[INT64_C(0)] = (-INT64_C(1));
@@ -399,7 +397,6 @@ void sci_main(void) {
   u1 = sci_until();
   n1 = sci_limit();
   s0();
-  g2();
   g3();
   for (i1 = INT64_C(0); i1 < n1; i1 = i1 + INT64_C(1)) {
     g4();

@@ -52,47 +52,6 @@ static void f6(void) {
 static void f7(void) {
   v1[INT64_C(4)] = v2[INT64_C(0)];
 }
-static void g2(void) {
-  if (v4[INT64_C(1)]) {
-    sci_val(INT64_C(2), INT64_C(1), INT64_C(1), v1[INT64_C(0)]);
-  }
-  if (v4[INT64_C(3)]) {
-    sci_val(INT64_C(4), INT64_C(1), INT64_C(1), v1[INT64_C(1)]);
-  }
-  if (v4[INT64_C(4)]) {
-    sci_val(INT64_C(5), INT64_C(1), INT64_C(1), v1[INT64_C(2)]);
-  }
-  if (v4[INT64_C(5)]) {
-    sci_val(INT64_C(6), INT64_C(1), INT64_C(1), v1[INT64_C(3)]);
-  }
-  if (v4[INT64_C(6)]) {
-    sci_val(INT64_C(7), INT64_C(1), INT64_C(1), v1[INT64_C(4)]);
-  }
-  if (v4[INT64_C(0)]) {
-    e1 = (((int64_t)(v1[INT64_C(0)] >= INT64_C(0)) * (((int64_t)(v1[INT64_C(0)] <= INT64_C(2147483647)) * v1[INT64_C(0)]) + ((int64_t)(v1[INT64_C(0)] > INT64_C(2147483647)) * INT64_C(2147483647)))) - (int64_t)(v1[INT64_C(0)] < INT64_C(0)));
-    if ((int64_t)(e1 >= INT64_C(0))) {
-      v6[INT64_C(0)] = (d1 + e1);
-      v7[INT64_C(0)] = o1;
-      o1 = (o1 + INT64_C(1));
-    }
-  }
-  if (v4[INT64_C(2)]) {
-    e1 = INT64_C(50);
-    if ((int64_t)(e1 >= INT64_C(0))) {
-      v6[INT64_C(1)] = (d1 + e1);
-      v7[INT64_C(1)] = o1;
-      o1 = (o1 + INT64_C(1));
-    }
-  }
-  if (v4[INT64_C(6)]) {
-    v2[INT64_C(0)] = ((int64_t)((v2[INT64_C(0)] + INT64_C(1)) < INT64_C(256)) * (v2[INT64_C(0)] + INT64_C(1)));
-  }
-}
-static void g1(void) {
-  for (k1 = INT64_C(0); k1 < INT64_C(7); k1 = k1 + INT64_C(1)) {
-    v4[k1] = INT64_C(0);
-  }
-}
 static void g3(void) {
   b1 = (-INT64_C(1));
   for (k1 = INT64_C(0); k1 < INT64_C(2); k1 = k1 + INT64_C(1)) {
@@ -107,49 +66,59 @@ static void g3(void) {
 }
 static void s0(void) {
   sci_start();
-  v4[INT64_C(3)] = INT64_C(1);
   f4();
-  v4[INT64_C(4)] = INT64_C(1);
   f5();
+  sci_val(INT64_C(4), INT64_C(1), INT64_C(1), v1[INT64_C(1)]);
+  sci_val(INT64_C(5), INT64_C(1), INT64_C(1), v1[INT64_C(2)]);
 }
 static void s1(void) {
   sci_event(d1, INT64_C(1), INT64_C(1));
-  v4[INT64_C(0)] = INT64_C(1);
   f1();
-  v4[INT64_C(1)] = INT64_C(1);
   f2();
-  v4[INT64_C(2)] = INT64_C(1);
   f3();
-  v4[INT64_C(5)] = INT64_C(1);
   v3[INT64_C(5)] = INT64_C(1);
   f6();
+  sci_val(INT64_C(2), INT64_C(1), INT64_C(1), v1[INT64_C(0)]);
+  sci_val(INT64_C(6), INT64_C(1), INT64_C(1), v1[INT64_C(3)]);
+  e1 = (((int64_t)(v1[INT64_C(0)] >= INT64_C(0)) * (((int64_t)(v1[INT64_C(0)] <= INT64_C(2147483647)) * v1[INT64_C(0)]) + ((int64_t)(v1[INT64_C(0)] > INT64_C(2147483647)) * INT64_C(2147483647)))) - (int64_t)(v1[INT64_C(0)] < INT64_C(0)));
+  if ((int64_t)(e1 >= INT64_C(0))) {
+    v6[INT64_C(0)] = (d1 + e1);
+    v7[INT64_C(0)] = o1;
+    o1 = (o1 + INT64_C(1));
+  }
+  e1 = INT64_C(50);
+  if ((int64_t)(e1 >= INT64_C(0))) {
+    v6[INT64_C(1)] = (d1 + e1);
+    v7[INT64_C(1)] = o1;
+    o1 = (o1 + INT64_C(1));
+  }
 }
 static void s2(void) {
   sci_event(d1, INT64_C(3), INT64_C(1));
-  v4[INT64_C(5)] = INT64_C(1);
   v3[INT64_C(5)] = INT64_C(2);
   f6();
-  v4[INT64_C(6)] = INT64_C(1);
   f7();
+  sci_val(INT64_C(6), INT64_C(1), INT64_C(1), v1[INT64_C(3)]);
+  sci_val(INT64_C(7), INT64_C(1), INT64_C(1), v1[INT64_C(4)]);
+  v2[INT64_C(0)] = ((int64_t)((v2[INT64_C(0)] + INT64_C(1)) < INT64_C(256)) * (v2[INT64_C(0)] + INT64_C(1)));
 }
 static void g4(void) {
   if ((int64_t)(d2 < INT64_C(0))) {
     sci_end(INT64_C(2));
+  } else {
+    if ((int64_t)(d2 > u1)) {
+      sci_end(INT64_C(3));
+    } else {
+      d1 = v6[b1];
+      v6[b1] = (-INT64_C(1));
+      if ((int64_t)(b1 < INT64_C(1))) {
+        s1();
+      } else {
+        s2();
+      }
+      g3();
+    }
   }
-  if ((int64_t)(d2 > u1)) {
-    sci_end(INT64_C(3));
-  }
-  d1 = v6[b1];
-  v6[b1] = (-INT64_C(1));
-  g1();
-  if ((int64_t)(b1 == INT64_C(0))) {
-    s1();
-  }
-  if ((int64_t)(b1 == INT64_C(1))) {
-    s2();
-  }
-  g2();
-  g3();
 }
 void sci_main(void) {
   v1[INT64_C(4)] = INT64_C(1);
@@ -161,7 +130,6 @@ void sci_main(void) {
   u1 = sci_until();
   n1 = sci_limit();
   s0();
-  g2();
   g3();
   for (i1 = INT64_C(0); i1 < n1; i1 = i1 + INT64_C(1)) {
     g4();

@@ -77,6 +77,15 @@ lines_next piece i byte within read =
 pub few_within : (i : ℕ) (piece : List ℕ) → i ≤ length piece → lines_of (take i piece) ≤ i
 few_within i piece within = let few = lines-within (take i piece) in let long = length-take-le i piece within in omega (arith, few, long)
 
+-- the lines of a front were counted, and those of what stands behind it are left
+pub counted_on : (piece rest front behind : List ℕ) (k lines few : ℕ) → front ≡ take k rest → behind ≡ drop k rest → lines + lines_of rest ≡ lines_of piece → few ≡ lines_of front
+    → (lines + few) + lines_of behind ≡ lines_of piece
+counted_on piece rest front behind k lines few in_front at_back so_far is =
+    let both = lines-append (take k rest) (drop k rest) in
+    let whole = ap lines_of (take-append-drop k rest) in
+    let one = ap lines_of in_front in
+    let two = ap lines_of at_back in omega (arith, both, whole, one, two, so_far, is)
+
 -- what was taken, with a piece that stands there
 took_piece : (text piece : List ℕ) (at : ℕ) → at ≤ length text → (rest : List ℕ) → drop at text ≡ piece ++ rest → take (at + length piece) text ≡ take at text ++ piece
 took_piece text piece at within rest is =

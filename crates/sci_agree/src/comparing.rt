@@ -1,5 +1,5 @@
 // A sink that compares what it is given.
-ghost use Rattle.std.specs.Prelude.{◌≡◌, ◌<◌, ◌^◌, ◌↔◌, ◌+◌, ◌++◌, ◌∷◌, [], true, false, length, slice_index, if◌then◌else◌, None, Some, IsTrue};
+ghost use Rattle.std.specs.Prelude.{◌≡◌, ◌<◌, ◌≤◌, ◌^◌, ◌↔◌, ◌+◌, ◌++◌, ◌∷◌, [], true, false, length, slice_index, if◌then◌else◌, None, Some, IsTrue};
 ghost use Rattle.sci_io.specs.Causes.{counted};
 ghost use Rattle.sci_io.specs.Taken.{TakesFront};
 ghost use Rattle.sci_agree.specs.Lines.{is_line_feed, lines_of};
@@ -8,6 +8,9 @@ ghost use Rattle.sci_agree.specs.Verdict.{IsVerdict};
 use crate::verdict::Verdict;
 use sci_io::{Failed, Sink};
 use std::marker::Model;
+
+// Of how many bytes the lines are counted together, in a byte, which can hold their number.
+const FRONT: usize = 192;
 
 /// A sink that compares what it is given with a text. It takes what agrees with the text, and the first byte that doesn't or that
 /// stands behind the text's end; from that byte on each call of `put` fails. It takes no memory.
@@ -42,13 +45,30 @@ fn lines_ended(byte: u8) -> u64
     if byte == b'\n' { 1 } else { 0 }
 }
 
+// How many lines the front of a piece ends. The count is a byte, so that the machine may look at many bytes side by side.
+fn front_lines(front: &[u8]) -> u8
+    requires { length front.now ≤ 192 }
+    ensures { result ≡ lines_of front.now }
+{
+    let mut lines: u8 = 0;
+    for byte in front {
+        let ended = lines_ended(*byte);
+        lines += ended as u8;
+    }
+    lines
+}
+
 // How many lines a piece ends.
 fn lines_within(piece: &[u8]) -> u64
     ensures { result ≡ lines_of piece.now }
 {
     let mut lines = 0;
-    for byte in piece {
-        lines += lines_ended(*byte);
+    let mut rest = piece;
+    while !rest.is_empty() {
+        let (front, behind) = rest.split_at(rest.len().min(FRONT));
+        let few = front_lines(front);
+        lines += few as u64;
+        rest = behind;
     }
     lines
 }

@@ -142,6 +142,7 @@ impl CellRule for LogicalOpRule {
         Kind::LogicalOp
     }
 
+    #[inline(always)]
     fn cell(&self, spec: &Words, _mask: u64, ins: &Entering, at: usize) -> Cell {
         let op = param(spec, 0);
         if is_equal(param(spec, 1), 0) {

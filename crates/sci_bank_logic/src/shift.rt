@@ -89,6 +89,7 @@ impl CellRule for ShiftRule {
         Kind::Shift
     }
 
+    #[inline(always)]
     fn cell(&self, spec: &Words, _mask: u64, ins: &Entering, at: usize) -> Cell {
         let v = only_input(spec, ins, at);
         let t = out_type(spec);

@@ -41,6 +41,7 @@ impl CellRule for AbsValueRule {
         Kind::AbsValue
     }
 
+    #[inline(always)]
     fn cell(&self, spec: &Words, _mask: u64, ins: &Entering, at: usize) -> Cell {
         abs_cell(out_type(spec), mode(spec), only_input(spec, ins, at))
     }

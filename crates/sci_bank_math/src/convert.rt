@@ -26,6 +26,7 @@ impl CellRule for ConvertRule {
         Kind::Convert
     }
 
+    #[inline(always)]
     fn cell(&self, spec: &Words, _mask: u64, ins: &Entering, at: usize) -> Cell {
         fitted_cell(spec, element(ins, at))
     }

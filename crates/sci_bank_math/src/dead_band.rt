@@ -45,6 +45,7 @@ impl CellRule for DeadBandRule {
         Kind::DeadBand
     }
 
+    #[inline(always)]
     fn cell(&self, spec: &Words, _mask: u64, ins: &Entering, at: usize) -> Cell {
         beyond_cell(
             out_type(spec),

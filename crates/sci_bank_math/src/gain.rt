@@ -26,6 +26,7 @@ impl CellRule for GainBlkRule {
         Kind::GainBlk
     }
 
+    #[inline(always)]
     fn cell(&self, spec: &Words, _mask: u64, ins: &Entering, at: usize) -> Cell {
         product_cell(spec, param(spec, 1), only_input(spec, ins, at))
     }

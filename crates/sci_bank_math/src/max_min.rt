@@ -56,6 +56,7 @@ impl CellRule for MaxMinRule {
         Kind::MaxMin
     }
 
+    #[inline(always)]
     fn cell(&self, spec: &Words, _mask: u64, ins: &Entering, at: usize) -> Cell {
         if is_equal(param(spec, 0), 1) {
             Cell::Value(least(spec, ins, at))

@@ -27,6 +27,7 @@ impl CellRule for ProductRule {
         Kind::Product
     }
 
+    #[inline(always)]
     fn cell(&self, spec: &Words, _mask: u64, ins: &Entering, at: usize) -> Cell {
         let a = alike_input(spec, ins, 0, at);
         let b = alike_input(spec, ins, 1, at);

@@ -22,6 +22,7 @@ pub struct SummationRule;
 pub type Summation = KindBank<Plain<SummationRule>>;
 
 /// An element of input `k`, and its range. Most blocks have inputs of one element, whose places need not be worked out.
+#[inline(always)]
 fn term(spec: &Words, ins: &Entering, k: usize, at: usize) -> i64
     requires typed { IsOfKind SummationKind spec.now }
     requires ins { Fills spec.now.ins ins.now }
@@ -37,6 +38,7 @@ fn term(spec: &Words, ins: &Entering, k: usize, at: usize) -> i64
 }
 
 /// Input `k` with its sign.
+#[inline(always)]
 fn signed_term(spec: &Words, ins: &Entering, k: usize, at: usize) -> i64
     requires typed { IsOfKind SummationKind spec.now }
     requires ins { Fills spec.now.ins ins.now }
@@ -55,6 +57,7 @@ fn signed_term(spec: &Words, ins: &Entering, k: usize, at: usize) -> i64
 }
 
 /// The exact sum at one element.
+#[inline(always)]
 fn signed_sum(spec: &Words, ins: &Entering, at: usize) -> i64
     requires typed { IsOfKind SummationKind spec.now }
     requires ins { Fills spec.now.ins ins.now }
@@ -79,6 +82,7 @@ impl CellRule for SummationRule {
         Kind::Summation
     }
 
+    #[inline(always)]
     fn cell(&self, spec: &Words, _mask: u64, ins: &Entering, at: usize) -> Cell {
         fitted_cell(spec, signed_sum(spec, ins, at))
     }

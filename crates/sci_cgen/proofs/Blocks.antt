@@ -1,5 +1,5 @@
 -- Each block has one function, which is called as often as the schedule has entries of the block.
-use Rattle.std.proofs.Common.{◌≡◌, ℕ, zero, suc, ◌+◌, ◌-◌, ◌<◌, ◌≤◌, inl, inr, List, [], ◌∷◌, ◌++◌, length, take, slice_index_or, Contains, Bool, true, false, ◌||◌, not, nat_eq, nat_lt, if◌then◌else◌, refl, sym, ap, ◌∙◌, subst, arith, ℤ, pos, negsuc, eq-eqb, ne_eqb}
+use Rattle.std.proofs.Common.{◌≡◌, ℕ, zero, suc, ◌+◌, ◌-◌, ◌<◌, ◌≤◌, ◌^◌, inl, inr, List, [], ◌∷◌, ◌++◌, length, take, slice_index_or, Contains, Bool, true, false, ◌||◌, ◌&&◌, not, nat_eq, nat_lt, if◌then◌else◌, refl, sym, ap, ◌∙◌, subst, arith, ℤ, pos, negsuc, eq-eqb, ne_eqb}
 use Rattle.std.specs.Int.{bit_at}
 use Rattle.std.proofs.lemmas.Bool.{cases_eq, cond-false}
 use Rattle.sci_base.specs.Fit.{int_eq}
@@ -20,13 +20,18 @@ use Rattle.c_ast.specs.Syntax.{Exp, bin, var, scalar, cell, finish, Statement, s
 use Rattle.c_mean.specs.Meaning.{same_name}
 use Rattle.c_steps.specs.Texts.{May, number, joined, upto, statement_within, block_within}
 use Rattle.c_steps.proofs.Memory.{and_left, and_right, other_name}
-use Rattle.sci_cgen_blocks.specs.Texts.{values, states, masks, body_text, next_text, branch_expression}
+use Rattle.sci_cgen_blocks.specs.Texts.{values, states, masks, body_text, next_text, delay_expression, branch_expression}
+use Rattle.sci_due.specs.Texts.{program_text}
 use Rattle.sci_cgen_blocks.specs.Meant.{body_may, next_may}
 use Rattle.sci_cgen_blocks.proofs.Assigned.{body_within, next_within}
 use Rattle.sci_due.specs.Due.{dates, orders, scan as scan_name}
-use Rattle.sci_cgen.specs.Names.{branches, until_name, next_date, halt_name, block_name, settle_name, choose_name}
-use Rattle.sci_cgen.specs.Program.{natural, one, is_active, mark, is_taken, end_where, has_halt, texts, text_where, only_where, port_count, places_of, is_scheduled, block_function, with_bit, with_bits, guard_text, call_text, entry_text, header_text, source_function, clear_text, has_sync, elements_shown, outputs_shown, values_shown, delay_text, state_text, halt_text, settle_text, halted_text, fire_text, event_text, turn_text, first_text, begun_text, list_begun, held_begun, state_begun, firing_at, programmed_before, firing_begun, source_begun, outset_text, begin_text, main_text, functions_upto, functions_where, other_functions, called_functions, event_function, functions}
-use Rattle.sci_cgen.proofs.Parted.{reads, masked, guarded, called, all_shown, all_delays, all_states, all_halts, all_held, first_states, all_begun, until_asked, where_ports, fires_source, starting, running, own, blocks, sources, before}
+use Rattle.sci_cgen.specs.declared.parts.Part.{Part}
+use Rattle.sci_cgen.specs.declared.parts.Part.TheVariants.{Absent, Sure, Marked}
+use Rattle.sci_cgen.specs.Names.{actives, branches, until_name, next_date, halt_name, block_name, clear_name, choose_name}
+use Rattle.sci_cgen.specs.Program.{natural, one, has_own, part_in, is_active, where_part, mark, is_taken, end_or, has_halt, texts, text_where, only_where, port_count, places_of, is_scheduled, block_function, with_bit, with_bits, guard_text, call_text, entry_text, cleared_text, header_text, pass_text, following_text, source_function, clear_text, has_sync, elements_shown, outputs_shown, values_shown, delay_text, state_text, halt_text, settle_text, halted_or, react_step, react_deep, fire_text, event_text, turn_text, first_text, begun_text, list_begun, held_begun, state_begun, firing_at, programmed_before, firing_begun, source_begun, outset_text, begin_text, main_text, functions_upto, functions_where, other_functions, called_functions, event_function, functions, looped_shown, output_shown}
+use Rattle.sci_cgen.proofs.Parted.{reads, masked, guarded, called, all_shown, all_delays, all_states, all_halts, all_held, first_states, all_begun, until_asked, where_ports, starting, running, own, blocks, sources, settle_function, clear_function, choose_function, shared, chooses}
+use Rattle.sci_cgen_blocks.specs.Terms.{is_looped}
+use Rattle.sci_cgen.proofs.Halves.{in_first, react_last, react_more}
 use Rattle.sci_cgen.specs.Laws.{calls_in_statement, calls_in, calls_in_functions, named_so, count_of, entries_of, ProgramHasBlockFunctions}
 
 -- ---- calls in texts
@@ -104,14 +109,14 @@ module _ (f : Name) where
   either_calls true e t = refl
   either_calls false e t = omega arith
 
-  entry_calls : (n : Parts) (e : Entry) → calls_in f (entry_text n e) ≡ (if same_name (block_name e.block) f then 1 else 0)
-  entry_calls n e =
+  entry_calls : (own : Bool) (n : Parts) (e : Entry) → calls_in f (entry_text own n e) ≡ (if same_name (block_name e.block) f then 1 else 0)
+  entry_calls own n e =
       omega (
         arith,
-        calls_joined f (text_where e.always (mark e.block)) (joined (masked n e) (joined (guarded n e) (called n e))),
+        calls_joined f (text_where (not own && e.always) (mark e.block)) (joined (masked n e) (joined (guarded n e) (called n e))),
         calls_joined f (masked n e) (joined (guarded n e) (called n e)),
         calls_joined f (guarded n e) (called n e),
-        where_none e.always (mark e.block) refl,
+        where_none (not own && e.always) (mark e.block) refl,
         where_none (reads n e) (one (set (cell masks (natural (e.block - 1))) (natural e.mask))) refl,
         where_none (not e.always || reads n e) (texts (guard_text n e) e.guards) (texts_none (guard_text n e) e.guards (guard_none n e)),
         either_calls e.always (is_active e.block) (call_text n e.block),
@@ -124,39 +129,58 @@ module _ (f : Name) where
   elements_none b p e o zero = refl
   elements_none b p e o (suc m) = omega (arith, elements_none b p (e + 1) (o + 1) m)
 
+  output_none : (b p o m : ℕ) → calls_in f (output_shown b p o m) ≡ 0
+  output_none b p o m = either_none (is_looped m) (one (looped_shown b p o m)) (elements_shown b p 1 o m) refl (elements_none b p 1 o m)
+
   outputs_none : (b p o : ℕ) (qs : List Output) → calls_in f (outputs_shown b p o qs) ≡ 0
   outputs_none b p o [] = refl
   outputs_none b p o (q ∷ qs) =
-      joined_none (elements_shown b p 1 o (elements q)) (outputs_shown b (p + 1) (o + elements q) qs) (elements_none b p 1 o (elements q))
+      joined_none (output_shown b p o (elements q)) (outputs_shown b (p + 1) (o + elements q) qs) (output_none b p o (elements q))
       (outputs_none b (p + 1) (o + elements q) qs)
 
-  values_none : (n : Parts) (b : ℕ) → calls_in f (values_shown n b) ≡ 0
-  values_none n b =
-      let shown = outputs_shown b 1 (start_of n b) (spec_of n b).outs in
-      where_none (nat_lt 0 (length (spec_of n b).outs)) (only_where (is_active b) shown)
-      (only_none (is_active b) shown (outputs_none b 1 (start_of n b) (spec_of n b).outs))
+  part_none : (p : Part) (b : ℕ) (t : Block) → calls_in f t ≡ 0 → calls_in f (where_part p b t) ≡ 0
+  part_none Absent b t h = refl
+  part_none Sure b t h = h
+  part_none Marked b t h = only_none (is_active b) t h
 
-  delay_none : (n : Parts) (i : ℕ) (s : Source) → calls_in f (delay_text n i s) ≡ 0
-  delay_none n i Start = refl
-  delay_none n i (Port q) = refl
+  module _ (part : ℕ → Part) where
+    values_none : (n : Parts) (b : ℕ) → calls_in f (values_shown n part b) ≡ 0
+    values_none n b =
+        let shown = outputs_shown b 1 (start_of n b) (spec_of n b).outs in
+        where_none (nat_lt 0 (length (spec_of n b).outs)) (where_part (part b) b shown)
+        (part_none (part b) b shown (outputs_none b 1 (start_of n b) (spec_of n b).outs))
 
-  state_none : (n : Parts) (b : ℕ) → calls_in f (state_text n b) ≡ 0
-  state_none n b =
-      let t = next_text (spec_of n b) (places_of n b) in
-      where_none (has_state (spec_of n b).kind) (only_where (is_active b) t)
-      (only_none (is_active b) t (calls_none next_may f refl t (next_within (spec_of n b) (places_of n b))))
+    delay_none : (n : Parts) (i : ℕ) (s : Source) → calls_in f (delay_text n part i s) ≡ 0
+    delay_none n i Start = refl
+    delay_none n i (Port q) =
+        part_none (part q.block) q.block (program_text (i - 1) (delay_expression (spec_of n q.block) (places_of n q.block)) done) refl
 
-  halt_none : (n : Parts) (b : ℕ) → calls_in f (halt_text n b) ≡ 0
-  halt_none n b = where_none (is_halt (spec_of n b).kind) (only_where (is_active b) (one (set (scalar halt_name) (natural 1)))) refl
+    state_none : (n : Parts) (b : ℕ) → calls_in f (state_text n part b) ≡ 0
+    state_none n b =
+        let t = next_text (spec_of n b) (places_of n b) in
+        where_none (has_state (spec_of n b).kind) (where_part (part b) b t)
+        (part_none (part b) b t (calls_none next_may f refl t (next_within (spec_of n b) (places_of n b))))
 
-  settle_none : (n : Parts) → calls_in f (settle_text n) ≡ 0
-  settle_none n =
-      joined_none (all_shown n) (joined (all_delays n) (joined (all_states n) (all_halts n)))
-      (upto_none (λ k. values_shown n (suc k)) (length n.specs) (λ k. values_none n (suc k)))
-      (joined_none (all_delays n) (joined (all_states n) (all_halts n))
-      (upto_none (λ k. delay_text n (suc k) (source_of n (suc k))) (port_count n) (λ k. delay_none n (suc k) (source_of n (suc k))))
-      (joined_none (all_states n) (all_halts n) (upto_none (λ k. state_text n (suc k)) (length n.specs) (λ k. state_none n (suc k)))
-      (upto_none (λ k. halt_text n (suc k)) (length n.specs) (λ k. halt_none n (suc k)))))
+    halt_none : (n : Parts) (b : ℕ) → calls_in f (halt_text n part b) ≡ 0
+    halt_none n b =
+        let t = one (set (scalar halt_name) (natural 1)) in
+        where_none (is_halt (spec_of n b).kind) (where_part (part b) b t) (part_none (part b) b t refl)
+
+    settle_none : (n : Parts) → calls_in f (settle_text n part) ≡ 0
+    settle_none n =
+        joined_none (all_shown n part) (joined (all_delays n part) (joined (all_states n part) (all_halts n part)))
+        (upto_none (λ k. values_shown n part (suc k)) (length n.specs) (λ k. values_none n (suc k)))
+        (joined_none (all_delays n part) (joined (all_states n part) (all_halts n part))
+        (upto_none (λ k. delay_text n part (suc k) (source_of n (suc k))) (port_count n) (λ k. delay_none n (suc k) (source_of n (suc k))))
+        (joined_none (all_states n part) (all_halts n part) (upto_none (λ k. state_text n part (suc k)) (length n.specs) (λ k. state_none n (suc k)))
+        (upto_none (λ k. halt_text n part (suc k)) (length n.specs) (λ k. halt_none n (suc k)))))
+
+  cleared_none : (n : Parts) (e : Entry) → calls_in f (cleared_text n e) ≡ 0
+  cleared_none n e =
+      let active = one (set (cell actives (natural (e.block - 1))) (natural 0)) in
+      let branch = one (set (cell branches (natural (e.block - 1))) (natural 0)) in
+      joined_none (text_where (not e.always) active) (text_where (is_sync (spec_of n e.block).kind) branch) (where_none (not e.always) active refl)
+      (where_none (is_sync (spec_of n e.block).kind) branch refl)
 
   clear_none : (n : Parts) → calls_in f (clear_text n) ≡ 0
   clear_none n = omega (arith, where_none (has_sync n) (one (set (cell branches (var scan_name)) (natural 0))) refl)
@@ -198,32 +222,45 @@ module _ (n : Parts) (rows : List (List Entry)) (b : ℕ) where
   abbrev name : Name
   name = block_name b
 
-  abbrev halts : Block
-  halts = end_where (var halt_name) 0
+  abbrev own_texts : Bool
+  own_texts = has_own n rows
 
-  fire_none : calls_in name (fire_text n) ≡ 0
+  end_none : (e : Exp) (word : ℕ) (rest : Block) → calls_in name rest ≡ 0 → calls_in name (end_or e word rest) ≡ 0
+  end_none e word rest h = omega (arith, h)
+
+  react_none : (d i c : ℕ) → calls_in_statement name (react_step d i c) ≡ 0
+  react_none zero i c = ap (calls_in_statement name) (react_last i c)
+  react_none (suc d) i c =
+      ap (calls_in_statement name) (react_more d i c)
+      ∙ by_count (nat_lt (2 ^ d) c) (react_none d i (2 ^ d)) (react_none d (i + 2 ^ d) (c - 2 ^ d)) (react_none d i c)
+    where
+      by_count : (t : Bool) → calls_in_statement name (react_step d i (2 ^ d)) ≡ 0 → calls_in_statement name (react_step d (i + 2 ^ d) (c - 2 ^ d)) ≡ 0
+          → calls_in_statement name (react_step d i c) ≡ 0
+          → calls_in_statement name (if t then in_first i (2 ^ d) (react_step d i (2 ^ d)) (react_step d (i + 2 ^ d) (c - 2 ^ d)) else react_step d i c) ≡ 0
+      by_count true p q r = omega (arith, p, q)
+      by_count false p q r = r
+
+  fire_none : calls_in name (fire_text own_texts n) ≡ 0
   fire_none =
-      omega (
-        arith,
-        joined_none name (upto fires_source (port_count n)) (next (call settle_name) (one (call choose_name)))
-            (upto_none name fires_source (port_count n) (λ k. refl)) refl,
-      )
+      let clears = text_where (not own_texts) (one (call clear_name)) in
+      let rest = next (react_step react_deep 0 (port_count n)) (one (call choose_name)) in
+      let later : calls_in name (joined clears rest) ≡ 0
+      = joined_none name clears rest (where_none name (not own_texts) (one (call clear_name)) refl) (omega (arith, react_none react_deep 0 (port_count n))) in
+      omega (arith, later)
 
-  abbrev early : Block
-  early = end_where (bin Lt (var next_date) (natural 0)) 2
+  abbrev in_time : Block
+  in_time = end_or (bin Gt (var next_date) (var until_name)) 3 (fire_text own_texts n)
 
-  abbrev late : Block
-  late = end_where (bin Gt (var next_date) (var until_name)) 3
-
-  event_none : calls_in name (event_text n) ≡ 0
+  event_none : calls_in name (event_text own_texts n) ≡ 0
   event_none =
-      either_none name (nat_lt 0 (port_count n)) (joined early (joined late (fire_text n))) (one (tell (finish (natural 2)))) (omega (arith, fire_none)) refl
+      either_none name (nat_lt 0 (port_count n)) (end_or (bin Lt (var next_date) (natural 0)) 2 in_time) (one (tell (finish (natural 2))))
+      (end_none (bin Lt (var next_date) (natural 0)) 2 in_time (end_none (bin Gt (var next_date) (var until_name)) 3 (fire_text own_texts n) fire_none)) refl
 
-  halted_none : calls_in name (halted_text n) ≡ 0
-  halted_none = where_none name (has_halt n) halts refl
+  halted_none : (rest : Block) → calls_in name rest ≡ 0 → calls_in name (halted_or n rest) ≡ 0
+  halted_none rest h = either_none name (has_halt n) (end_or (var halt_name) 0 rest) rest (end_none (var halt_name) 0 rest h) h
 
-  turn_none : calls_in name (turn_text n) ≡ 0
-  turn_none = joined_none name (halted_text n) (event_text n) halted_none event_none
+  turn_none : calls_in name (turn_text own_texts n) ≡ 0
+  turn_none = halted_none (event_text own_texts n) event_none
 
   first_none : calls_in name (first_text n) ≡ 0
   first_none = either_none name (nat_lt 0 (port_count n)) (one (call choose_name)) (one (set (scalar next_date) (number (negsuc 0)))) refl refl
@@ -234,7 +271,7 @@ module _ (n : Parts) (rows : List (List Entry)) (b : ℕ) where
   main_none : calls_in name (main_text n) ≡ 0
   main_none =
       joined_none name (begin_text n) (running n) begin_none
-      (omega (arith, joined_none name (halted_text n) (one (tell (finish (natural 1)))) halted_none refl))
+      (omega (arith, halted_none (one (tell (finish (natural 1)))) refl))
 
   -- ---- calls in functions
 
@@ -256,15 +293,28 @@ module _ (n : Parts) (rows : List (List Entry)) (b : ℕ) where
   functions_calls true fs h = h
   functions_calls false fs h = refl
 
-  other_calls : calls_in_functions name (other_functions n) ≡ 0
-  other_calls =
-      omega (arith, settle_none name n, functions_calls (nat_lt 0 (port_count n)) (before n) (omega (arith, clear_none name n)))
+  shared_calls : calls_in_functions name (shared n) ≡ 0
+  shared_calls =
+      omega (
+        arith,
+        settle_none name (λ b. Marked) n,
+        functions_calls (nat_lt 0 (port_count n)) (clear_function n ∷ []) (omega (arith, clear_none name n)),
+      )
 
-  row_calls : (row : List Entry) → calls_in name (texts (entry_text n) row) ≡ count_of b (blocks_of row)
+  other_calls : calls_in_functions name (other_functions own_texts n) ≡ 0
+  other_calls =
+      omega (
+        arith,
+        calls_both (functions_where (not own_texts) (shared n)) (chooses n),
+        functions_calls (not own_texts) (shared n) shared_calls,
+        functions_calls (nat_lt 0 (port_count n)) (choose_function n ∷ []) refl,
+      )
+
+  row_calls : (row : List Entry) → calls_in name (texts (entry_text own_texts n) row) ≡ count_of b (blocks_of row)
   row_calls [] = refl
   row_calls (e ∷ row) =
-      calls_joined name (entry_text n e) (texts (entry_text n) row)
-      ∙ (ap (λ (k : ℕ). k + calls_in name (texts (entry_text n) row)) (entry_calls name n e ∙ ap (λ (t : Bool). if t then 1 else 0) (same_eq e.block))
+      calls_joined name (entry_text own_texts n e) (texts (entry_text own_texts n) row)
+      ∙ (ap (λ (k : ℕ). k + calls_in name (texts (entry_text own_texts n) row)) (entry_calls name own_texts n e ∙ ap (λ (t : Bool). if t then 1 else 0) (same_eq e.block))
       ∙ ap (λ (k : ℕ). (if nat_eq b e.block then 1 else 0) + k) (row_calls row))
     where
       same_eq : (c : ℕ) → nat_eq c b ≡ nat_eq b c
@@ -273,13 +323,23 @@ module _ (n : Parts) (rows : List (List Entry)) (b : ℕ) where
         | inr q ↦ ne_eqb c b q ∙ sym (ne_eqb b c (λ e. q (sym e)))
       ]
 
+  following_none : (own : Bool) (row : List Entry) → calls_in name (following_text own n row) ≡ 0
+  following_none true row = settle_none name (part_in row) n
+  following_none false row = refl
+
   source_calls : (i : ℕ) → calls_in name (source_function n rows i).body ≡ count_of b (blocks_of (slice_index_or rows i []))
   source_calls i =
+      let row = slice_index_or rows i [] in
+      let clearing = text_where own_texts (texts (cleared_text n) row) in
       omega (
         arith,
-        calls_joined name (header_text (source_of n i)) (texts (entry_text n) (slice_index_or rows i [])),
+        calls_joined name (pass_text own_texts n (source_of n i) row) (following_text own_texts n row),
+        calls_joined name (header_text (source_of n i)) (joined clearing (texts (entry_text own_texts n) row)),
+        calls_joined name clearing (texts (entry_text own_texts n) row),
         header_none name (source_of n i),
-        row_calls (slice_index_or rows i []),
+        where_none name own_texts (texts (cleared_text n) row) (texts_none name (cleared_text n) row (cleared_none name n)),
+        row_calls row,
+        following_none own_texts row,
       )
 
   entries_next : (rs : List (List Entry)) (k : ℕ) → k < length rs
@@ -307,9 +367,9 @@ module _ (n : Parts) (rows : List (List Entry)) (b : ℕ) where
   all_calls enough =
       omega (
         arith,
-        calls_both (called_functions n rows) (event_function n ∷ []),
-        calls_both (blocks n rows ++ other_functions n) (sources n rows),
-        calls_both (blocks n rows) (other_functions n),
+        calls_both (called_functions n rows) (event_function own_texts n ∷ []),
+        calls_both (blocks n rows ++ other_functions own_texts n) (sources n rows),
+        calls_both (blocks n rows) (other_functions own_texts n),
         block_calls (length n.specs),
         other_calls,
         sources_calls (length (sources_of n)) (omega (arith, enough)),
@@ -330,12 +390,15 @@ module _ (n : Parts) (rows : List (List Entry)) (b : ℕ) where
       by_name true h = ap (λ (l : List Function). x ∷ l) h
       by_name false h = h
 
-  other_named : named_so name (other_functions n) ≡ []
-  other_named = by_test (nat_lt 0 (port_count n))
+  other_named : named_so name (other_functions own_texts n) ≡ []
+  other_named = by_tests own_texts (nat_lt 0 (port_count n))
     where
-      by_test : (t : Bool) → named_so name (functions_where t (before n)) ≡ []
-      by_test true = refl
-      by_test false = refl
+      by_tests : (o t : Bool) → named_so name (functions_where (not o) (settle_function n ∷ functions_where t (clear_function n ∷ []))
+          ++ functions_where t (choose_function n ∷ [])) ≡ []
+      by_tests true true = refl
+      by_tests true false = refl
+      by_tests false true = refl
+      by_tests false false = refl
 
   sources_named : (k : ℕ) → named_so name (functions_upto (source_function n rows) k) ≡ []
   sources_named zero = refl
@@ -359,9 +422,9 @@ module _ (n : Parts) (rows : List (List Entry)) (b : ℕ) where
 
   all_named : IsBlock n b → named_so name (functions n rows) ≡ block_function n rows b ∷ []
   all_named is =
-      named_both (called_functions n rows) (event_function n ∷ [])
-      ∙ (ap (λ (l : List Function). l ++ []) (named_both (blocks n rows ++ other_functions n) (sources n rows))
-      ∙ (ap (λ (l : List Function). (l ++ named_so name (sources n rows)) ++ []) (named_both (blocks n rows) (other_functions n))
+      named_both (called_functions n rows) (event_function own_texts n ∷ [])
+      ∙ (ap (λ (l : List Function). l ++ []) (named_both (blocks n rows ++ other_functions own_texts n) (sources n rows))
+      ∙ (ap (λ (l : List Function). (l ++ named_so name (sources n rows)) ++ []) (named_both (blocks n rows) (other_functions own_texts n))
       ∙ rw (blocks_named is.least (length n.specs) is.most, other_named, sources_named (length (sources_of n))) refl))
 
   only_one : (g f : Function) → Contains (g ∷ []) f → g ≡ f

@@ -1,5 +1,5 @@
 -- What a call of a block's function means where a source's function calls it: the text of the block's values.
-use Rattle.std.proofs.Common.{◌≡◌, ℕ, zero, suc, ◌<◌, ◌≤◌, List, [], ◌∷◌, ◌++◌, length, Contains, Some, Bool, true, false, ◌||◌, if◌then◌else◌, nat_eq, nat_lt, inl, inr, refl, sym, ap, ◌∙◌, subst, arith, append_assoc, ℤ, slice_index_or, eq-eqb}
+use Rattle.std.proofs.Common.{◌≡◌, ℕ, zero, suc, ◌<◌, ◌≤◌, List, [], ◌∷◌, ◌++◌, length, Contains, Some, Bool, true, false, not, ◌||◌, if◌then◌else◌, nat_eq, nat_lt, inl, inr, refl, sym, ap, ◌∙◌, subst, arith, append_assoc, ℤ, slice_index_or, eq-eqb}
 use Rattle.std.specs.List.{list_any}
 use Rattle.std.proofs.Math.Nat.{le-max_left, le-max_right}
 use Rattle.std.proofs.lemmas.Bool.{cases_lt}
@@ -14,8 +14,8 @@ use Rattle.c_steps.proofs.Programs.{call_is, defined_joined}
 use Rattle.sci_cgen_blocks.specs.Recipes.{scratch_of}
 use Rattle.sci_cgen_blocks.specs.Texts.{body_text}
 use Rattle.sci_cgen.specs.Names.{block_name}
-use Rattle.sci_cgen.specs.Program.{port_count, text_where, places_of, is_scheduled, scratch_count, block_function, source_function, functions_upto, functions_where, other_functions, clear_text, choose_text}
-use Rattle.sci_cgen.specs.Names.{clear_name, choose_name}
+use Rattle.sci_cgen.specs.Program.{has_own, port_count, text_where, places_of, is_scheduled, scratch_count, block_function, source_function, functions_upto, functions_where, other_functions, shared_text, clear_text, choose_text}
+use Rattle.sci_cgen.specs.Names.{settle_name, clear_name, choose_name}
 use Rattle.sci_cgen.specs.Passes.{RunsBody}
 use Rattle.sci_cgen.proofs.Called.{Follows, follows, no_source, before_source}
 
@@ -60,21 +60,27 @@ module _ (n : Parts) (rows : List (List Entry)) (last most : ℤ) (k : ℕ) wher
   abbrev function : ℕ → Function
   function j = block_function n rows (suc j)
 
+  abbrev others : List Function
+  others = other_functions (has_own n rows) n
+
   -- no function behind the blocks' has a block's name
-  no_block : (j : ℕ) → is_defined (block_name (suc j)) (other_functions n ++ functions_upto (source_function n rows) k) ≡ false
-  no_block j = by_ports (nat_lt 0 (port_count n))
+  no_block : (j : ℕ) → is_defined (block_name (suc j)) (other_functions (has_own n rows) n ++ functions_upto (source_function n rows) k) ≡ false
+  no_block j = by_tests (has_own n rows) (nat_lt 0 (port_count n))
     where
-      by_ports : (t : Bool) → is_defined (block_name (suc j)) (functions_where t (record { name = clear_name; body = clear_text n }
-          ∷ record { name = choose_name; body = choose_text n } ∷ []) ++ functions_upto (source_function n rows) k) ≡ false
-      by_ports true = no_source n rows (block_name (suc j)) (λ i. refl) k
-      by_ports false = no_source n rows (block_name (suc j)) (λ i. refl) k
+      by_tests : (o t : Bool) → is_defined (block_name (suc j)) ((functions_where (not o) (record { name = settle_name; body = shared_text n }
+          ∷ functions_where t (record { name = clear_name; body = clear_text n } ∷ []))
+          ++ functions_where t (record { name = choose_name; body = choose_text n } ∷ [])) ++ functions_upto (source_function n rows) k) ≡ false
+      by_tests true true = no_source n rows (block_name (suc j)) (λ i. refl) k
+      by_tests true false = no_source n rows (block_name (suc j)) (λ i. refl) k
+      by_tests false true = no_source n rows (block_name (suc j)) (λ i. refl) k
+      by_tests false false = no_source n rows (block_name (suc j)) (λ i. refl) k
 
   block_called : (j : ℕ) → j < length n.specs → (before : List Function) × (number : ℕ) ×
       ((surroundings (before_source n rows k) last most).calls (block_name (suc j))
       ≡ Some (run_block (surroundings before last most) number (text_where (is_scheduled rows (suc j)) (body_text (spec_of n (suc j)) (places_of n (suc j))))))
   block_called j l =
       let f = follows function j (length n.specs) l in
-      let c = call_is (functions_upto function j) (function j) (f.rest ++ (other_functions n ++ functions_upto (source_function n rows) k)) last most
+      let c = call_is (functions_upto function j) (function j) (f.rest ++ (others ++ functions_upto (source_function n rows) k)) last most
       (none_behind f) in (
         functions_upto function j,
         c.0,
@@ -82,19 +88,19 @@ module _ (n : Parts) (rows : List (List Entry)) (last most : ℤ) (k : ℕ) wher
       )
     where
       placed : (f : Follows function j (length n.specs)) → before_source n rows k
-          ≡ functions_upto function j ++ function j ∷ (f.rest ++ (other_functions n ++ functions_upto (source_function n rows) k))
+          ≡ functions_upto function j ++ function j ∷ (f.rest ++ (others ++ functions_upto (source_function n rows) k))
       placed f =
-          ap (λ (fs : List Function). fs ++ (other_functions n ++ functions_upto (source_function n rows) k)) f.is
-          ∙ append_assoc (functions_upto function j) (function j ∷ f.rest) (other_functions n ++ functions_upto (source_function n rows) k)
+          ap (λ (fs : List Function). fs ++ (others ++ functions_upto (source_function n rows) k)) f.is
+          ∙ append_assoc (functions_upto function j) (function j ∷ f.rest) (others ++ functions_upto (source_function n rows) k)
 
       both : (a b : Bool) → a ≡ false → b ≡ false → a || b ≡ false
       both a b p q = rw (p, q) refl
 
       none_behind : (f : Follows function j (length n.specs))
-          → is_defined (block_name (suc j)) (f.rest ++ (other_functions n ++ functions_upto (source_function n rows) k)) ≡ false
+          → is_defined (block_name (suc j)) (f.rest ++ (others ++ functions_upto (source_function n rows) k)) ≡ false
       none_behind f =
-          defined_joined (block_name (suc j)) f.rest (other_functions n ++ functions_upto (source_function n rows) k)
-          ∙ both (is_defined (block_name (suc j)) f.rest) (is_defined (block_name (suc j)) (other_functions n ++ functions_upto (source_function n rows) k))
+          defined_joined (block_name (suc j)) f.rest (others ++ functions_upto (source_function n rows) k)
+          ∙ both (is_defined (block_name (suc j)) f.rest) (is_defined (block_name (suc j)) (others ++ functions_upto (source_function n rows) k))
           (f.others (block_name (suc j)) (λ i q. other_number 102 (suc i) (suc j) (λ e. omega (arith, e, q)))) (no_block j)
 
   pub runs_body : (b : ℕ) → IsBlock n b → is_scheduled rows b ≡ true → RunsBody (surroundings (before_source n rows k) last most) n b

@@ -1,5 +1,5 @@
 -- The generated program keeps the bounds of the subset.
-use Rattle.std.proofs.Common.{◌≡◌, ℕ, zero, suc, ◌+◌, ◌-◌, ◌^◌, ◌<◌, ◌≤◌, ◌≤ℤ◌, List, [], ◌∷◌, ◌++◌, append_assoc, length, slice_index_or, Contains, All, Bool, true, false, ◌||◌, not, nat_eq, nat_lt, if◌then◌else◌, refl, sym, ◌∙◌, subst, arith, ℤ, pos, negsuc}
+use Rattle.std.proofs.Common.{◌≡◌, ℕ, zero, suc, ◌+◌, ◌-◌, ◌^◌, ◌<◌, ◌≤◌, ◌≤ℤ◌, List, [], ◌∷◌, ◌++◌, append_assoc, length, slice_index_or, Contains, All, Bool, true, false, ◌||◌, ◌&&◌, not, nat_eq, nat_lt, if◌then◌else◌, refl, sym, ap, ◌∙◌, subst, arith, ℤ, pos, negsuc, ltb-true}
 use Rattle.std.specs.Int.{bit_at}
 use Rattle.std.proofs.lemmas.Int.{ints}
 use Rattle.std.proofs.lemmas.List.Elements.{All-nil, All-cons, All-head, All-tail, All-contains, Contains-get_or}
@@ -30,22 +30,26 @@ use Rattle.sci_forms.specs.Form.{is_halt}
 use Rattle.sci_run.specs.Laws.{AreLoopFree}
 use Rattle.sci_run.proofs.Ordered.{typed_firing}
 use Rattle.c_ast.specs.declared.Name.{Name}
-use Rattle.c_ast.specs.declared.Op.TheVariants.{Add, Sub, Mul, Div, Rem, Lt, Gt, Ge, Eq}
-use Rattle.c_ast.specs.Syntax.{Exp, var, bin, scalar, cell, set, call, tell, finish, Block, done, next, Declared, Function}
+use Rattle.c_ast.specs.declared.Op.TheVariants.{Add, Sub, Mul, Div, Rem, Lt, Gt, Ge}
+use Rattle.c_ast.specs.Syntax.{Exp, var, bin, scalar, cell, set, call, tell, finish, Statement, Block, done, next, Declared, Function, element}
 use Rattle.c_ast.specs.Bounds.{IsName, IsExp, BlockFits, IsBody, IsDeclared, IsFunction, IsWhole}
-use Rattle.c_steps.specs.Texts.{number, place, joined, upto}
-use Rattle.sci_cgen_blocks.specs.Texts.{values, states, masks, scratch_name, body_text, next_text, delay_expression, branch_expression}
+use Rattle.c_steps.specs.Texts.{number, place, joined}
+use Rattle.sci_cgen_blocks.specs.Terms.{is_looped}
+use Rattle.sci_cgen_blocks.specs.Texts.{counted_by, values, states, masks, scratch_name, element_place, body_text, next_text, delay_expression, branch_expression}
 use Rattle.sci_cgen_blocks.proofs.Bounds.{joined_fits, upto_fits, body_fits, next_fits, delay_fits_all, branch_fits_all}
 use Rattle.sci_cgen_blocks.proofs.KindBounds.{few_outs}
 use Rattle.sci_cgen_blocks.proofs.KindLaws.{cell_reads_law}
 use Rattle.sci_cgen_blocks.proofs.NextStates.{next_reads_law}
 use Rattle.sci_due.specs.Due.{dates, orders, best as chosen_name, scan as scan_name, now as now_name, last as programmed_name, delay as delay_name}
 use Rattle.sci_due.specs.Texts.{at_best, better_exp, program_text}
-use Rattle.sci_cgen.specs.Names.{actives, branches, limit_name, until_name, fired_name, next_date, halt_name, settle_name, choose_name}
-use Rattle.sci_cgen.specs.Program.{natural, one, texts, text_where, only_where, port_count, places_of, states_before, is_scheduled, block_function, is_active, mark, mask_cell, with_bit, with_bits, is_taken, guard_text, call_text, entry_text, header_text, source_function, has_sync, has_halt, clear_text, choose_text, elements_shown, outputs_shown, values_shown, delay_text, state_text, halt_text, settle_text, end_where, halted_text, fire_text, event_text, turn_text, first_text, begin_text, begun_text, list_begun, held_begun, state_begun, firing_at, is_programmed, programmed_before, firing_begun, source_begun, outset_text, main_text, array, declared_where, a_scalar, scratch_count, scratch_declared, declarations, functions_upto, functions_where, other_functions, called_functions, event_function, program}
+use Rattle.sci_cgen.specs.declared.parts.Part.{Part}
+use Rattle.sci_cgen.specs.declared.parts.Part.TheVariants.{Absent, Sure, Marked}
+use Rattle.sci_cgen.specs.Names.{actives, branches, limit_name, until_name, fired_name, next_date, halt_name, clear_name, choose_name}
+use Rattle.sci_cgen.specs.Program.{natural, one, texts, text_where, only_where, has_own, part_in, port_count, places_of, states_before, is_scheduled, block_function, is_active, where_part, mark, mask_cell, with_bit, with_bits, is_taken, guard_text, call_text, entry_text, cleared_text, header_text, pass_text, following_text, shared_text, source_function, has_sync, has_halt, clear_text, choose_text, elements_shown, outputs_shown, values_shown, delay_text, state_text, halt_text, settle_text, end_or, react_step, react_deep, fire_text, event_text, turn_text, first_text, begin_text, begun_text, list_begun, held_begun, state_begun, firing_at, is_programmed, programmed_before, firing_begun, source_begun, outset_text, main_text, array, declared_where, a_scalar, scratch_count, scratch_declared, declarations, functions_upto, functions_where, other_functions, called_functions, event_function, program, looped_shown, output_shown}
 use Rattle.sci_forms.specs.Form.{reads_mask}
-use Rattle.sci_cgen.proofs.Parted.{value_arrays, active_array, branch_array, due_arrays, limit_scalars, event_scalars, halt_scalar, reads, masked, guarded, called, all_shown, all_delays, all_states, all_halts, all_held, first_states, all_begun, until_asked, where_ports, fires_source, starting, running, blocks, sources, settle_function, clear_function, choose_function, before}
+use Rattle.sci_cgen.proofs.Parted.{value_arrays, active_array, branch_array, due_arrays, limit_scalars, event_scalars, halt_scalar, reads, masked, guarded, called, all_shown, all_delays, all_states, all_halts, all_held, first_states, all_begun, until_asked, where_ports, starting, ending, running, blocks, sources, settle_function, clear_function, choose_function, shared, clears, chooses}
 use Rattle.sci_cgen.proofs.Marks.{few_small}
+use Rattle.sci_cgen.proofs.Halves.{in_first, react_last, react_more}
 use Rattle.sci_cgen.proofs.Entries.{few_inputs, block_here, mask_few}
 use Rattle.sci_cgen.proofs.Sizes.{few_outputs, port_has_delay, few_ports, few_all_states, state_within, in_bounds, scratch_few, is_spelled}
 
@@ -89,6 +93,14 @@ is_place : (x : Name) (k : ℕ) → IsName x → k < 2 ^ 63 → IsExp (place x k
 unfolding IsExp
 is_place x k h l = (h, l)
 
+is_counted : (o : ℕ) → o < 2 ^ 63 → IsExp (element_place (counted_by 1) o)
+unfolding IsExp
+is_counted o h = ((refl, omega arith), h)
+
+is_value : (o : ℕ) → o < 2 ^ 63 → IsExp (element values (element_place (counted_by 1) o))
+unfolding IsExp
+is_value o h = ((refl, omega arith), ((refl, omega arith), h))
+
 is_number : (z : ℤ) → negsuc 4294967295 ≤ℤ z → z ≤ℤ pos 4294967295 → IsExp (number z)
 unfolding IsExp
 is_number (pos n) l h = omega (arith, ints, h)
@@ -103,7 +115,7 @@ is_branch : (g : Guard) → g.block - 1 < 2 ^ 63 → g.port < 2 ^ 63 → IsExp (
 unfolding IsExp
 is_branch g h l = (((refl, omega arith), h), l)
 
-is_chosen : (k : ℕ) → k < 2 ^ 63 → IsExp (bin Eq (var chosen_name) (natural k))
+is_chosen : (k : ℕ) → k < 2 ^ 63 → IsExp (bin Lt (var chosen_name) (natural k))
 unfolding IsExp
 is_chosen k h = ((refl, omega arith), h)
 
@@ -157,8 +169,8 @@ texts_split d t all pre [] e h = tt
 texts_split d t all pre (x ∷ xs) e h =
     joined_fits d (t x) (texts t xs) (h pre xs x e) (texts_split d t all (pre ++ x ∷ []) xs (e ∙ sym (append_assoc pre (x ∷ []) xs)) h)
 
-end_fits : (d : ℕ) (e : Exp) (word : ℕ) → IsExp e → word < 2 ^ 63 → BlockFits (suc (suc d)) (end_where e word)
-end_fits d e word x l = ((x, (is_small word l, tt), tt), tt)
+end_fits : (d : ℕ) (e : Exp) (word : ℕ) (rest : Block) → IsExp e → word < 2 ^ 63 → BlockFits (suc d) rest → BlockFits (suc (suc d)) (end_or e word rest)
+end_fits d e word rest x l h = ((x, (is_small word l, tt), h), tt)
 
 set_fits : (d : ℕ) (x : Name) (k : ℕ) (e : Exp) → IsName x → k < 2 ^ 63 → IsExp e → BlockFits (suc d) (one (set (cell x (natural k)) e))
 set_fits d x k e h l q = (((h, is_small k l), q), tt)
@@ -175,8 +187,8 @@ is_next : IsExp (bin Add (var programmed_name) (natural 1))
 unfolding IsExp
 is_next = ((refl, omega arith), one_small)
 
-program_fits : (k : ℕ) (e : Exp) → k < 2 ^ 63 → IsExp e → BlockFits 15 (program_text k e done)
-program_fits k e h x = (
+program_fits : (d k : ℕ) (e : Exp) → k < 2 ^ 63 → IsExp e → BlockFits (suc (suc d)) (program_text k e done)
+program_fits d k e h x = (
   ((refl, omega arith), x),
   (
     (
@@ -250,16 +262,26 @@ module _ (n : Parts) (net : IsNet n) where
   either_fits d true e t x h = h (suc d)
   either_fits d false e t x h = ((x, h d, tt), tt)
 
-  module _ (s : Source) (free : IsLoopFree n s) (row : List Entry) (is : IsRow n s row) where
-    entry_fits : (pre post : List Entry) (e : Entry) → row ≡ pre ++ e ∷ post → BlockFits 16 (entry_text n e)
+  cleared_fits : (e : Entry) → IsBlock n e.block → BlockFits 16 (cleared_text n e)
+  cleared_fits e is =
+      let active = one (set (cell actives (natural (e.block - 1))) (natural 0)) in
+      let branch = one (set (cell branches (natural (e.block - 1))) (natural 0)) in
+      joined_fits 16 (text_where (not e.always) active) (text_where (is_sync (spec_of n e.block).kind) branch)
+      (where_fits 16 (not e.always) active (λ q.
+      set_fits 15 actives (e.block - 1) (natural 0) (refl, omega arith) (place_small e.block is) (is_small 0 (omega arith))))
+      (where_fits 16 (is_sync (spec_of n e.block).kind) branch (λ q.
+      set_fits 15 branches (e.block - 1) (natural 0) (refl, omega arith) (place_small e.block is) (is_small 0 (omega arith))))
+
+  module _ (own : Bool) (s : Source) (free : IsLoopFree n s) (row : List Entry) (is : IsRow n s row) where
+    entry_fits : (pre post : List Entry) (e : Entry) → row ≡ pre ++ e ∷ post → BlockFits 16 (entry_text own n e)
     entry_fits pre post e split =
         let block : IsBlock n e.block = block_here n s net free row is pre post e split in
         let mask : e.mask < 2 ^ (spec_of n e.block).evtin = mask_few n s net free row is pre post e split in
         let entry : IsEntry n s e = entry_is pre post e split in
         let few : (reads n e) ≡ true → e.mask < 2 ^ 63 = λ q.
         (let most = few_small (spec_of n e.block).evtin (few_inputs (spec_of n e.block) (is_typed e.block block) q) in omega (arith, most, mask)) in
-        joined_fits 16 (text_where e.always (mark e.block)) (joined (masked n e) (joined (guarded n e) (called n e)))
-        (where_fits 16 e.always (mark e.block) (λ q. mark_fits 15 e.block block))
+        joined_fits 16 (text_where (not own && e.always) (mark e.block)) (joined (masked n e) (joined (guarded n e) (called n e)))
+        (where_fits 16 (not own && e.always) (mark e.block) (λ q. mark_fits 15 e.block block))
         (joined_fits 16 (masked n e) (joined (guarded n e) (called n e))
         (where_fits 16 (reads n e) (one (set (cell masks (natural (e.block - 1))) (natural e.mask))) (λ q.
         set_fits 15 masks (e.block - 1) (natural e.mask) (refl, omega arith) (place_small e.block block) (is_small e.mask (few q))))
@@ -271,8 +293,12 @@ module _ (n : Parts) (net : IsNet n) where
         entry_is : (pre post : List Entry) (e : Entry) → row ≡ pre ++ e ∷ post → IsEntry n s e
         entry_is pre post e split = All-contains (IsEntry n s) row e is.entries (subst (λ es. Contains es e) (sym split) (Contains-mid pre post e))
 
-    row_fits : BlockFits 16 (texts (entry_text n) row)
-    row_fits = texts_split 16 (entry_text n) row [] row refl entry_fits
+    row_fits : BlockFits 16 (joined (text_where own (texts (cleared_text n) row)) (texts (entry_text own n) row))
+    row_fits =
+        joined_fits 16 (text_where own (texts (cleared_text n) row)) (texts (entry_text own n) row)
+        (where_fits 16 own (texts (cleared_text n) row) (λ q.
+        texts_split 16 (cleared_text n) row [] row refl (λ pre post e split. cleared_fits e (block_here n s net free row is pre post e split))))
+        (texts_split 16 (entry_text own n) row [] row refl entry_fits)
 
   header_fits : (s : Source) → IsSource n s → BlockFits 16 (header_text s)
   header_fits Start is = (tt, tt)
@@ -283,12 +309,6 @@ module _ (n : Parts) (net : IsNet n) where
   source_is : (i : ℕ) → i < length (sources_of n) → IsSource n (source_of n i)
   source_is i l = (sources_are n (source_of n i)).0 (Contains-get_or (sources_of n) i Start l)
 
-  source_fits : (rows : List (List Entry)) → AreLoopFree n → IsSchedule n rows → (i : ℕ) → i < length (sources_of n)
-      → BlockFits 16 (source_function n rows i).body
-  source_fits rows free schedule i l =
-      joined_fits 16 (header_text (source_of n i)) (texts (entry_text n) (slice_index_or rows i [])) (header_fits (source_of n i) (source_is i l))
-      (row_fits (source_of n i) (free i l) (slice_index_or rows i []) (schedule.each i (omega (arith, l, schedule.enough))))
-
   -- ---- the other functions
 
   elements_fit : (d b p e o m : ℕ) → b < 2 ^ 63 → p < 2 ^ 63 → e + m < 2 ^ 63 → o + m < 2 ^ 63 → BlockFits (suc d) (elements_shown b p e o m)
@@ -298,59 +318,89 @@ module _ (n : Parts) (net : IsNet n) where
     elements_fit d b p (e + 1) (o + 1) m hb hp (omega (arith, he)) (omega (arith, ho)),
   )
 
-  outputs_fit : (d b p o : ℕ) (qs : List Output) → b < 2 ^ 63 → p + length qs < 2 ^ 63 → o + total qs < 2 ^ 62 → BlockFits (suc d) (outputs_shown b p o qs)
+  output_fits : (d b p o m : ℕ) → b < 2 ^ 63 → p < 2 ^ 63 → 1 + m < 2 ^ 63 → o + m < 2 ^ 63 → BlockFits (suc (suc d)) (output_shown b p o m)
+  output_fits d b p o m hb hp hm ho = by_size (is_looped m)
+    where
+      by_size : (t : Bool) → BlockFits (suc (suc d)) (if t then one (looped_shown b p o m) else elements_shown b p 1 o m)
+      by_size true =
+          (((refl, omega arith), omega (arith, hm), ((is_small b hb, is_small p hp, is_counted 1 (omega arith), is_value o (omega (arith, ho))), tt)), tt)
+      by_size false = elements_fit (suc d) b p 1 o m hb hp hm ho
+
+  outputs_fit : (d b p o : ℕ) (qs : List Output) → b < 2 ^ 63 → p + length qs < 2 ^ 63 → o + total qs < 2 ^ 62
+      → BlockFits (suc (suc d)) (outputs_shown b p o qs)
   outputs_fit d b p o [] hb hp ho = tt
   outputs_fit d b p o (q ∷ qs) hb hp ho =
-      joined_fits (suc d) (elements_shown b p 1 o (elements q)) (outputs_shown b (p + 1) (o + elements q) qs)
-      (elements_fit d b p 1 o (elements q) hb (omega (arith, hp)) (omega (arith, ho)) (omega (arith, ho)))
+      joined_fits (suc (suc d)) (output_shown b p o (elements q)) (outputs_shown b (p + 1) (o + elements q) qs)
+      (output_fits d b p o (elements q) hb (omega (arith, hp)) (omega (arith, ho)) (omega (arith, ho)))
       (outputs_fit d b (p + 1) (o + elements q) qs hb (omega (arith, hp)) (omega (arith, ho)))
 
-  values_fit : (b : ℕ) → IsBlock n b → BlockFits 16 (values_shown n b)
-  values_fit b is =
-      let outs = few_outs (spec_of n b) (is_typed b is) in
-      let within = block_within n b is in
-      let shown = outputs_shown b 1 (start_of n b) (spec_of n b).outs in
-      where_fits 16 (nat_lt 0 (length (spec_of n b).outs)) (only_where (is_active b) shown) (λ q. (
-        (
-          active_fits b is,
-          outputs_fit 14 b 1 (start_of n b) (spec_of n b).outs (number_small b is) (omega (arith, outs)) (omega (arith, within, net.small)),
-          tt,
-        ),
-        tt,
-      ))
+  -- a text that fits at both depths, also under a test
+  part_fits : (p : Part) (b : ℕ) → IsBlock n b → (t : Block) → BlockFits 16 t → BlockFits 15 t → BlockFits 16 (where_part p b t)
+  part_fits Absent b is t h k = tt
+  part_fits Sure b is t h k = h
+  part_fits Marked b is t h k = ((active_fits b is, k, tt), tt)
 
-  delay_fits : (i : ℕ) → i ≤ 4096 → (s : Source) → IsSource n s → BlockFits 16 (delay_text n i s)
-  delay_fits i l Start is = tt
-  delay_fits i l (Port q) is =
-      let block = is.0.block in
-      let e = delay_expression (spec_of n q.block) (places_of n q.block) in
-      let x = delay_fits_all (spec_of n q.block) (places_of n q.block) (is_typed q.block block) (port_has_delay n net q is) (in_bounds n net q.block block) in
-      ((active_fits q.block block, program_fits (i - 1) e (omega (arith, l)) x, tt), tt)
+  module _ (part : ℕ → Part) where
+    values_fit : (b : ℕ) → IsBlock n b → BlockFits 16 (values_shown n part b)
+    values_fit b is =
+        let outs = few_outs (spec_of n b) (is_typed b is) in
+        let within = block_within n b is in
+        let shown = outputs_shown b 1 (start_of n b) (spec_of n b).outs in
+        where_fits 16 (nat_lt 0 (length (spec_of n b).outs)) (where_part (part b) b shown) (λ q.
+        part_fits (part b) b is shown
+        (outputs_fit 14 b 1 (start_of n b) (spec_of n b).outs (number_small b is) (omega (arith, outs)) (omega (arith, within, net.small)))
+        (outputs_fit 13 b 1 (start_of n b) (spec_of n b).outs (number_small b is) (omega (arith, outs)) (omega (arith, within, net.small))))
 
-  state_fits : (b : ℕ) → IsBlock n b → BlockFits 16 (state_text n b)
-  state_fits b is =
-      let t = next_text (spec_of n b) (places_of n b) in
-      where_fits 16 (has_state (spec_of n b).kind) (only_where (is_active b) t) (λ q.
-      ((active_fits b is, next_fits (spec_of n b) (places_of n b) (in_bounds n net b is) next_reads_law (is_typed b is) 14, tt), tt))
+    delay_fits : (i : ℕ) → i ≤ 4096 → (s : Source) → IsSource n s → BlockFits 16 (delay_text n part i s)
+    delay_fits i l Start is = tt
+    delay_fits i l (Port q) is =
+        let block = is.0.block in
+        let e = delay_expression (spec_of n q.block) (places_of n q.block) in
+        let x = delay_fits_all (spec_of n q.block) (places_of n q.block) (is_typed q.block block) (port_has_delay n net q is) (in_bounds n net q.block block) in
+        part_fits (part q.block) q.block block (program_text (i - 1) e done) (program_fits 14 (i - 1) e (omega (arith, l)) x)
+        (program_fits 13 (i - 1) e (omega (arith, l)) x)
 
-  halt_fits : (b : ℕ) → IsBlock n b → BlockFits 16 (halt_text n b)
-  halt_fits b is =
-      where_fits 16 (is_halt (spec_of n b).kind) (only_where (is_active b) (one (set (scalar halt_name) (natural 1)))) (λ q.
-      ((active_fits b is, (((refl, omega arith), is_small 1 (omega arith)), tt), tt), tt))
+    state_fits : (b : ℕ) → IsBlock n b → BlockFits 16 (state_text n part b)
+    state_fits b is =
+        let t = next_text (spec_of n b) (places_of n b) in
+        where_fits 16 (has_state (spec_of n b).kind) (where_part (part b) b t) (λ q.
+        part_fits (part b) b is t (next_fits (spec_of n b) (places_of n b) (in_bounds n net b is) next_reads_law (is_typed b is) 15)
+        (next_fits (spec_of n b) (places_of n b) (in_bounds n net b is) next_reads_law (is_typed b is) 14))
+
+    halt_fits : (b : ℕ) → IsBlock n b → BlockFits 16 (halt_text n part b)
+    halt_fits b is =
+        let t = one (set (scalar halt_name) (natural 1)) in
+        where_fits 16 (is_halt (spec_of n b).kind) (where_part (part b) b t) (λ q.
+        part_fits (part b) b is t (((refl, omega arith), is_small 1 (omega arith)), tt) (((refl, omega arith), is_small 1 (omega arith)), tt))
 
   inside : (k : ℕ) → k < length n.specs → IsBlock n (suc k)
   inside k l = record { least = omega arith; most = omega (arith, l) }
 
-  settle_fits : BlockFits 16 (settle_text n)
-  settle_fits =
+  settle_fits : (part : ℕ → Part) → BlockFits 16 (settle_text n part)
+  settle_fits part =
       let few = few_ports n net in
-      joined_fits 16 (all_shown n) (joined (all_delays n) (joined (all_states n) (all_halts n)))
-      (upto_fits 16 (λ k. values_shown n (suc k)) (length n.specs) (λ k l. values_fit (suc k) (inside k l)))
-      (joined_fits 16 (all_delays n) (joined (all_states n) (all_halts n))
-      (upto_fits 16 (λ k. delay_text n (suc k) (source_of n (suc k))) (port_count n) (λ k l.
-      delay_fits (suc k) (omega (arith, l, few)) (source_of n (suc k)) (source_is (suc k) (omega (arith, l)))))
-      (joined_fits 16 (all_states n) (all_halts n) (upto_fits 16 (λ k. state_text n (suc k)) (length n.specs) (λ k l. state_fits (suc k) (inside k l)))
-      (upto_fits 16 (λ k. halt_text n (suc k)) (length n.specs) (λ k l. halt_fits (suc k) (inside k l)))))
+      joined_fits 16 (all_shown n part) (joined (all_delays n part) (joined (all_states n part) (all_halts n part)))
+      (upto_fits 16 (λ k. values_shown n part (suc k)) (length n.specs) (λ k l. values_fit part (suc k) (inside k l)))
+      (joined_fits 16 (all_delays n part) (joined (all_states n part) (all_halts n part))
+      (upto_fits 16 (λ k. delay_text n part (suc k) (source_of n (suc k))) (port_count n) (λ k l.
+      delay_fits part (suc k) (omega (arith, l, few)) (source_of n (suc k)) (source_is (suc k) (omega (arith, l)))))
+      (joined_fits 16 (all_states n part) (all_halts n part)
+      (upto_fits 16 (λ k. state_text n part (suc k)) (length n.specs) (λ k l. state_fits part (suc k) (inside k l)))
+      (upto_fits 16 (λ k. halt_text n part (suc k)) (length n.specs) (λ k l. halt_fits part (suc k) (inside k l)))))
+
+  following_fits : (own : Bool) (row : List Entry) → BlockFits 16 (following_text own n row)
+  following_fits true row = settle_fits (part_in row)
+  following_fits false row = ((refl, omega arith), tt)
+
+  source_fits : (rows : List (List Entry)) → AreLoopFree n → IsSchedule n rows → (i : ℕ) → i < length (sources_of n)
+      → BlockFits 16 (source_function n rows i).body
+  source_fits rows free schedule i l =
+      let own = has_own n rows in
+      let row = slice_index_or rows i [] in
+      joined_fits 16 (pass_text own n (source_of n i) row) (following_text own n row)
+      (joined_fits 16 (header_text (source_of n i)) (joined (text_where own (texts (cleared_text n) row)) (texts (entry_text own n) row))
+      (header_fits (source_of n i) (source_is i l)) (row_fits own (source_of n i) (free i l) row (schedule.each i (omega (arith, l, schedule.enough)))))
+      (following_fits own row)
 
   cell_fits : (d : ℕ) (x : Name) → IsName x → BlockFits (suc d) (one (set (cell x (var scan_name)) (natural 0)))
   cell_fits d x h = (((h, is_var scan_name (refl, omega arith)), is_small 0 (omega arith)), tt)
@@ -387,37 +437,75 @@ module _ (n : Parts) (net : IsNet n) where
 
   -- ---- sci_main
 
-  halted_fits : (d : ℕ) → BlockFits (suc (suc d)) (halted_text n)
-  halted_fits d = where_fits (suc (suc d)) (has_halt n) (end_where (var halt_name) 0)
-      (λ q. end_fits d (var halt_name) 0 (is_var halt_name (refl, omega arith)) (omega arith))
+  -- as many levels as decisions by halves take
+  abbrev levels : ℕ → ℕ → ℕ
+  levels d zero = suc d
+  levels d (suc k) = suc (levels d k)
 
-  fire_fits : BlockFits 16 (fire_text n)
-  fire_fits = (
+  levels_more : (d k : ℕ) → levels (suc d) k ≡ suc (levels d k)
+  levels_more d zero = refl
+  levels_more d (suc k) = ap suc (levels_more d k)
+
+  abbrev Fit : ℕ → Type 0
+  Fit k = (d i c : ℕ) → i < 2048 → i + c ≤ 2048 → BlockFits (levels d k) (one (react_step k i c))
+
+  react_fits : (k : ℕ) → Fit k
+  react_fits zero d i c l m = subst (λ (s : Statement). BlockFits (suc d) (one s)) (sym (react_last i c)) ((refl, omega (arith, l)), tt)
+  react_fits (suc k) d i c l m =
+      subst (λ (s : Statement). BlockFits (suc (levels d k)) (one s)) (sym (react_more k i c)) (by_count (react_fits k) (nat_lt (2 ^ k) c) refl)
+    where
+      by_count : Fit k → (t : Bool) → nat_lt (2 ^ k) c ≡ t → BlockFits (suc (levels d k))
+          (one (if t then in_first i (2 ^ k) (react_step k i (2 ^ k)) (react_step k (i + 2 ^ k) (c - 2 ^ k)) else react_step k i c))
+      by_count go true q =
+          let more = ltb-true (2 ^ k) c q in (
+            (
+              is_chosen (i + 2 ^ k) (omega (arith, more, m)),
+              go d i (2 ^ k) l (omega (arith, more, m)),
+              go d (i + 2 ^ k) (c - 2 ^ k) (omega (arith, more, m)) (omega (arith, more, m)),
+            ),
+            tt,
+          )
+      by_count go false q = subst (λ (j : ℕ). BlockFits j (one (react_step k i c))) (levels_more d k) (go (suc d) i c l m)
+
+  fire_fits : (own : Bool) (d : ℕ) → BlockFits (levels d react_deep) (fire_text own n)
+  fire_fits own d = (
     ((refl, omega arith), is_date),
     (
       (((refl, omega arith), is_var chosen_name (refl, omega arith)), minus_one),
-      (
-        (refl, omega arith),
-        joined_fits 16 (upto fires_source (port_count n)) (next (call settle_name) (one (call choose_name)))
-            (upto_fits 16 fires_source (port_count n) (λ k l.
-            let few = few_ports n net in
-            ((is_chosen (suc k - 1) (omega (arith, l, few)), ((refl, omega (arith, l, few)), tt), tt), tt)))
-            ((refl, omega arith), ((refl, omega arith), tt)),
-      ),
+      joined_fits (levels d react_deep) (text_where (not own) (one (call clear_name))) (next (react_step react_deep 0 (port_count n)) (one (call choose_name)))
+          (where_fits (levels d react_deep) (not own) (one (call clear_name)) (λ q. ((refl, omega arith), tt))) (
+            (react_fits react_deep d 0 (port_count n) (omega arith) (let few = few_ports n net in omega (arith, few))).0,
+            ((refl, omega arith), tt),
+          ),
     ),
   )
 
-  event_fits : BlockFits 16 (event_text n)
-  event_fits = by_ports (nat_lt 0 (port_count n))
+  event_fits : (own : Bool) (d : ℕ) → BlockFits (suc (suc (levels d react_deep))) (event_text own n)
+  event_fits own d = by_ports (nat_lt 0 (port_count n))
     where
-      by_ports : (t : Bool) → BlockFits 16 (if t then joined (end_where (bin Lt (var next_date) (natural 0)) 2)
-          (joined (end_where (bin Gt (var next_date) (var until_name)) 3) (fire_text n))
+      by_ports : (t : Bool) → BlockFits (suc (suc (levels d react_deep))) (if t then end_or (bin Lt (var next_date) (natural 0)) 2
+          (end_or (bin Gt (var next_date) (var until_name)) 3 (fire_text own n))
           else one (tell (finish (natural 2))))
-      by_ports true = ((none_pending, (is_small 2 (omega arith), tt), tt), ((too_late, (is_small 3 (omega arith), tt), tt), fire_fits))
+      by_ports true = (
+        (
+          none_pending,
+          (is_small 2 (omega arith), tt),
+          ((too_late, (is_small 3 (omega arith), tt), fire_fits own d), tt),
+        ),
+        tt,
+      )
       by_ports false = (is_small 2 (omega arith), tt)
 
-  turn_fits : BlockFits 16 (turn_text n)
-  turn_fits = joined_fits 16 (halted_text n) (event_text n) (halted_fits 14) event_fits
+  -- behind the test whether a HALT_f was active, where there is one
+  halted_fits : (t : Bool) (rest : Block) → BlockFits 15 rest → BlockFits 16 rest → BlockFits 16 (if t then end_or (var halt_name) 0 rest else rest)
+  halted_fits true rest h k = end_fits 14 (var halt_name) 0 rest (is_var halt_name (refl, omega arith)) (omega arith) h
+  halted_fits false rest h k = k
+
+  turn_fits : (own : Bool) → BlockFits 16 (turn_text own n)
+  turn_fits own = halted_fits (has_halt n) (event_text own n) (event_fits own 1) (event_fits own 2)
+
+  ending_fits : BlockFits 16 (ending n)
+  ending_fits = halted_fits (has_halt n) (one (tell (finish (natural 1)))) (is_small 1 (omega arith), tt) (is_small 1 (omega arith), tt)
 
   begun_fits : (a : Name) (k : ℕ) (z : ℤ) → IsName a → k < 2 ^ 63 → negsuc 4294967295 ≤ℤ z → z ≤ℤ pos 4294967295 → BlockFits 16 (begun_text a k z)
   begun_fits a k z h l lo hi = where_fits 16 (not (int_eq z (pos 0))) (one (set (cell a (natural k)) (number z)))
@@ -494,13 +582,13 @@ module _ (n : Parts) (net : IsNet n) where
   begin_fits : BlockFits 16 (begin_text n)
   begin_fits =
       joined_fits 16 (outset_text n) (starting n) outset_fits
-      (((refl, omega arith), tt), ((refl, omega arith), ((refl, omega arith), first_fits_here)))
+      (((refl, omega arith), tt), ((refl, omega arith), first_fits_here))
 
   main_fits : BlockFits 16 (main_text n)
   main_fits =
       joined_fits 16 (begin_text n) (running n) begin_fits (
         ((refl, omega arith), (refl, omega arith), ((refl, omega arith), tt)),
-        joined_fits 16 (halted_text n) (one (tell (finish (natural 1)))) (halted_fits 14) (is_small 1 (omega arith), tt),
+        ending_fits,
       )
 
   -- ---- the program
@@ -536,7 +624,7 @@ module _ (n : Parts) (net : IsNet n) where
   scalar_then : (x : Name) (ds : List Declared) → IsName x → All IsDeclared ds → All IsDeclared (a_scalar x ∷ ds)
   scalar_then x ds h r = All-cons IsDeclared (a_scalar x) ds (h, tt) r
 
-  scratch_fit : (k : ℕ) → k ≤ 4 → All IsDeclared (scratch_declared k)
+  scratch_fit : (k : ℕ) → k ≤ 5 → All IsDeclared (scratch_declared k)
   scratch_fit zero l = All-nil IsDeclared
   scratch_fit (suc k) l =
       all_both IsDeclared (scratch_declared k) _ (scratch_fit k (omega (arith, l)))
@@ -598,25 +686,31 @@ module _ (n : Parts) (net : IsNet n) where
       let is = inside k l in (
         (refl, omega (arith, l, net.wired.few)),
         is_body (block_function n rows (suc k)).body (where_fits 16 (is_scheduled rows (suc k)) (body_text (spec_of n (suc k)) (places_of n (suc k)))
-            (λ q. body_fits (spec_of n (suc k)) (places_of n (suc k)) (in_bounds n net (suc k) is) cell_reads_law (is_typed (suc k) is) 5)),
+            (λ q. body_fits (spec_of n (suc k)) (places_of n (suc k)) (in_bounds n net (suc k) is) cell_reads_law (is_typed (suc k) is) 4)),
       )
 
-  other_functions_fit : All IsFunction (other_functions n)
-  other_functions_fit =
-      All-cons IsFunction (settle_function n) (functions_where (nat_lt 0 (port_count n)) (before n))
-      ((refl, omega arith), is_body (settle_text n) settle_fits) (functions_fit (nat_lt 0 (port_count n)) (before n)
-      (All-cons IsFunction (clear_function n) (choose_function n ∷ []) ((refl, omega arith), is_body (clear_text n) clear_fits)
-      (All-cons IsFunction (choose_function n) [] ((refl, omega arith), is_body (choose_text n) choose_fits) (All-nil IsFunction))))
+  shared_fit : All IsFunction (shared n)
+  shared_fit =
+      All-cons IsFunction (settle_function n) (clears n) ((refl, omega arith), is_body (shared_text n) (settle_fits (λ b. Marked)))
+      (functions_fit (nat_lt 0 (port_count n)) (clear_function n ∷ [])
+      (All-cons IsFunction (clear_function n) [] ((refl, omega arith), is_body (clear_text n) clear_fits) (All-nil IsFunction)))
+
+  other_functions_fit : (own : Bool) → All IsFunction (other_functions own n)
+  other_functions_fit own =
+      all_both IsFunction (functions_where (not own) (shared n)) (chooses n) (functions_fit (not own) (shared n) shared_fit)
+      (functions_fit (nat_lt 0 (port_count n)) (choose_function n ∷ [])
+      (All-cons IsFunction (choose_function n) [] ((refl, omega arith), is_body (choose_text n) choose_fits) (All-nil IsFunction)))
 
   pub is_whole : (rows : List (List Entry)) → AreLoopFree n → IsSchedule n rows → IsWhole (program n rows)
   is_whole rows free schedule = record {
     decls = declarations_fit rows;
-    funcs = all_both IsFunction (called_functions n rows) (event_function n ∷ [])
-        (all_both IsFunction (blocks n rows ++ other_functions n) (sources n rows)
-        (all_both IsFunction (blocks n rows) (other_functions n)
-        (upto_functions_fit (λ k. block_function n rows (suc k)) (length n.specs) (block_function_fits rows)) other_functions_fit)
+    funcs = all_both IsFunction (called_functions n rows) (event_function (has_own n rows) n ∷ [])
+        (all_both IsFunction (blocks n rows ++ other_functions (has_own n rows) n) (sources n rows)
+        (all_both IsFunction (blocks n rows) (other_functions (has_own n rows) n)
+        (upto_functions_fit (λ k. block_function n rows (suc k)) (length n.specs) (block_function_fits rows)) (other_functions_fit (has_own n rows)))
         (upto_functions_fit (source_function n rows) (length (sources_of n)) (λ i l.
         ((refl, (let few = few_ports n net in omega (arith, l, few))), is_body (source_function n rows i).body (source_fits rows free schedule i l)))))
-        (All-cons IsFunction (event_function n) [] ((refl, omega arith), is_body (turn_text n) turn_fits) (All-nil IsFunction));
+        (All-cons IsFunction (event_function (has_own n rows) n) []
+        ((refl, omega arith), is_body (turn_text (has_own n rows) n) (turn_fits (has_own n rows))) (All-nil IsFunction));
     main = is_body (main_text n) main_fits;
   }

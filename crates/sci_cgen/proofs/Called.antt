@@ -1,5 +1,5 @@
 -- What calls mean in the program: each name has one function.
-use Rattle.std.proofs.Common.{◌≡◌, ℕ, zero, suc, ◌<◌, ◌≤◌, List, [], ◌∷◌, ◌++◌, length, Option, Some, None, Bool, true, false, ◌||◌, nat_lt, inl, inr, refl, sym, ap, ◌∙◌, arith, append_assoc, lt-ltb, ℤ, slice_index_or}
+use Rattle.std.proofs.Common.{◌≡◌, ℕ, zero, suc, ◌<◌, ◌≤◌, List, [], ◌∷◌, ◌++◌, length, Option, Some, None, Bool, true, false, not, ◌||◌, nat_lt, inl, inr, refl, sym, ap, ◌∙◌, arith, append_assoc, lt-ltb, ℤ, slice_index_or}
 use Rattle.std.proofs.lemmas.Bool.{cases_lt}
 use Rattle.sci_net.specs.Parts.{Parts}
 use Rattle.sci_net.specs.Sources.{sources_of, source_of}
@@ -11,25 +11,24 @@ use Rattle.c_steps.specs.Programs.{surroundings, is_defined}
 use Rattle.c_steps.proofs.Memory.{other_number}
 use Rattle.c_steps.proofs.Programs.{call_is, calls_stay, defined_joined}
 use Rattle.sci_cgen.specs.Names.{source_name, settle_name, clear_name, choose_name, event_name}
-use Rattle.sci_cgen.specs.Program.{port_count, block_function, source_function, row_text, settle_text, clear_text, choose_text, functions_upto, functions_where, other_functions, called_functions, event_function, turn_text, functions}
+use Rattle.sci_cgen.specs.Program.{has_own, port_count, block_function, source_function, row_text, shared_text, clear_text, choose_text, functions_upto, functions_where, shared_functions, other_functions, called_functions, event_function, turn_text, functions}
 
 -- the functions of blocks, and those before the function of source k
 abbrev pub block_functions : Parts → List (List Entry) → List Function
 block_functions n rows = functions_upto (λ k. block_function n rows (suc k)) (length n.specs)
 
 abbrev pub before_source : Parts → List (List Entry) → ℕ → List Function
-before_source n rows k = block_functions n rows ++ (other_functions n ++ functions_upto (source_function n rows) k)
+before_source n rows k = block_functions n rows ++ (other_functions (has_own n rows) n ++ functions_upto (source_function n rows) k)
 
 -- what a call means, where the name has a function
 abbrev pub run_of : Option (World → Ran) → World → Ran
 run_of (Some run) = run
 run_of None = λ w. quietly (going w)
 
--- These are the runs of the functions of all sources, and of the one that settles.
-pub record AreReactions (n : Parts) (rows : List (List Entry)) (last most : ℤ) (react : ℕ → World → Ran) (settle : World → Ran) : Type 0 where
+-- These are the runs of the functions of all sources.
+pub record AreReactions (n : Parts) (rows : List (List Entry)) (last most : ℤ) (react : ℕ → World → Ran) : Type 0 where
   pub source : (k : ℕ) → k < length (sources_of n) → (number : ℕ) × (react k ≡ run_block (surroundings (before_source n rows k) last most) number
-      (row_text n (source_of n k) (slice_index_or rows k [])))
-  pub settling : (number : ℕ) × (settle ≡ run_block (surroundings (block_functions n rows) last most) number (settle_text n))
+      (row_text (has_own n rows) n (source_of n k) (slice_index_or rows k [])))
 
 -- ---- functions behind a function
 
@@ -76,11 +75,14 @@ module _ (n : Parts) (rows : List (List Entry)) (last most : ℤ) where
   abbrev sources : List Function
   sources = functions_upto (source_function n rows) (length (sources_of n))
 
+  abbrev others : List Function
+  others = other_functions (has_own n rows) n
+
   -- ---- sources
 
   source_called : (k : ℕ) → k < length (sources_of n)
       → (number : ℕ) × (env.calls (source_name k) ≡ Some (run_block (surroundings (before_source n rows k) last most) number
-      (row_text n (source_of n k) (slice_index_or rows k []))))
+      (row_text (has_own n rows) n (source_of n k) (slice_index_or rows k []))))
   source_called k l =
       let f = follows (source_function n rows) k (length (sources_of n)) l in
       let c = call_is (before_source n rows k) (source_function n rows k) f.rest last most
@@ -92,16 +94,16 @@ module _ (n : Parts) (rows : List (List Entry)) (last most : ℤ) where
       placed : (rest : List Function) → sources ≡ functions_upto (source_function n rows) k ++ source_function n rows k ∷ rest
           → called_functions n rows ≡ before_source n rows k ++ source_function n rows k ∷ rest
       placed rest e =
-          append_assoc (block_functions n rows) (other_functions n) sources
-          ∙ (ap (λ (fs : List Function). block_functions n rows ++ (other_functions n ++ fs)) e
+          append_assoc (block_functions n rows) others sources
+          ∙ (ap (λ (fs : List Function). block_functions n rows ++ (others ++ fs)) e
           ∙ (ap (λ (fs : List Function). block_functions n rows ++ fs)
-          (sym (append_assoc (other_functions n) (functions_upto (source_function n rows) k) (source_function n rows k ∷ rest)))
-          ∙ sym (append_assoc (block_functions n rows) (other_functions n ++ functions_upto (source_function n rows) k) (source_function n rows k ∷ rest))))
+          (sym (append_assoc others (functions_upto (source_function n rows) k) (source_function n rows k ∷ rest)))
+          ∙ sym (append_assoc (block_functions n rows) (others ++ functions_upto (source_function n rows) k) (source_function n rows k ∷ rest))))
 
   -- ---- the other functions
 
   abbrev settle_function : Function
-  settle_function = record { name = settle_name; body = settle_text n }
+  settle_function = record { name = settle_name; body = shared_text n }
 
   abbrev clear_function : Function
   clear_function = record { name = clear_name; body = clear_text n }
@@ -109,54 +111,75 @@ module _ (n : Parts) (rows : List (List Entry)) (last most : ℤ) where
   abbrev choose_function : Function
   choose_function = record { name = choose_name; body = choose_text n }
 
-  settle_called : (number : ℕ) × (env.calls settle_name ≡ Some (run_block (surroundings (block_functions n rows) last most) number (settle_text n)))
-  settle_called =
+  abbrev ports : Bool
+  ports = nat_lt 0 (port_count n)
+
+  -- where one text follows for all sources, their functions find the one that settles
+  pub settle_called : has_own n rows ≡ false → (k : ℕ)
+      → (number : ℕ) × ((surroundings (before_source n rows k) last most).calls settle_name
+      ≡ Some (run_block (surroundings (block_functions n rows) last most) number (shared_text n)))
+  settle_called one_for_all k =
+      let earlier = functions_upto (source_function n rows) k in
       let c = call_is (block_functions n rows) settle_function
-      (functions_where (nat_lt 0 (port_count n)) (clear_function ∷ choose_function ∷ []) ++ sources) last most
-      (by_ports (nat_lt 0 (port_count n))) in (
+      ((functions_where ports (clear_function ∷ []) ++ functions_where ports (choose_function ∷ [])) ++ earlier) last most (by_ports ports) in (
         c.0,
-        ap (λ (fs : List Function). (surroundings fs last most).calls settle_name) (append_assoc (block_functions n rows) (other_functions n) sources) ∙ c.1,
+        ap (λ (o : Bool). (surroundings (block_functions n rows ++ (other_functions o n ++ earlier)) last most).calls settle_name) one_for_all ∙ c.1,
       )
     where
-      by_ports : (t : Bool) → is_defined settle_name (functions_where t (clear_function ∷ choose_function ∷ []) ++ sources) ≡ false
-      by_ports true = no_source n rows settle_name (λ j. refl) (length (sources_of n))
-      by_ports false = no_source n rows settle_name (λ j. refl) (length (sources_of n))
+      by_ports : (t : Bool)
+          → is_defined settle_name ((functions_where t (clear_function ∷ []) ++ functions_where t (choose_function ∷ [])) ++ functions_upto (source_function n rows) k)
+          ≡ false
+      by_ports true = no_source n rows settle_name (λ j. refl) k
+      by_ports false = no_source n rows settle_name (λ j. refl) k
 
   -- where events fire
   module _ (some : 1 ≤ port_count n) where
-    functions_are : called_functions n rows ≡ block_functions n rows ++ settle_function ∷ clear_function ∷ choose_function ∷ sources
-    functions_are =
-        append_assoc (block_functions n rows) (other_functions n) sources
-        ∙ ap (λ (t : Bool). block_functions n rows ++ settle_function ∷ (functions_where t (clear_function ∷ choose_function ∷ []) ++ sources))
-        (lt-ltb 0 (port_count n) (omega (arith, some)))
+    some_ports : ports ≡ true
+    some_ports = lt-ltb 0 (port_count n) (omega (arith, some))
 
-    clear_called : (before : List Function) × (number : ℕ) × (env.calls clear_name ≡ Some (run_block (surroundings before last most) number (clear_text n)))
-    clear_called =
+    functions_are : has_own n rows ≡ false → called_functions n rows ≡ block_functions n rows ++ settle_function ∷ clear_function ∷ choose_function ∷ sources
+    functions_are one_for_all =
+        append_assoc (block_functions n rows) (other_functions (has_own n rows) n) sources
+        ∙ (ap (λ (o : Bool). block_functions n rows ++ (other_functions o n ++ sources)) one_for_all
+        ∙ ap (λ (t : Bool). block_functions n rows ++ (((settle_function ∷ functions_where t (clear_function ∷ []))
+        ++ functions_where t (choose_function ∷ [])) ++ sources)) some_ports)
+
+    clear_called : has_own n rows ≡ false
+        → (before : List Function) × (number : ℕ) × (env.calls clear_name ≡ Some (run_block (surroundings before last most) number (clear_text n)))
+    clear_called one_for_all =
         let c = call_is (block_functions n rows ++ settle_function ∷ []) clear_function (choose_function ∷ sources) last most
         (no_source n rows clear_name (λ j. refl) (length (sources_of n))) in (
           block_functions n rows ++ settle_function ∷ [],
           c.0,
           ap (λ (fs : List Function). (surroundings fs last most).calls clear_name)
-              (functions_are ∙ sym (append_assoc (block_functions n rows) (settle_function ∷ []) (clear_function ∷ choose_function ∷ sources))) ∙ c.1,
+              (functions_are one_for_all ∙ sym (append_assoc (block_functions n rows) (settle_function ∷ []) (clear_function ∷ choose_function ∷ sources))) ∙ c.1,
         )
+
+    -- the functions before the one that chooses
+    abbrev before_choose : List Function
+    before_choose = block_functions n rows ++ functions_where (not (has_own n rows)) (shared_functions n)
+
+    choose_last : called_functions n rows ≡ before_choose ++ choose_function ∷ sources
+    choose_last =
+        let a = functions_where (not (has_own n rows)) (shared_functions n) in
+        let b = functions_where ports (choose_function ∷ []) in
+        append_assoc (block_functions n rows) (a ++ b) sources
+        ∙ (ap (λ (fs : List Function). block_functions n rows ++ fs) (append_assoc a b sources)
+        ∙ (sym (append_assoc (block_functions n rows) a (b ++ sources))
+        ∙ ap (λ (t : Bool). before_choose ++ (functions_where t (choose_function ∷ []) ++ sources)) some_ports))
 
     choose_called : (before : List Function) × (number : ℕ) × (env.calls choose_name ≡ Some (run_block (surroundings before last most) number (choose_text n)))
     choose_called =
-        let c = call_is (block_functions n rows ++ settle_function ∷ clear_function ∷ []) choose_function sources last most
-        (no_source n rows choose_name (λ j. refl) (length (sources_of n))) in (
-          block_functions n rows ++ settle_function ∷ clear_function ∷ [],
+        let c = call_is before_choose choose_function sources last most (no_source n rows choose_name (λ j. refl) (length (sources_of n))) in (
+          before_choose,
           c.0,
-          ap (λ (fs : List Function). (surroundings fs last most).calls choose_name)
-              (functions_are ∙ sym (append_assoc (block_functions n rows) (settle_function ∷ clear_function ∷ []) (choose_function ∷ sources))) ∙ c.1,
+          ap (λ (fs : List Function). (surroundings fs last most).calls choose_name) choose_last ∙ c.1,
         )
 
   -- ---- all of them
 
   abbrev pub react : ℕ → World → Ran
   react k = run_of (env.calls (source_name k))
-
-  abbrev pub settle : World → Ran
-  settle = run_of (env.calls settle_name)
 
   abbrev pub clear : World → Ran
   clear = run_of (env.calls clear_name)
@@ -171,26 +194,21 @@ module _ (n : Parts) (rows : List (List Entry)) (last most : ℤ) where
   pub react_is : (k : ℕ) → k < length (sources_of n) → env.calls (source_name k) ≡ Some (react k)
   react_is k l = is_run (env.calls (source_name k)) _ (source_called k l).1
 
-  pub settle_is : env.calls settle_name ≡ Some settle
-  settle_is = is_run (env.calls settle_name) _ settle_called.1
-
-  pub clear_is : 1 ≤ port_count n → env.calls clear_name ≡ Some clear
-  clear_is some = is_run (env.calls clear_name) _ (clear_called some).2
+  pub clear_is : 1 ≤ port_count n → has_own n rows ≡ false → env.calls clear_name ≡ Some clear
+  clear_is some one_for_all = is_run (env.calls clear_name) _ (clear_called some one_for_all).2
 
   pub choose_is : 1 ≤ port_count n → env.calls choose_name ≡ Some choose
   choose_is some = is_run (env.calls choose_name) _ (choose_called some).2
 
-  pub clear_runs : 1 ≤ port_count n → (before : List Function) × (number : ℕ) × (clear ≡ run_block (surroundings before last most) number (clear_text n))
-  clear_runs some = let c = clear_called some in (c.0, c.1, ap run_of c.2)
+  pub clear_runs : 1 ≤ port_count n → has_own n rows ≡ false
+      → (before : List Function) × (number : ℕ) × (clear ≡ run_block (surroundings before last most) number (clear_text n))
+  clear_runs some one_for_all = let c = clear_called some one_for_all in (c.0, c.1, ap run_of c.2)
 
   pub choose_runs : 1 ≤ port_count n → (before : List Function) × (number : ℕ) × (choose ≡ run_block (surroundings before last most) number (choose_text n))
   choose_runs some = let c = choose_called some in (c.0, c.1, ap run_of c.2)
 
-  pub reactions_are : AreReactions n rows last most react settle
-  reactions_are = record {
-    source = λ k l. let c = source_called k l in (c.0, ap run_of c.1);
-    settling = let c = settle_called in (c.0, ap run_of c.1);
-  }
+  pub reactions_are : AreReactions n rows last most react
+  reactions_are = record { source = λ k l. let c = source_called k l in (c.0, ap run_of c.1) }
 
   -- ---- in sci_main
 
@@ -199,7 +217,7 @@ module _ (n : Parts) (rows : List (List Entry)) (last most : ℤ) where
 
   -- other calls mean there what they do in the function of one event
   pub same_call : (f : Name) → same_name event_name f ≡ false → main.calls f ≡ env.calls f
-  same_call f h = calls_stay f (called_functions n rows) (event_function n ∷ []) last most (ap (λ (t : Bool). t || false) h)
+  same_call f h = calls_stay f (called_functions n rows) (event_function (has_own n rows) n ∷ []) last most (ap (λ (t : Bool). t || false) h)
 
-  pub event_called : (number : ℕ) × (main.calls event_name ≡ Some (run_block env number (turn_text n)))
-  event_called = call_is (called_functions n rows) (event_function n) [] last most refl
+  pub event_called : (number : ℕ) × (main.calls event_name ≡ Some (run_block env number (turn_text (has_own n rows) n)))
+  event_called = call_is (called_functions n rows) (event_function (has_own n rows) n) [] last most refl

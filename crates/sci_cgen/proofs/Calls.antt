@@ -36,14 +36,15 @@ use Rattle.c_steps.proofs.Memory.{keeps_places}
 use Rattle.c_steps.proofs.Steps.{leads_as}
 use Rattle.sci_cgen_blocks.specs.Recipes.{scratch_of}
 use Rattle.sci_cgen_blocks.specs.Texts.{values, masks, scratch_name, input_place, body_text}
-use Rattle.sci_cgen_blocks.specs.Meant.{Holds, IsFed, IsApart, Answers, TakesFirst}
+use Rattle.sci_cgen_blocks.specs.Meant.{Holds, HasScratch, IsFed, IsApart, Answers, TakesFirst}
 use Rattle.sci_cgen_blocks.specs.Laws.{ValuesLaw, SensorLaw}
-use Rattle.sci_cgen_blocks.proofs.Sensing.{is_kind, sensor_column, sensor_out}
+use Rattle.sci_cgen_blocks.proofs.Sensing.{is_kind, sensor_takes, sensor_column, sensor_out}
 use Rattle.sci_cgen.specs.Program.{places_of}
 use Rattle.sci_forms.specs.Form.{is_read, reads_mask}
 use Rattle.sci_cgen.specs.Shows.{ShowsColumns}
 use Rattle.sci_cgen.specs.Passes.{ShowsNet, HasCalled, Gives, RunsBody, AreCalled}
 use Rattle.sci_cgen.proofs.Given.{input_start, input_shown}
+use Rattle.sci_cgen.proofs.Sizes.{in_bounds}
 
 -- ---- kinds
 
@@ -153,8 +154,10 @@ module _ (n : Parts) (net : IsNet n) (scratch : ℕ) (i : Columns) (m : Memory) 
     state = λ j a. h.states.each b j block a;
     mask = is;
     outs = λ e a. record { holds = at (y b) e; is = h.values.each b e block a };
-    scratch = λ k a r. h.room.scratch_names k a (omega (arith, r, enough));
   }
+
+  room : HasScratch (spec_of n b) w
+  room k a r = h.room.scratch_names k a (omega (arith, r, enough))
 
   -- ---- a block that isn't a sensor
 
@@ -192,7 +195,7 @@ module _ (n : Parts) (net : IsNet n) (scratch : ℕ) (i : Columns) (m : Memory) 
             → Answers (spec_of n b) (places_of n b) w (out (spec_of n b) (m.state b) l given_here) (body_run env k)
         answers l ok is =
             law env (spec_of n b) (places_of n b) (m.state b) l given_here k w (net.typed_specs b block) other (memory.states b block) ok
-            (inputs_in_range n net y b block in_range) (holds l is) apart
+            (inputs_in_range n net y b block in_range) (holds l is) room (in_bounds n net b block) apart
 
         by_kind : (t : Bool) → reads_mask (spec_of n b).kind ≡ t → Gives n i b cursor w (values_or_word (out (spec_of n b) (m.state b) mask given_here))
             (body_run env k)
@@ -269,8 +272,8 @@ module _ (n : Parts) (net : IsNet n) (scratch : ℕ) (i : Columns) (m : Memory) 
 
     sensor_scratch : Has w (scratch_name 1) 0
     sensor_scratch =
-        let few : scratch_of (spec_of n b).kind (spec_of n b) ≡ 1 = ap (λ (k : Kind). scratch_of k (spec_of n b)) kind in
-        h.room.scratch_names 1 (omega arith) (omega (arith, few, enough))
+        let some = sensor_takes (spec_of n b).kind (spec_of n b) kind in
+        h.room.scratch_names 1 (omega arith) (omega (arith, some, enough))
 
     senses_gives : SensorLaw → (env : Around) (k : ℕ)
         → Gives n i b cursor w (answer n m i b mask (input_in n y b)) (body_run env k)

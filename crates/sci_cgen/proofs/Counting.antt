@@ -7,7 +7,6 @@ use Rattle.sci_base.specs.declared.observation.Obs.{Obs}
 use Rattle.sci_base.specs.Lists.{at, spread}
 use Rattle.sci_base.proofs.FitLemmas.{rem_bounds}
 use Rattle.sci_forms.specs.declared.Kind.{Kind}
-use Rattle.sci_forms.specs.declared.Kind.TheVariants.{ModuloCount}
 use Rattle.sci_forms.specs.declared.spec.Spec.{Spec}
 use Rattle.sci_forms.specs.Words.{param, state_len_of}
 use Rattle.sci_kinds.specs.Asks.{Asks}

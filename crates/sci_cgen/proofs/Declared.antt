@@ -1,5 +1,5 @@
 -- The variables and the functions of a generated program have different names, and its arrays are small.
-use Rattle.std.proofs.Common.{◌≡◌, ℕ, zero, suc, ◌+◌, ◌<◌, ◌≤◌, inl, inr, List, [], ◌∷◌, ◌++◌, length, max, Some, None, Bool, true, false, nat_eq, nat_lt, if◌then◌else◌, refl, ◌∙◌, subst, arith}
+use Rattle.std.proofs.Common.{◌≡◌, ℕ, zero, suc, ◌+◌, ◌<◌, ◌≤◌, inl, inr, List, [], ◌∷◌, ◌++◌, length, max, Some, None, Bool, true, false, not, nat_eq, nat_lt, if◌then◌else◌, refl, ◌∙◌, subst, arith}
 use Rattle.std.proofs.lemmas.Bool.{cases_eq, cond-false}
 use Rattle.sci_net.specs.Parts.{Parts}
 use Rattle.sci_net.specs.Sources.{sources_of}
@@ -13,9 +13,9 @@ use Rattle.c_ast.specs.Rules.{same_name, kind_in, kind_of}
 use Rattle.c_steps.proofs.Memory.{other_name, other_number, not_same}
 use Rattle.sci_cgen_blocks.specs.Texts.{scratch_name}
 use Rattle.sci_cgen_blocks.proofs.WholeRules.{declaring, AreNew, sizes, AreNewFunctions, declaring_functions}
-use Rattle.sci_cgen.specs.Names.{block_name, source_name, event_name}
-use Rattle.sci_cgen.specs.Program.{has_sync, has_halt, port_count, states_before, a_scalar, declared_where, scratch_declared, scratch_count, declarations, functions_upto, functions_where, other_functions, source_function, event_function}
-use Rattle.sci_cgen.proofs.Parted.{value_arrays, active_array, branch_array, due_arrays, limit_scalars, event_scalars, halt_scalar, own, blocks, sources, before}
+use Rattle.sci_cgen.specs.Names.{block_name, source_name, settle_name, clear_name, choose_name, event_name}
+use Rattle.sci_cgen.specs.Program.{has_own, has_sync, has_halt, port_count, states_before, a_scalar, declared_where, scratch_declared, scratch_count, declarations, functions_upto, functions_where, other_functions, source_function, event_function}
+use Rattle.sci_cgen.proofs.Parted.{value_arrays, active_array, branch_array, due_arrays, limit_scalars, event_scalars, halt_scalar, own, blocks, sources, settle_function, clear_function, choose_function}
 use Rattle.sci_cgen.proofs.Sizes.{few_ports, few_all_states, scratch_few}
 
 -- ---- fewer variables
@@ -93,7 +93,7 @@ fewer_new (skip d ds es f) ks ls h new =
 module _ (n : Parts) where
   abbrev most : List Declared
   most =
-      value_arrays n ++ active_array n ++ branch_array n ++ due_arrays n ++ scratch_declared 4 ++ limit_scalars ++ event_scalars ++ halt_scalar
+      value_arrays n ++ active_array n ++ branch_array n ++ due_arrays n ++ scratch_declared 5 ++ limit_scalars ++ event_scalars ++ halt_scalar
 
   most_new : AreNew most []
   most_new = (
@@ -108,7 +108,7 @@ module _ (n : Parts) where
             refl,
             (
               refl,
-              (refl, (refl, (refl, (refl, (refl, (refl, (refl, (refl, (refl, (refl, (refl, (refl, (refl, (refl, (refl, tt))))))))))))))),
+              (refl, (refl, (refl, (refl, (refl, (refl, (refl, (refl, (refl, (refl, (refl, (refl, (refl, (refl, (refl, (refl, tt)))))))))))))))),
             ),
           ),
         ),
@@ -121,7 +121,7 @@ module _ (n : Parts) where
       both_of (both_of (both_of (both_of (both_of (both_of (both_of (all_of (value_arrays n)) (where_of (nat_lt 0 (length n.specs)) (active_array n)))
       (where_of (has_sync n) (branch_array n)))
       (where_of (nat_lt 0 (port_count n)) (due_arrays n)))
-      (scratch_of_more (scratch_count n rows (length n.specs)) 4 (scratch_few n rows (length n.specs))))
+      (scratch_of_more (scratch_count n rows (length n.specs)) 5 (scratch_few n rows (length n.specs))))
       (all_of limit_scalars))
       (where_of (nat_lt 0 (port_count n)) event_scalars))
       (where_of (has_halt n) halt_scalar)
@@ -228,7 +228,7 @@ module _ (n : Parts) (rows : List (List Entry)) where
           refl,
           (
             refl,
-            (refl, (refl, (refl, (refl, (refl, (refl, (refl, (refl, (refl, (refl, (refl, (refl, (refl, (refl, (refl, (refl, tt)))))))))))))))),
+            (refl, (refl, (refl, (refl, (refl, (refl, (refl, (refl, (refl, (refl, (refl, (refl, (refl, (refl, (refl, (refl, (refl, tt))))))))))))))))),
           ),
         ),
       ),
@@ -241,16 +241,33 @@ module _ (n : Parts) (rows : List (List Entry)) where
   abbrev variables : List (Name × Kind)
   variables = declaring (declarations n rows) []
 
-  others_new : (ks : List (Name × Kind)) → ((k : ℕ) → kind_in ks (record { letter = 103; number = k }) ≡ None) → AreNewFunctions (other_functions n) ks
-  others_new ks h = (h 2, by_test (nat_lt 0 (port_count n)))
-    where
-      by_test : (t : Bool) → AreNewFunctions (functions_where t (before n)) ((record { letter = 103; number = 2 }, kinds.Function) ∷ ks)
-      by_test true = (h 1, (h 3, tt))
-      by_test false = tt
+  abbrev others : List Function
+  others = other_functions (has_own n rows) n
 
-  pub first_new : AreNewFunctions (blocks n rows ++ other_functions n) variables
+  others_new : (ks : List (Name × Kind)) → ((k : ℕ) → kind_in ks (record { letter = 103; number = k }) ≡ None) → AreNewFunctions others ks
+  others_new ks h = by_tests (has_own n rows) (nat_lt 0 (port_count n))
+    where
+      by_tests : (o t : Bool) → AreNewFunctions (functions_where (not o) (settle_function n ∷ functions_where t (clear_function n ∷ []))
+          ++ functions_where t (choose_function n ∷ [])) ks
+      by_tests true true = (h 3, tt)
+      by_tests true false = tt
+      by_tests false true = (h 2, (h 1, (h 3, tt)))
+      by_tests false false = (h 2, tt)
+
+  -- none of them has the name of a function with another letter or number
+  others_other : (x : Name) → same_name settle_name x ≡ false → same_name clear_name x ≡ false → same_name choose_name x ≡ false → AreOther x others
+  others_other x s c d = by_tests (has_own n rows) (nat_lt 0 (port_count n))
+    where
+      by_tests : (o t : Bool) → AreOther x (functions_where (not o) (settle_function n ∷ functions_where t (clear_function n ∷ []))
+          ++ functions_where t (choose_function n ∷ []))
+      by_tests true true = (d, tt)
+      by_tests true false = tt
+      by_tests false true = (s, (c, (d, tt)))
+      by_tests false false = (s, tt)
+
+  pub first_new : AreNewFunctions (blocks n rows ++ others) variables
   first_new =
-      new_both (blocks n rows) (other_functions n) variables
+      new_both (blocks n rows) others variables
       (new_upto (own n rows) (length n.specs) variables (λ j. no_variable (block_name (suc j)) refl)
       (λ i j l. other_number 102 (suc i) (suc j) (λ e. omega (arith, e, l))))
       (others_new (declaring_functions (blocks n rows) variables) (λ k.
@@ -258,31 +275,23 @@ module _ (n : Parts) (rows : List (List Entry)) where
       (other_upto (record { letter = 103; number = k }) (own n rows) (length n.specs) (λ j l. refl))
       (no_variable (record { letter = 103; number = k }) refl)))
 
-  pub second_new : AreNewFunctions (sources n rows) (declaring_functions (blocks n rows ++ other_functions n) variables)
+  pub second_new : AreNewFunctions (sources n rows) (declaring_functions (blocks n rows ++ others) variables)
   second_new =
-      new_upto (source_function n rows) (length (sources_of n)) (declaring_functions (blocks n rows ++ other_functions n) variables) (λ j.
-      none_behind (blocks n rows ++ other_functions n) variables (source_name j)
-      (other_both (source_name j) (blocks n rows) (other_functions n)
-      (other_upto (source_name j) (own n rows) (length n.specs) (λ i l. refl)) (refl, by_test (nat_lt 0 (port_count n)) j))
+      new_upto (source_function n rows) (length (sources_of n)) (declaring_functions (blocks n rows ++ others) variables) (λ j.
+      none_behind (blocks n rows ++ others) variables (source_name j)
+      (other_both (source_name j) (blocks n rows) others
+      (other_upto (source_name j) (own n rows) (length n.specs) (λ i l. refl)) (others_other (source_name j) refl refl refl))
       (no_variable (source_name j) refl))
       (λ i j l. other_number 115 i j (λ e. omega (arith, e, l)))
-    where
-      by_test : (t : Bool) (j : ℕ) → AreOther (source_name j) (functions_where t (before n))
-      by_test true j = (refl, (refl, tt))
-      by_test false j = tt
 
-  pub third_new : AreNewFunctions (event_function n ∷ [])
-      (declaring_functions (sources n rows) (declaring_functions (blocks n rows ++ other_functions n) variables))
+  pub third_new : AreNewFunctions (event_function (has_own n rows) n ∷ [])
+      (declaring_functions (sources n rows) (declaring_functions (blocks n rows ++ others) variables))
   third_new = (
-    none_behind (sources n rows) (declaring_functions (blocks n rows ++ other_functions n) variables) event_name
+    none_behind (sources n rows) (declaring_functions (blocks n rows ++ others) variables) event_name
         (other_upto event_name (source_function n rows) (length (sources_of n)) (λ j l. refl))
-        (none_behind (blocks n rows ++ other_functions n) variables event_name
-        (other_both event_name (blocks n rows) (other_functions n) (other_upto event_name (own n rows) (length n.specs) (λ j l. refl))
-        (refl, by_test (nat_lt 0 (port_count n))))
+        (none_behind (blocks n rows ++ others) variables event_name
+        (other_both event_name (blocks n rows) others (other_upto event_name (own n rows) (length n.specs) (λ j l. refl))
+        (others_other event_name refl refl refl))
         (no_variable event_name refl)),
     tt,
   )
-    where
-      by_test : (t : Bool) → AreOther event_name (functions_where t (before n))
-      by_test true = (refl, (refl, tt))
-      by_test false = tt

@@ -1,5 +1,5 @@
 -- Counts over the blocks of a net.
-use Rattle.std.proofs.Common.{arith, ◌≡◌, ℕ, zero, suc, ◌+◌, ◌-◌, ◌<◌, ◌≤◌, List, [], ◌∷◌, length, drop, max, Bool, false, ◌||◌, slice_index_or, if◌then◌else◌, refl, sym, ap, ap₂, ◌∙◌}
+use Rattle.std.proofs.Common.{arith, ◌≡◌, ℕ, zero, suc, ◌+◌, ◌-◌, ◌<◌, ◌≤◌, List, [], ◌∷◌, length, drop, max, Bool, true, false, ◌||◌, slice_index_or, if◌then◌else◌, refl, sym, ap, ap₂, ◌∙◌}
 use Rattle.std.specs.List.{list_any}
 use Rattle.std.proofs.lemmas.List.{drop_more}
 use Rattle.sci_forms.specs.declared.ports.Port.{Port}
@@ -26,6 +26,19 @@ any_more f ss i l = ap (list_any f) (drop_more ss i no_spec l) ∙ ap (λ s. f s
 pub any_passed : (f : Spec → Bool) (ss : List Spec) (i : ℕ) (all : Bool) → i < length ss → list_any f (drop i ss) ≡ all
     → f (numbered no_spec ss (i + 1)) ≡ false → list_any f (drop (i + 1) ss) ≡ all
 any_passed f ss i all l so_far here = sym (ap (λ b. b || list_any f (drop (i + 1) ss)) here) ∙ sym (any_more f ss i l) ∙ so_far
+
+-- it is decided where the test holds of the next
+pub any_there : (f : Spec → Bool) (ss : List Spec) (i : ℕ) (all : Bool) → i < length ss → list_any f (drop i ss) ≡ all
+    → f (numbered no_spec ss (i + 1)) ≡ true → true ≡ all
+any_there f ss i all l so_far here = sym (ap (λ b. b || list_any f (drop (i + 1) ss)) here) ∙ sym (any_more f ss i l) ∙ so_far
+
+-- and of all ports
+port_more : (f : Port → Bool) (ps : List Port) (i : ℕ) → i < length ps → list_any f (drop i ps) ≡ (f (port_at ps i) || list_any f (drop (i + 1) ps))
+port_more f ps i l = ap (list_any f) (drop_more ps i no_port l)
+
+pub port_passed : (f : Port → Bool) (ps : List Port) (i : ℕ) (all : Bool) → i < length ps → list_any f (drop i ps) ≡ all → f (port_at ps i) ≡ false
+    → list_any f (drop (i + 1) ps) ≡ all
+port_passed f ps i all l so_far here = sym (ap (λ b. b || list_any f (drop (i + 1) ps)) here) ∙ sym (port_more f ps i l) ∙ so_far
 
 -- ---- sums
 

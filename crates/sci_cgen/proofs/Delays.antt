@@ -37,10 +37,11 @@ use Rattle.sci_due.specs.Laws.{ShowsPending, AreOfPorts, HasProgrammed}
 use Rattle.sci_cgen_blocks.specs.Texts.{delay_expression}
 use Rattle.sci_cgen_blocks.proofs.Effects.{delay_term_law}
 use Rattle.sci_cgen_blocks.proofs.NextTexts.{delay_is}
+use Rattle.sci_cgen.specs.declared.parts.Part.{Part}
 use Rattle.sci_cgen.specs.Program.{port_count, each_port, places_of, delay_text}
 use Rattle.sci_cgen.specs.Shows.{ShowsValues, ShowsStates, ShowsActive, HasRoom}
 use Rattle.sci_cgen.proofs.Table.{ports_lead}
-use Rattle.sci_cgen.proofs.Given.{holds_unread, delay_unread, delay_few}
+use Rattle.sci_cgen.proofs.Given.{holds_unread, delay_unread}
 use Rattle.sci_cgen.proofs.Staying.{values_stay, states_stay, room_stays}
 
 -- ---- the sources but start
@@ -92,8 +93,8 @@ delay_most n net (suc k) p u = elim (cases_lt k (length n.specs)) [
       subst (λ (s : Spec). delay s p u ≤ℤ pos 2147483647) (sym absent) (omega (arith, ints))
 ]
 
-module _ (env : Around) (n : Parts) (net : IsNet n) (scratch date : ℕ) (x y : Signals) (active : Activity) (p : Pending) (w : World) (in_range : AreInRange n y)
-    (values : ShowsValues n y w) (states : ShowsStates n x w) (room : HasRoom n scratch w) (marked : ShowsActive n active w)
+module _ (env : Around) (n : Parts) (net : IsNet n) (scratch date : ℕ) (x y : Signals) (part : ℕ → Part) (active : Activity) (p : Pending) (w : World) (in_range : AreInRange n y)
+    (values : ShowsValues n y w) (states : ShowsStates n x w) (room : HasRoom n scratch w) (marked : ShowsActive n part active w)
     (ports : AreOfPorts (port_count n) p.events) (soon : date ≤ 2 ^ 62) (small : suc (p.programmed + port_count n) < 2 ^ 63) where
   -- the delay of an output, on the values of the reaction
   abbrev full : Feed → ℤ
@@ -104,19 +105,18 @@ module _ (env : Around) (n : Parts) (net : IsNet n) (scratch date : ℕ) (x y : 
   delay_there q source w' alone =
       let block = port_block n q source in
       let has = port_has_delay n net q source in
-      let few = delay_few (spec_of n q.block).kind (spec_of n q.block) has in
       delay_is (spec_of n q.block) (places_of n q.block) (x q.block) 0 (all_inputs (spec_of n q.block) (input_in n y q.block)) w'
       (holds_unread n net y (λ c b. (in_range c b).enough) w' (values_stay is_programming w w' alone n y refl values) q.block scratch (x q.block) block
-      (delay_unread (spec_of n q.block).kind has) (omega (arith, few))
+      (delay_unread (spec_of n q.block).kind has)
       (λ i l. (states_stay is_programming w w' alone n x refl states).each q.block i block l) (room_stays is_programming w w' alone n scratch refl room))
       delay_term_law (net.typed_specs q.block block) has (inputs_in_range n net y q.block block in_range) q.port
 
   -- They program them by block and port, as they do on the values of the reaction.
   pub delays_lead : 1 ≤ port_count n → ShowsPending (port_count n) p w → get w now_name 0 ≡ Some (pos date) → (k : ℕ)
-      → Leads (run_block env k (each_port (λ i. delay_text n i (source_of n i)) n) w)
+      → Leads (run_block env k (each_port (λ i. delay_text n part i (source_of n i)) n) w)
       (HasProgrammed (port_count n) (next_pending n date y active p) w)
   delays_lead some pending now_is k =
-      ports_lead env n date p.programmed soon small p w active full (omega arith) ports pending now_is (room.delay some)
+      ports_lead env n part date p.programmed soon small p w active full (omega arith) ports pending now_is (room.delay some)
       (λ q j l e. marked.each q.block (port_block n q (port_is n q j l e)))
       (λ q j l e a w' alone. delay_there q (port_is n q j l e) w' alone)
       (λ q. delay_most n net q.block q.port _) k

@@ -15,7 +15,7 @@ use Rattle.sci_net.specs.declared.Source.TheVariants.{Start, Port}
 use Rattle.sci_net.specs.Parts.{Parts, IsBlock, IsWired, spec_of, feeds_of}
 use Rattle.sci_net.specs.Net.{IsNet}
 use Rattle.sci_reaction.specs.Links.{SourceFeeds}
-use Rattle.sci_reaction.specs.Active.{seeded, passed, Reaches}
+use Rattle.sci_reaction.specs.Active.{seeded, passed, Reaches, Possible}
 use Rattle.sci_reaction.specs.Depends.{IsLoopFree}
 use Rattle.sci_reaction.specs.Equations.{HasBits}
 use Rattle.sci_reaction.specs.Schedule.{Guard, Entry, blocks_of, branch_of, IsRow}
@@ -94,6 +94,9 @@ module _ (n : Parts) (s : Source) (net : IsNet n) (free : IsLoopFree n s) (row :
         port = reached n net.wired (branch_of q) h.reaches;
         few = feed_mask n net.wired e.block q.mask (branch_of q) block_here h.feeds;
       }
+
+  pub guard_possible : (q : Guard) → Contains e.guards q → Possible n s q.block
+  guard_possible q c = (fits.are_guards q c).possible
 
   in_blocks : blocks_of row ≡ blocks_of pre ++ e.block ∷ blocks_of post
   in_blocks = ap blocks_of split ∙ map-append (λ (x : Entry). x.block) pre (e ∷ post)

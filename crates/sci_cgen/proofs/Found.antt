@@ -17,22 +17,22 @@ use Rattle.c_steps.proofs.Memory.{other_name, same_apart, put_elsewhere, has_put
 use Rattle.sci_cgen_blocks.specs.Texts.{values, masks}
 use Rattle.sci_cgen.specs.Names.{actives, branches}
 use Rattle.sci_forms.specs.Form.{reads_mask}
-use Rattle.sci_cgen.specs.Shows.{ShowsValues, ShowsActive, ShowsBranches, ShowsColumns, HasRoom, ShowsPass, is_worked}
+use Rattle.sci_cgen.specs.Shows.{ShowsValues, ShowsMarks, ShowsBranches, ShowsColumns, HasRoom, ShowsPass, is_worked}
 use Rattle.sci_cgen.specs.Passes.{HasCalled}
 use Rattle.sci_cgen.proofs.Marks.{IsMarked}
 
 -- all that is shown of a pass but the branches
-pub record ShowsMost (n : Parts) (scratch : ℕ) (i : Columns) (cursor : ℕ → ℕ) (y : Signals) (active : ℕ → Bool) (before w : World) : Type 0 where
+pub record ShowsMost (n : Parts) (scratch : ℕ) (i : Columns) (asked : ℕ → Bool) (cursor : ℕ → ℕ) (y : Signals) (active : ℕ → Bool) (before w : World) : Type 0 where
   pub values : ShowsValues n y w
-  pub active_are : ShowsActive n active w
+  pub active_are : ShowsMarks n asked active w
   pub columns : ShowsColumns n i cursor w
   pub room : HasRoom n scratch w
   pub kept : (x : Name) (k : ℕ) → is_worked x ≡ false → get w x k ≡ get before x k
 
-pub with_branches : (n : Parts) (scratch : ℕ) (i : Columns) (cursor : ℕ → ℕ) (g : Progress) (before w : World)
-    → ShowsMost n scratch i cursor g.values g.applied before w → ShowsBranches n g w → ShowsPass n scratch i cursor g before w
-with_branches n scratch i cursor g before w s b =
-    record { values = s.values; active = s.active_are; branches = b; columns = s.columns; room = s.room; kept = s.kept }
+pub with_branches : (n : Parts) (scratch : ℕ) (i : Columns) (asked told : ℕ → Bool) (cursor : ℕ → ℕ) (g : Progress) (before w : World)
+    → ShowsMost n scratch i asked cursor g.values g.applied before w → ShowsBranches n told g w → ShowsPass n scratch i asked told cursor g before w
+with_branches n scratch i asked told cursor g before w s b =
+    record { values = s.values; marks = s.active_are; branches = b; columns = s.columns; room = s.room; kept = s.kept }
 
 worked_apart : (x y : Name) (i j : ℕ) → is_worked x ≡ true → is_worked y ≡ false → same_place x i y j ≡ false
 worked_apart x y i j p q = ap (λ (b : Bool). b && nat_eq i j) (other_name is_worked x y p q)
@@ -41,11 +41,11 @@ worked_apart x y i j p q = ap (λ (b : Bool). b && nat_eq i j) (other_name is_wo
 pub other_block : (n : Parts) (b c : ℕ) → IsBlock n b → IsBlock n c → (c ≡ b → ⊥) → b - 1 ≡ c - 1 → ⊥
 other_block n b c h k d e = d (let l = h.least in let m = k.least in omega (arith, e, l, m))
 
-module _ (n : Parts) (scratch : ℕ) (i : Columns) (b : ℕ) (block : IsBlock n b) where
+module _ (n : Parts) (scratch : ℕ) (i : Columns) (asked told : ℕ → Bool) (b : ℕ) (block : IsBlock n b) where
   -- ---- behind the mark
 
-  module _ (cursor : ℕ → ℕ) (g : Progress) (before w v : World) (s : ShowsPass n scratch i cursor g before w) (t : Bool) (z : ℤ)
-      (m : IsMarked n b t z w v) where
+  module _ (cursor : ℕ → ℕ) (g : Progress) (before w v : World) (s : ShowsPass n scratch i asked told cursor g before w) (t : Bool) (z : ℤ)
+      (m : IsMarked n (asked b) b t z w v) where
     marked_room : HasRoom n scratch v
     marked_room = record {
       unread = λ c h off. elim (cases_eq c b) [
@@ -62,14 +62,15 @@ module _ (n : Parts) (scratch : ℕ) (i : Columns) (b : ℕ) (block : IsBlock n 
       delay = λ l. m.there _ 0 (s.room.delay l);
     }
 
-    pub marked_shows : ShowsMost n scratch i cursor g.values (put g.applied b t) before v
+    pub marked_shows : ShowsMost n scratch i asked cursor g.values (put g.applied b t) before v
     marked_shows = record {
       values = record { each = λ c e h l. m.same values (start_of n c + e) refl (λ r. refl) ∙ s.values.each c e h l };
       active_are = record {
-        each = λ c h. elim (cases_eq c b) [
-          | inl e ↦ ap (λ d. get v actives (d - 1)) e ∙ (m.active ∙ ap (λ (u : Bool). Some (truth u)) (sym (put_same g.applied b t c e)))
+        each = λ c h a. elim (cases_eq c b) [
+          | inl e ↦ ap (λ d. get v actives (d - 1)) e
+              ∙ (m.active (ap asked (sym e) ∙ a) ∙ ap (λ (u : Bool). Some (truth u)) (sym (put_same g.applied b t c e)))
           | inr d ↦ m.same actives (c - 1) (same_apart (b - 1) (c - 1) (other_block n b c block h d) true) (λ r. refl)
-              ∙ (s.active.each c h ∙ ap (λ (u : Bool). Some (truth u)) (sym (put_other g.applied b t c d)))
+              ∙ (s.marks.each c h a ∙ ap (λ (u : Bool). Some (truth u)) (sym (put_other g.applied b t c d)))
         ];
       };
       columns = record { each = λ c h. ap (λ l. numbered [] l (column_of (spec_of n c))) m.left ∙ s.columns.each c h };
@@ -77,17 +78,17 @@ module _ (n : Parts) (scratch : ℕ) (i : Columns) (b : ℕ) (block : IsBlock n 
       kept = λ x k h. m.same x k (worked_apart actives x (b - 1) k refl h) (λ r. worked_apart masks x (b - 1) k refl h) ∙ s.kept x k h;
     }
 
-    pub marked_branches : ShowsBranches n g v
-    marked_branches = record { each = λ c h sync. m.same branches (c - 1) refl (λ r. refl) ∙ s.branches.each c h sync }
+    pub marked_branches : ShowsBranches n told g v
+    marked_branches = record { each = λ c h known sync. m.same branches (c - 1) refl (λ r. refl) ∙ s.branches.each c h known sync }
 
   -- a block that isn't active
-  pub idle_shows : (cursor : ℕ → ℕ) (g : Progress) (before w v : World) → ShowsPass n scratch i cursor g before w → (z : ℤ) → IsMarked n b false z w v
-      → g.applied b ≡ false → ShowsPass n scratch i cursor g before v
+  pub idle_shows : (cursor : ℕ → ℕ) (g : Progress) (before w v : World) → ShowsPass n scratch i asked told cursor g before w → (z : ℤ)
+      → IsMarked n (asked b) b false z w v → g.applied b ≡ false → ShowsPass n scratch i asked told cursor g before v
   idle_shows cursor g before w v s z m off =
       let most = marked_shows cursor g before w v s false z m in
-      with_branches n scratch i cursor g before v (record {
+      with_branches n scratch i asked told cursor g before v (record {
         values = most.values;
-        active_are = record { each = λ c h. most.active_are.each c h ∙ ap (λ (u : Bool). Some (truth u)) (back c) };
+        active_are = record { each = λ c h a. most.active_are.each c h a ∙ ap (λ (u : Bool). Some (truth u)) (back c) };
         columns = most.columns;
         room = most.room;
         kept = most.kept;
@@ -98,7 +99,7 @@ module _ (n : Parts) (scratch : ℕ) (i : Columns) (b : ℕ) (block : IsBlock n 
 
   -- ---- behind the call
 
-  module _ (cursor : ℕ → ℕ) (y : Signals) (active : ℕ → Bool) (before v u : World) (s : ShowsMost n scratch i cursor y active before v) (vs : List ℤ)
+  module _ (cursor : ℕ → ℕ) (y : Signals) (active : ℕ → Bool) (before v u : World) (s : ShowsMost n scratch i asked cursor y active before v) (vs : List ℤ)
       (k : HasCalled n i b vs cursor v u) where
     -- other names but scratch stay
     pub called_same : (x : Name) (j : ℕ) → is_scratch x ≡ false → same_name values x ≡ false → get u x j ≡ get v x j
@@ -134,10 +135,10 @@ module _ (n : Parts) (scratch : ℕ) (i : Columns) (b : ℕ) (block : IsBlock n 
       ];
     }
 
-    pub called_shows : ShowsMost n scratch i (put cursor b (cursor b + 1)) (put y b vs) active before u
+    pub called_shows : ShowsMost n scratch i asked (put cursor b (cursor b + 1)) (put y b vs) active before u
     called_shows = record {
       values = called_values;
-      active_are = record { each = λ c h. called_same actives (c - 1) refl refl ∙ s.active_are.each c h };
+      active_are = record { each = λ c h a. called_same actives (c - 1) refl refl ∙ s.active_are.each c h a };
       columns = k.columns;
       room = called_room;
       kept = λ x j h.
@@ -147,7 +148,7 @@ module _ (n : Parts) (scratch : ℕ) (i : Columns) (b : ℕ) (block : IsBlock n 
 
   -- ---- behind the branch
 
-  module _ (cursor : ℕ → ℕ) (y : Signals) (active : ℕ → Bool) (before u x : World) (s : ShowsMost n scratch i cursor y active before u) (z : ℤ)
+  module _ (cursor : ℕ → ℕ) (y : Signals) (active : ℕ → Bool) (before u x : World) (s : ShowsMost n scratch i asked cursor y active before u) (z : ℤ)
       (p : Puts u branches (b - 1) z x) where
     branched_room : HasRoom n scratch x
     branched_room = record {
@@ -161,10 +162,10 @@ module _ (n : Parts) (scratch : ℕ) (i : Columns) (b : ℕ) (block : IsBlock n 
       delay = λ l. has_puts u x branches (b - 1) z _ 0 p (s.room.delay l);
     }
 
-    pub branched_shows : ShowsMost n scratch i cursor y active before x
+    pub branched_shows : ShowsMost n scratch i asked cursor y active before x
     branched_shows = record {
       values = record { each = λ c e h l. put_elsewhere u x branches (b - 1) z values (start_of n c + e) p refl ∙ s.values.each c e h l };
-      active_are = record { each = λ c h. put_elsewhere u x branches (b - 1) z actives (c - 1) p refl ∙ s.active_are.each c h };
+      active_are = record { each = λ c h a. put_elsewhere u x branches (b - 1) z actives (c - 1) p refl ∙ s.active_are.each c h a };
       columns = record { each = λ c h. ap (λ l. numbered [] l (column_of (spec_of n c))) p.left ∙ s.columns.each c h };
       room = branched_room;
       kept = λ a j h. put_elsewhere u x branches (b - 1) z a j p (worked_apart branches a (b - 1) j refl h) ∙ s.kept a j h;

@@ -1,12 +1,11 @@
 -- What a block is given stands in memory where its text reads it.
-use Rattle.std.proofs.Common.{◌≡◌, ℕ, zero, suc, ◌+◌, ◌-◌, ◌<◌, ◌≤◌, List, [], ◌∷◌, length, map, Some, true, false, refl, sym, ap, ◌∙◌, subst, arith, ℤ, pos, true≢false, slice_index_or}
+use Rattle.std.proofs.Common.{◌≡◌, ℕ, zero, suc, ◌+◌, ◌-◌, ◌<◌, List, [], ◌∷◌, length, map, Some, true, false, refl, sym, ap, ◌∙◌, subst, arith, ℤ, pos, true≢false, slice_index_or}
 use Rattle.std.proofs.Math.ListN.{get_or-append}
 use Rattle.std.proofs.lemmas.List.{get_or-map, length-map, get_or-take, get_or-drop, get_or-append_right}
 use Rattle.sci_base.specs.Lists.{at, listed}
 use Rattle.sci_forms.specs.declared.Kind.{Kind}
 use Rattle.sci_forms.specs.declared.Kind.TheVariants.{Dollar, Register, ModuloCount, GatedDelay, EvtDly, EvtVarDly}
 use Rattle.sci_forms.specs.declared.ports.Port.{Port}
-use Rattle.sci_forms.specs.declared.spec.Spec.{Spec}
 use Rattle.sci_forms.specs.Ports.{port_at, elements, total, before}
 use Rattle.sci_forms.specs.Form.{has_state, has_delay}
 use Rattle.sci_forms.specs.Words.{state_len_of}
@@ -22,7 +21,6 @@ use Rattle.sci_span.specs.Values.{no_span}
 use Rattle.sci_places.proofs.Lists.{up_to}
 use Rattle.c_mean.specs.Meaning.{World}
 use Rattle.c_steps.specs.Places.{get}
-use Rattle.sci_cgen_blocks.specs.Recipes.{scratch_of}
 use Rattle.sci_cgen_blocks.specs.Texts.{values, states, input_place}
 use Rattle.sci_cgen_blocks.specs.Meant.{Holds, IsAny}
 use Rattle.sci_cgen.specs.Program.{places_of}
@@ -81,15 +79,14 @@ module _ (n : Parts) (net : IsNet n) (y : Signals) (long : (c : ℕ) → IsBlock
       ∙ ap Some (sym (laid_at (spec_of n b).ins (input_in n y b) k e l r)))
 
   -- Memory holds what a block is given that doesn't read its mask.
-  pub holds_unread : (b scratch : ℕ) (x : List ℤ) → IsBlock n b → reads_mask (spec_of n b).kind ≡ false → scratch_of (spec_of n b).kind (spec_of n b) ≤ scratch
+  pub holds_unread : (b scratch : ℕ) (x : List ℤ) → IsBlock n b → reads_mask (spec_of n b).kind ≡ false
       → ((i : ℕ) → i < state_len_of (spec_of n b).kind (spec_of n b) → get w states ((places_of n b).state + i) ≡ Some (at x i)) → HasRoom n scratch w
       → Holds (spec_of n b) (places_of n b) IsAny x 0 (all_inputs (spec_of n b) (input_in n y b)) w
-  holds_unread b scratch x block unread few held room = record {
+  holds_unread b scratch x block unread held room = record {
     ins = λ k e l r wanted. input_shown b k e block l r;
     state = held;
     mask = room.unread b block unread;
     outs = λ e l. record { holds = at (y b) e; is = shows.each b e block l };
-    scratch = λ k l r. room.scratch_names k l (omega (arith, r, few));
   }
 
 -- ---- kinds with a state, kinds with delays
@@ -101,19 +98,7 @@ state_unread ModuloCount h = refl
 state_unread GatedDelay h = refl
 state_unread _ h = absurd (true≢false (sym h))
 
-pub state_few : (c : Kind) (s : Spec) → has_state c ≡ true → scratch_of c s ≡ 0
-state_few Dollar s h = refl
-state_few Register s h = refl
-state_few ModuloCount s h = refl
-state_few GatedDelay s h = refl
-state_few _ s h = absurd (true≢false (sym h))
-
 pub delay_unread : (c : Kind) → has_delay c ≡ true → reads_mask c ≡ false
 delay_unread EvtDly h = refl
 delay_unread EvtVarDly h = refl
 delay_unread _ h = absurd (true≢false (sym h))
-
-pub delay_few : (c : Kind) (s : Spec) → has_delay c ≡ true → scratch_of c s ≡ 0
-delay_few EvtDly s h = refl
-delay_few EvtVarDly s h = refl
-delay_few _ s h = absurd (true≢false (sym h))

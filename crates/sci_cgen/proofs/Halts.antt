@@ -16,8 +16,9 @@ use Rattle.c_steps.specs.Runs.{Leads, LeftAlone}
 use Rattle.c_steps.proofs.Memory.{put_there}
 use Rattle.c_steps.proofs.Steps.{done_leads, let_runs, leads_as}
 use Rattle.c_steps.proofs.Frames.{alone_all, alone_then, puts_alone}
+use Rattle.sci_cgen.specs.declared.parts.Part.{Part}
 use Rattle.sci_cgen.specs.Names.{halt_name}
-use Rattle.sci_cgen.specs.Program.{natural, one, each_block, text_where, only_where, is_active, has_halt, halt_text}
+use Rattle.sci_cgen.specs.Program.{natural, one, each_block, text_where, where_part, has_halt, halt_text}
 use Rattle.sci_cgen.specs.Shows.{ShowsActive}
 use Rattle.sci_cgen.proofs.Staying.{active_stays}
 use Rattle.sci_cgen.proofs.States.{upto_leads, where_active}
@@ -75,7 +76,7 @@ record HasHalted (n : Parts) (t : Bool) (w0 w : World) : Type 0 where
   pub alone : LeftAlone (assigns_only is_halting) w0 w
   pub flag : has_halt n ≡ true → get w halt_name 0 ≡ Some (truth t)
 
-module _ (env : Around) (n : Parts) (active : Activity) (w0 : World) (marked : ShowsActive n active w0) where
+module _ (env : Around) (n : Parts) (part : ℕ → Part) (active : Activity) (w0 : World) (marked : ShowsActive n part active w0) where
   abbrev halts_at : ℕ → Bool
   halts_at j = one_halts active n.specs 1 j
 
@@ -89,7 +90,7 @@ module _ (env : Around) (n : Parts) (active : Activity) (w0 : World) (marked : S
       }))
 
   one_flag : (b : ℕ) → IsBlock n b → (t : Bool) (k : ℕ) (w : World) → HasHalted n t w0 w
-      → Leads (run_block env k (halt_text n b) w) (HasHalted n (t || (active b && is_halt (spec_of n b).kind)) w0)
+      → Leads (run_block env k (halt_text n part b) w) (HasHalted n (t || (active b && is_halt (spec_of n b).kind)) w0)
   one_flag b block t k w h = by_kind (is_halt (spec_of n b).kind) refl
     where
       by_truth : (a c : Bool) → (t || (a && c) ≡ t) → HasHalted n (t || (a && c)) w0 w
@@ -112,11 +113,11 @@ module _ (env : Around) (n : Parts) (active : Activity) (w0 : World) (marked : S
       set_flag false e = absurd (true≢false (sym e))
 
       by_kind : (c : Bool) → is_halt (spec_of n b).kind ≡ c
-          → Leads (run_block env k (text_where c (only_where (is_active b) (one (set (scalar halt_name) (natural 1))))) w)
+          → Leads (run_block env k (text_where c (where_part (part b) b (one (set (scalar halt_name) (natural 1))))) w)
           (HasHalted n (t || (active b && c)) w0)
       by_kind true is =
-          where_active env b (one (set (scalar halt_name) (natural 1))) (active b) k w
-          ((active_stays is_halting w0 w h.alone n active refl marked).each b block)
+          where_active env (part b) b (one (set (scalar halt_name) (natural 1))) (active b) k w
+          ((active_stays is_halting w0 w h.alone n part active refl marked).each b block)
           (λ on k'. leads_as (run_block env k' (one (set (scalar halt_name) (natural 1))) w)
           (λ w' g. subst (λ (u : Bool). HasHalted n u w0 w') (sym (set_flag (active b) on)) g) (flagged t w (halt_there n b block is) h k'))
           (λ off. by_truth (active b) true (idle true (active b) off))
@@ -124,14 +125,14 @@ module _ (env : Around) (n : Parts) (active : Activity) (w0 : World) (marked : S
 
   -- The flag, which wasn't set, says whether one is active.
   pub halts_lead : (has_halt n ≡ true → get w0 halt_name 0 ≡ Some (pos 0)) → (k : ℕ)
-      → Leads (run_block env k (each_block (halt_text n) n) w0)
+      → Leads (run_block env k (each_block (halt_text n part) n) w0)
       (λ w. LeftAlone (assigns_only is_halting) w0 w × (has_halt n ≡ true → get w halt_name 0 ≡ Some (truth (halts n active))))
   halts_lead clear k =
-      leads_as (run_block env k (each_block (halt_text n) n) w0)
+      leads_as (run_block env k (each_block (halt_text n part) n) w0)
       (λ w h. (h.alone, λ s. h.flag s ∙ ap (λ (t : Bool). Some (truth t)) (halts_upto active n.specs 1)))
-      (upto_leads env (λ j. halt_text n (suc j)) (length n.specs) (λ j w. HasHalted n (any_upto halts_at j) w0 w)
+      (upto_leads env (λ j. halt_text n part (suc j)) (length n.specs) (λ j w. HasHalted n (any_upto halts_at j) w0 w)
       (λ j l k' w h.
-      subst (λ (b : ℕ). Leads (run_block env k' (halt_text n (suc j)) w)
+      subst (λ (b : ℕ). Leads (run_block env k' (halt_text n part (suc j)) w)
       (HasHalted n (any_upto halts_at j || (active b && is_halt (spec_of n (suc j)).kind)) w0))
       (omega arith)
       (one_flag (suc j) (record { least = omega arith; most = omega (arith, l) }) (any_upto halts_at j) k' w h)) k w0

@@ -24,7 +24,7 @@ use Rattle.sci_places.proofs.Inputs.{output_within}
 use Rattle.sci_places.proofs.Laid.{numbered_old, numbered_new}
 use Rattle.sci_places.proofs.Outputs.{block_within}
 use Rattle.sci_cgen_blocks.specs.declared.block_layout.Layout.{Layout}
-use Rattle.sci_cgen_blocks.specs.Texts.{Places}
+use Rattle.sci_cgen_blocks.specs.Texts.{Places, fixed}
 use Rattle.sci_cgen_blocks.specs.Plain.{AreFew, plain_places}
 use Rattle.sci_cgen.specs.Program.{places_of, states_before}
 use Rattle.sci_cgen.specs.Built.{no_places, laid_at, AreLaid, IsNamed, AreNamed}
@@ -93,9 +93,9 @@ spans_small n b net block k d l =
 -- a block's places, from the parts that differ
 pub laid_block : (n : Parts) (b : ℕ) (ins : List ℕ) (outs state : ℕ) → ins ≡ map (λ (s : Span). s.start) (input_spans n b) → outs ≡ start_of n b
     → state ≡ states_before n.specs (b - 1)
-    → (let p : Places = record { number = b; ins = ins; outs = outs; state = state; mask = b - 1 } in p) ≡ places_of n b
+    → (let p : Places = record { number = b; ins = ins; outs = outs; state = state; mask = b - 1; which = fixed 0 } in p) ≡ places_of n b
 laid_block n b ins outs state e f g =
-    let at = λ (is : List ℕ) (o s : ℕ). let p : Places = record { number = b; ins = is; outs = o; state = s; mask = b - 1 } in p in
+    let at = λ (is : List ℕ) (o s : ℕ). let p : Places = record { number = b; ins = is; outs = o; state = s; mask = b - 1; which = fixed 0 } in p in
     let first = places_of n b in
     ap (λ (is : List ℕ). at is outs state) e ∙ ap (λ (o : ℕ). at first.ins o state) f ∙ ap (λ (s : ℕ). at first.ins first.outs s) g
 

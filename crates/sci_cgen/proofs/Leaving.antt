@@ -1,5 +1,5 @@
 -- No reaction assigns what is of the run alone, where the texts of blocks do no more than they may.
-use Rattle.std.proofs.Common.{◌≡◌, ℕ, zero, suc, ◌+◌, ◌-◌, ◌<◌, List, [], ◌∷◌, ◌++◌, length, Bool, true, false, not, ◌||◌, if◌then◌else◌, nat_eq, nat_lt, refl, sym, ap, subst, ℤ, slice_index_or}
+use Rattle.std.proofs.Common.{◌≡◌, ℕ, zero, suc, ◌+◌, ◌-◌, ◌<◌, List, [], ◌∷◌, ◌++◌, length, Bool, true, false, not, ◌||◌, ◌&&◌, if◌then◌else◌, nat_eq, nat_lt, refl, sym, ap, subst, ℤ, slice_index_or}
 use Rattle.std.proofs.lemmas.Bool.{and_from}
 use Rattle.std.specs.Int.{bit_at}
 use Rattle.sci_forms.specs.declared.ports.Port.{Port as Output}
@@ -23,15 +23,18 @@ use Rattle.c_steps.proofs.Memory.{and_left, and_right, other_name, not_same}
 use Rattle.c_steps.proofs.Texts.{joined_within, upto_within}
 use Rattle.c_steps.proofs.Frames.{block_leaves}
 use Rattle.c_steps.proofs.Programs.{functions_leave}
+use Rattle.sci_cgen_blocks.specs.Terms.{is_looped}
 use Rattle.sci_cgen_blocks.specs.Texts.{masks, body_text, next_text, delay_expression, branch_expression}
 use Rattle.sci_cgen_blocks.specs.Meant.{body_may, next_may}
 use Rattle.sci_cgen_blocks.specs.Laws.{MayLaw}
 use Rattle.sci_due.specs.Due.{best as chosen_name}
 use Rattle.sci_due.specs.Texts.{program_text}
-use Rattle.sci_cgen.specs.Names.{branches, limit_name, until_name, fired_name, halt_name, clear_name, choose_name}
-use Rattle.sci_cgen.specs.Program.{port_count, natural, one, is_active, is_taken, text_where, only_where, each_block, each_port, texts, mark, with_bit, with_bits, guard_text, call_text, entry_text, header_text, row_text, elements_shown, outputs_shown, values_shown, delay_text, state_text, halt_text, settle_text, clear_text, choose_text, places_of, is_scheduled, block_function, source_function, functions_upto, functions_where, other_functions}
+use Rattle.sci_cgen.specs.declared.parts.Part.{Part}
+use Rattle.sci_cgen.specs.declared.parts.Part.TheVariants.{Absent, Sure, Marked}
+use Rattle.sci_cgen.specs.Names.{actives, branches, limit_name, until_name, fired_name, halt_name, settle_name, clear_name, choose_name}
+use Rattle.sci_cgen.specs.Program.{has_own, port_count, natural, one, part_in, is_active, where_part, is_taken, text_where, only_where, each_block, each_port, texts, mark, with_bit, with_bits, guard_text, call_text, entry_text, cleared_text, header_text, pass_text, following_text, row_text, elements_shown, outputs_shown, values_shown, delay_text, state_text, halt_text, settle_text, shared_text, clear_text, choose_text, places_of, is_scheduled, block_function, source_function, functions_upto, functions_where, other_functions, looped_shown, output_shown}
 use Rattle.sci_forms.specs.Form.{reads_mask}
-use Rattle.sci_cgen.proofs.Ready.{is_of_run, reacting}
+use Rattle.sci_cgen.proofs.Ready.{is_of_run, may_call, reacting}
 use Rattle.sci_cgen.proofs.Called.{block_functions, before_source, AreReactions}
 
 -- ---- what may do more
@@ -80,7 +83,7 @@ none_true t h = cc
 body_wider : (s : Spec) → IsWider (body_may s) reacting
 body_wider s = record {
   assign = λ x h. of_others (body_may s).assign x refl refl refl refl h;
-  call = λ f h. none_true (nat_eq f.letter 102) h;
+  call = λ f h. none_true (may_call f) h;
   take = λ h. refl;
   show = λ h. refl;
 }
@@ -88,7 +91,7 @@ body_wider s = record {
 next_wider : IsWider next_may reacting
 next_wider = record {
   assign = λ x h. of_others next_may.assign x refl refl refl refl h;
-  call = λ f h. none_true (nat_eq f.letter 102) h;
+  call = λ f h. none_true (may_call f) h;
   take = λ h. refl;
   show = λ h. refl;
 }
@@ -133,22 +136,34 @@ module _ (n : Parts) where
   call_within b =
       where_within (is_sync (spec_of n b).kind) (one (set (cell branches (natural (b - 1))) (branch_expression (spec_of n b) (places_of n b)))) refl
 
-  entry_within : (e : Entry) → block_within reacting (entry_text n e) ≡ true
-  entry_within e =
+  entry_within : (own : Bool) (e : Entry) → block_within reacting (entry_text own n e) ≡ true
+  entry_within own e =
       let reads = reads_mask (spec_of n e.block).kind in
-      let marks = text_where e.always (mark e.block) in
+      let marks = text_where (not own && e.always) (mark e.block) in
       let first = one (set (cell masks (natural (e.block - 1))) (natural e.mask)) in
       let guards = texts (guard_text n e) e.guards in
       let body = only_where (is_active e.block) (call_text n e.block) in
       let last = if e.always then call_text n e.block else body in
       let guarded = text_where (not e.always || reads) guards in
-      joined_within reacting marks (joined (text_where reads first) (joined guarded last)) (where_within e.always (mark e.block) refl)
+      joined_within reacting marks (joined (text_where reads first) (joined guarded last)) (where_within (not own && e.always) (mark e.block) refl)
       (joined_within reacting (text_where reads first) (joined guarded last) (where_within reads first refl)
       (joined_within reacting guarded last (where_within (not e.always || reads) guards (texts_within (guard_text n e) e.guards (guard_within e)))
       (if_within e.always (call_text n e.block) body (call_within e.block) (only_within (is_active e.block) (call_text n e.block) (call_within e.block)))))
 
-  row_within : (s : Source) (row : List Entry) → block_within reacting (row_text n s row) ≡ true
-  row_within s row = joined_within reacting (header_text s) (texts (entry_text n) row) (header_within s) (texts_within (entry_text n) row entry_within)
+  cleared_within : (e : Entry) → block_within reacting (cleared_text n e) ≡ true
+  cleared_within e =
+      let active = one (set (cell actives (natural (e.block - 1))) (natural 0)) in
+      let branch = one (set (cell branches (natural (e.block - 1))) (natural 0)) in
+      joined_within reacting (text_where (not e.always) active) (text_where (is_sync (spec_of n e.block).kind) branch) (where_within (not e.always) active refl)
+      (where_within (is_sync (spec_of n e.block).kind) branch refl)
+
+  pass_within : (own : Bool) (s : Source) (row : List Entry) → block_within reacting (pass_text own n s row) ≡ true
+  pass_within own s row =
+      let first = text_where own (texts (cleared_text n) row) in
+      joined_within reacting (header_text s) (joined first (texts (entry_text own n) row)) (header_within s)
+      (joined_within reacting first (texts (entry_text own n) row)
+      (where_within own (texts (cleared_text n) row) (texts_within (cleared_text n) row cleared_within))
+      (texts_within (entry_text own n) row (entry_within own)))
 
   -- ---- the function that settles
 
@@ -156,45 +171,64 @@ module _ (n : Parts) where
   elements_within b p e o zero = refl
   elements_within b p e o (suc m) = elements_within b p (e + 1) (o + 1) m
 
+  output_within : (b p o m : ℕ) → block_within reacting (output_shown b p o m) ≡ true
+  output_within b p o m =
+      if_within (is_looped m) (one (looped_shown b p o m)) (elements_shown b p 1 o m) refl (elements_within b p 1 o m)
+
   outputs_within : (b p o : ℕ) (qs : List Output) → block_within reacting (outputs_shown b p o qs) ≡ true
   outputs_within b p o [] = refl
   outputs_within b p o (q ∷ qs) =
-      joined_within reacting (elements_shown b p 1 o (elements q)) (outputs_shown b (p + 1) (o + elements q) qs) (elements_within b p 1 o (elements q))
+      joined_within reacting (output_shown b p o (elements q)) (outputs_shown b (p + 1) (o + elements q) qs) (output_within b p o (elements q))
       (outputs_within b (p + 1) (o + elements q) qs)
 
-  shown_within : (b : ℕ) → block_within reacting (values_shown n b) ≡ true
-  shown_within b =
-      let shown = outputs_shown b 1 (start_of n b) (spec_of n b).outs in
-      where_within (nat_lt 0 (length (spec_of n b).outs)) (only_where (is_active b) shown)
-      (only_within (is_active b) shown (outputs_within b 1 (start_of n b) (spec_of n b).outs))
+  part_within : (p : Part) (b : ℕ) (a : Block) → block_within reacting a ≡ true → block_within reacting (where_part p b a) ≡ true
+  part_within Absent b a h = refl
+  part_within Sure b a h = h
+  part_within Marked b a h = only_within (is_active b) a h
 
-  delay_within : (i : ℕ) (s : Source) → block_within reacting (delay_text n i s) ≡ true
-  delay_within i Start = refl
-  delay_within i (Port q) = only_within (is_active q.block) (program_text (i - 1) (delay_expression (spec_of n q.block) (places_of n q.block)) done) refl
+  module _ (part : ℕ → Part) where
+    shown_within : (b : ℕ) → block_within reacting (values_shown n part b) ≡ true
+    shown_within b =
+        let shown = outputs_shown b 1 (start_of n b) (spec_of n b).outs in
+        where_within (nat_lt 0 (length (spec_of n b).outs)) (where_part (part b) b shown)
+        (part_within (part b) b shown (outputs_within b 1 (start_of n b) (spec_of n b).outs))
 
-  state_within : MayLaw → (b : ℕ) → block_within reacting (state_text n b) ≡ true
-  state_within law b =
-      let text = next_text (spec_of n b) (places_of n b) in
-      where_within (has_state (spec_of n b).kind) (only_where (is_active b) text)
-      (only_within (is_active b) text (block_wider next_may reacting next_wider text (law.next (spec_of n b) (places_of n b))))
+    delay_within : (i : ℕ) (s : Source) → block_within reacting (delay_text n part i s) ≡ true
+    delay_within i Start = refl
+    delay_within i (Port q) =
+        part_within (part q.block) q.block (program_text (i - 1) (delay_expression (spec_of n q.block) (places_of n q.block)) done) refl
 
-  halt_within : (b : ℕ) → block_within reacting (halt_text n b) ≡ true
-  halt_within b =
-      let text = one (set (scalar halt_name) (natural 1)) in
-      where_within (is_halt (spec_of n b).kind) (only_where (is_active b) text) (only_within (is_active b) text refl)
+    state_within : MayLaw → (b : ℕ) → block_within reacting (state_text n part b) ≡ true
+    state_within law b =
+        let text = next_text (spec_of n b) (places_of n b) in
+        where_within (has_state (spec_of n b).kind) (where_part (part b) b text)
+        (part_within (part b) b text (block_wider next_may reacting next_wider text (law.next (spec_of n b) (places_of n b))))
 
-  settle_within : MayLaw → block_within reacting (settle_text n) ≡ true
-  settle_within law =
-      let shown = each_block (values_shown n) n in
-      let delays = each_port (λ i. delay_text n i (source_of n i)) n in
-      let state = each_block (state_text n) n in
-      let flags = each_block (halt_text n) n in
-      joined_within reacting shown (joined delays (joined state flags))
-      (upto_within reacting (λ k. values_shown n (suc k)) (length n.specs) (λ k l. shown_within (suc k)))
-      (joined_within reacting delays (joined state flags)
-      (upto_within reacting (λ k. delay_text n (suc k) (source_of n (suc k))) (port_count n) (λ k l. delay_within (suc k) (source_of n (suc k))))
-      (joined_within reacting state flags (upto_within reacting (λ k. state_text n (suc k)) (length n.specs) (λ k l. state_within law (suc k)))
-      (upto_within reacting (λ k. halt_text n (suc k)) (length n.specs) (λ k l. halt_within (suc k)))))
+    halt_within : (b : ℕ) → block_within reacting (halt_text n part b) ≡ true
+    halt_within b =
+        let text = one (set (scalar halt_name) (natural 1)) in
+        where_within (is_halt (spec_of n b).kind) (where_part (part b) b text) (part_within (part b) b text refl)
+
+    settle_within : MayLaw → block_within reacting (settle_text n part) ≡ true
+    settle_within law =
+        let shown = each_block (values_shown n part) n in
+        let delays = each_port (λ i. delay_text n part i (source_of n i)) n in
+        let state = each_block (state_text n part) n in
+        let flags = each_block (halt_text n part) n in
+        joined_within reacting shown (joined delays (joined state flags))
+        (upto_within reacting (λ k. values_shown n part (suc k)) (length n.specs) (λ k l. shown_within (suc k)))
+        (joined_within reacting delays (joined state flags)
+        (upto_within reacting (λ k. delay_text n part (suc k) (source_of n (suc k))) (port_count n) (λ k l. delay_within (suc k) (source_of n (suc k))))
+        (joined_within reacting state flags (upto_within reacting (λ k. state_text n part (suc k)) (length n.specs) (λ k l. state_within law (suc k)))
+        (upto_within reacting (λ k. halt_text n part (suc k)) (length n.specs) (λ k l. halt_within (suc k)))))
+
+  following_within : MayLaw → (own : Bool) (row : List Entry) → block_within reacting (following_text own n row) ≡ true
+  following_within law true row = settle_within (part_in row) law
+  following_within law false row = refl
+
+  row_within : MayLaw → (own : Bool) (s : Source) (row : List Entry) → block_within reacting (row_text own n s row) ≡ true
+  row_within law own s row =
+      joined_within reacting (pass_text own n s row) (following_text own n row) (pass_within own s row) (following_within law own row)
 
 -- ---- functions
 
@@ -217,30 +251,32 @@ module _ (law : MayLaw) (n : Parts) (rows : List (List Entry)) where
       and_from (block_within reacting (text_where (is_scheduled rows (suc k)) text)) true (where_within (is_scheduled rows (suc k)) text
       (block_wider (body_may (spec_of n (suc k))) reacting (body_wider (spec_of n (suc k))) text (law.body (spec_of n (suc k)) (places_of n (suc k))))) refl)
 
-  others_within : functions_within reacting (other_functions n) ≡ true
-  others_within = by_ports (nat_lt 0 (port_count n))
+  others_within : functions_within reacting (other_functions (has_own n rows) n) ≡ true
+  others_within = by_tests (has_own n rows) (nat_lt 0 (port_count n))
     where
-      by_ports : (t : Bool) → functions_within reacting (functions_where t (record { name = clear_name; body = clear_text n }
-          ∷ record { name = choose_name; body = choose_text n } ∷ [])) ≡ true
-      by_ports true = refl
-      by_ports false = refl
+      rest : (t : Bool) → functions_within reacting (functions_where t (record { name = clear_name; body = clear_text n } ∷ [])
+          ++ functions_where t (record { name = choose_name; body = choose_text n } ∷ [])) ≡ true
+      rest true = refl
+      rest false = refl
+
+      by_tests : (o t : Bool) → functions_within reacting (functions_where (not o) (record { name = settle_name; body = shared_text n }
+          ∷ functions_where t (record { name = clear_name; body = clear_text n } ∷ []))
+          ++ functions_where t (record { name = choose_name; body = choose_text n } ∷ [])) ≡ true
+      by_tests true true = refl
+      by_tests true false = refl
+      by_tests false t = and_from (block_within reacting (shared_text n)) _ (settle_within n (λ b. Marked) law) (rest t)
 
   before_within : (k : ℕ) → functions_within reacting (before_source n rows k) ≡ true
   before_within k =
-      functions_joined (block_functions n rows) (other_functions n ++ functions_upto (source_function n rows) k) blocks_within
-      (functions_joined (other_functions n) (functions_upto (source_function n rows) k) others_within (upto_functions (source_function n rows) k (λ j. refl)))
+      functions_joined (block_functions n rows) (other_functions (has_own n rows) n ++ functions_upto (source_function n rows) k) blocks_within
+      (functions_joined (other_functions (has_own n rows) n) (functions_upto (source_function n rows) k) others_within
+      (upto_functions (source_function n rows) k (λ j. refl)))
 
-  module _ (last most : ℤ) (react : ℕ → World → Ran) (settle : World → Ran) (are : AreReactions n rows last most react settle) where
+  module _ (last most : ℤ) (react : ℕ → World → Ran) (are : AreReactions n rows last most react) where
     pub reacts_leaves : (k : ℕ) → k < length (sources_of n) → (w : World) → Leaves reacting w (react k w)
     reacts_leaves k l w =
         let c = are.source k l in
         subst (λ (run : World → Ran). Leaves reacting w (run w)) (sym c.1)
         (block_leaves (surroundings (before_source n rows k) last most) reacting (functions_leave reacting (before_source n rows k) last most (before_within k))
-        (row_text n (source_of n k) (slice_index_or rows k [])) (row_within n (source_of n k) (slice_index_or rows k [])) c.0 w)
-
-    pub settles_leaves : (w : World) → Leaves reacting w (settle w)
-    settles_leaves w =
-        let c = are.settling in
-        subst (λ (run : World → Ran). Leaves reacting w (run w)) (sym c.1)
-        (block_leaves (surroundings (block_functions n rows) last most) reacting (functions_leave reacting (block_functions n rows) last most blocks_within)
-        (settle_text n) (settle_within n law) c.0 w)
+        (row_text (has_own n rows) n (source_of n k) (slice_index_or rows k []))
+        (row_within n law (has_own n rows) (source_of n k) (slice_index_or rows k [])) c.0 w)

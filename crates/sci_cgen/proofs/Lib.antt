@@ -1,5 +1,6 @@
 pub mod Choice
 pub mod Table
+pub mod Halves
 pub mod Dispatch
 pub mod Firings
 pub mod Observing
@@ -13,6 +14,7 @@ pub mod States
 pub mod Halts
 pub mod Found
 pub mod Calls
+pub mod Taking
 pub mod Row
 pub mod Settle
 pub mod Ready
@@ -30,6 +32,7 @@ pub mod Leaving
 pub mod Bodies
 pub mod Reacting
 pub mod Run
+pub mod PartLemmas
 pub mod Parted
 pub mod Sizes
 pub mod Blocks

@@ -88,9 +88,9 @@ joined_below x g (suc k) c l h = by_bit (nat_eq (bit_at g k) 1) (joined_below x 
 
 -- ---- in the midst of an entry
 
--- Whether the block is marked, and what its mask's place holds; all else is as it was.
-pub record IsMarked (n : Parts) (b : ℕ) (t : Bool) (z : ℤ) (w w' : World) : Type 0 where
-  pub active : get w' actives (b - 1) ≡ Some (truth t)
+-- Whether the block is marked, where its mark is asked for, and what its mask's place holds; all else is as it was.
+pub record IsMarked (n : Parts) (asked : Bool) (b : ℕ) (t : Bool) (z : ℤ) (w w' : World) : Type 0 where
+  pub active : asked ≡ true → get w' actives (b - 1) ≡ Some (truth t)
   pub mask : reads_mask (spec_of n b).kind ≡ true → get w' masks (b - 1) ≡ Some z
   pub same : (y : Name) (j : ℕ) → same_place actives (b - 1) y j ≡ false → (reads_mask (spec_of n b).kind ≡ true → same_place masks (b - 1) y j ≡ false)
       → get w' y j ≡ get w y j
@@ -98,40 +98,43 @@ pub record IsMarked (n : Parts) (b : ℕ) (t : Bool) (z : ℤ) (w w' : World) : 
   pub left : w'.left ≡ w.left
 
 -- of a kind that reads none, the mask is any
-pub any_mask : (n : Parts) (b : ℕ) (t : Bool) (z z' : ℤ) (w w' : World) → reads_mask (spec_of n b).kind ≡ false → IsMarked n b t z w w' → IsMarked n b t z' w w'
-any_mask n b t z z' w w' off m =
+pub any_mask : (n : Parts) (asked : Bool) (b : ℕ) (t : Bool) (z z' : ℤ) (w w' : World) → reads_mask (spec_of n b).kind ≡ false → IsMarked n asked b t z w w'
+    → IsMarked n asked b t z' w w'
+any_mask n asked b t z z' w w' off m =
     record { active = m.active; mask = λ r. absurd (true≢false (sym r ∙ off)); same = m.same; there = m.there; left = m.left }
 
-marked_put : (n : Parts) (b : ℕ) (t : Bool) (z : ℤ) (w v v' : World) → IsMarked n b t z w v → Puts v actives (b - 1) (pos 1) v' → IsMarked n b true z w v'
-marked_put n b t z w v v' m p = record {
-  active = put_there v v' actives (b - 1) (pos 1) p;
+marked_put : (n : Parts) (asked : Bool) (b : ℕ) (t : Bool) (z : ℤ) (w v v' : World) → IsMarked n asked b t z w v → Puts v actives (b - 1) (pos 1) v'
+    → IsMarked n asked b true z w v'
+marked_put n asked b t z w v v' m p = record {
+  active = λ a. put_there v v' actives (b - 1) (pos 1) p;
   mask = λ r. put_elsewhere v v' actives (b - 1) (pos 1) masks (b - 1) p refl ∙ m.mask r;
   same = λ y j a k. put_elsewhere v v' actives (b - 1) (pos 1) y j p a ∙ m.same y j a k;
   there = λ y j h. has_puts v v' actives (b - 1) (pos 1) y j p (m.there y j h);
   left = p.left ∙ m.left;
 }
 
-masked_put : (n : Parts) (b : ℕ) (t : Bool) (z u : ℤ) (w v v' : World) → reads_mask (spec_of n b).kind ≡ true → IsMarked n b t z w v
-    → Puts v masks (b - 1) u v' → IsMarked n b t u w v'
-masked_put n b t z u w v v' on m p = record {
-  active = put_elsewhere v v' masks (b - 1) u actives (b - 1) p refl ∙ m.active;
+masked_put : (n : Parts) (asked : Bool) (b : ℕ) (t : Bool) (z u : ℤ) (w v v' : World) → reads_mask (spec_of n b).kind ≡ true → IsMarked n asked b t z w v
+    → Puts v masks (b - 1) u v' → IsMarked n asked b t u w v'
+masked_put n asked b t z u w v v' on m p = record {
+  active = λ a. put_elsewhere v v' masks (b - 1) u actives (b - 1) p refl ∙ m.active a;
   mask = λ r. put_there v v' masks (b - 1) u p;
   same = λ y j a k. put_elsewhere v v' masks (b - 1) u y j p (k on) ∙ m.same y j a k;
   there = λ y j h. has_puts v v' masks (b - 1) u y j p (m.there y j h);
   left = p.left ∙ m.left;
 }
 
-module _ (env : Around) (n : Parts) (b : ℕ) (w : World) where
-  pub mark_leads : (t : Bool) (z : ℤ) (k : ℕ) (v : World) → IsMarked n b t z w v → Leads (run_block env k (mark b) v) (IsMarked n b true z w)
-  mark_leads t z k v m =
-      cell_runs (λ r. Leads r (IsMarked n b true z w)) env k actives (b - 1) (natural 1) done v (pos 1) refl (record { holds = truth t; is = m.active })
-      (λ k' v' p. done_leads env k' v' (marked_put n b t z w v v' m p))
+module _ (env : Around) (n : Parts) (asked : Bool) (b : ℕ) (w : World) where
+  pub mark_leads : (t : Bool) (z : ℤ) (k : ℕ) (v : World) → Has w actives (b - 1) → IsMarked n asked b t z w v
+      → Leads (run_block env k (mark b) v) (IsMarked n asked b true z w)
+  mark_leads t z k v there m =
+      cell_runs (λ r. Leads r (IsMarked n asked b true z w)) env k actives (b - 1) (natural 1) done v (pos 1) refl (m.there actives (b - 1) there)
+      (λ k' v' p. done_leads env k' v' (marked_put n asked b t z w v v' m p))
 
-  pub mask_leads : (t : Bool) (z u : ℤ) (e : Exp) (k : ℕ) (v : World) → reads_mask (spec_of n b).kind ≡ true → IsMarked n b t z w v → value_of e v ≡ Some u
-      → Leads (run_block env k (one (set (cell masks (natural (b - 1))) e)) v) (IsMarked n b t u w)
+  pub mask_leads : (t : Bool) (z u : ℤ) (e : Exp) (k : ℕ) (v : World) → reads_mask (spec_of n b).kind ≡ true → IsMarked n asked b t z w v → value_of e v ≡ Some u
+      → Leads (run_block env k (one (set (cell masks (natural (b - 1))) e)) v) (IsMarked n asked b t u w)
   mask_leads t z u e k v on m is =
-      cell_runs (λ r. Leads r (IsMarked n b t u w)) env k masks (b - 1) e done v u is (record { holds = z; is = m.mask on })
-      (λ k' v' p. done_leads env k' v' (masked_put n b t z u w v v' on m p))
+      cell_runs (λ r. Leads r (IsMarked n asked b t u w)) env k masks (b - 1) e done v u is (record { holds = z; is = m.mask on })
+      (λ k' v' p. done_leads env k' v' (masked_put n asked b t z u w v v' on m p))
 
   -- ---- bits of the mask
 
@@ -179,17 +182,17 @@ module _ (env : Around) (n : Parts) (b : ℕ) (w : World) where
           by_bit (suc zero) l q = sub_is (natural 1) e v (pos 1) (pos 1) refl q (word 0 (omega arith))
           by_bit (suc (suc a)) l q = absurd (omega (arith, l))
 
-  pub bits_lead : (t : Bool) (x g c : ℕ) → reads_mask (spec_of n b).kind ≡ true → c ≤ 8 → x < 2 ^ 8 → (k : ℕ) (v : World) → IsMarked n b t (pos x) w v
-      → Leads (run_block env k (with_bits b g c) v) (IsMarked n b t (pos (joined_bits x g c)) w)
+  pub bits_lead : (t : Bool) (x g c : ℕ) → reads_mask (spec_of n b).kind ≡ true → c ≤ 8 → x < 2 ^ 8 → (k : ℕ) (v : World) → IsMarked n asked b t (pos x) w v
+      → Leads (run_block env k (with_bits b g c) v) (IsMarked n asked b t (pos (joined_bits x g c)) w)
   bits_lead t x g zero on l h k v m = done_leads env k v m
   bits_lead t x g (suc p) on l h k v m =
-      joined_leads (λ r. Leads r (IsMarked n b t (pos (joined_bits x g (suc p))) w)) env k (with_bits b g p)
+      joined_leads (λ r. Leads r (IsMarked n asked b t (pos (joined_bits x g (suc p))) w)) env k (with_bits b g p)
       (text_where (nat_eq (bit_at g p) 1) (with_bit b p)) v
       (bits_lead t x g p on (omega (arith, l)) h k v m)
       (λ k' v' m'. by_bit (nat_eq (bit_at g p) 1) k' v' m')
     where
-      by_bit : (u : Bool) (k : ℕ) (v : World) → IsMarked n b t (pos (joined_bits x g p)) w v
-          → Leads (run_block env k (text_where u (with_bit b p)) v) (IsMarked n b t (pos (if u then set_bit (joined_bits x g p) p else joined_bits x g p)) w)
+      by_bit : (u : Bool) (k : ℕ) (v : World) → IsMarked n asked b t (pos (joined_bits x g p)) w v
+          → Leads (run_block env k (text_where u (with_bit b p)) v) (IsMarked n asked b t (pos (if u then set_bit (joined_bits x g p) p else joined_bits x g p)) w)
       by_bit true k v m =
           mask_leads t (pos (joined_bits x g p)) (pos (set_bit (joined_bits x g p) p))
           (bin Add (mask_cell b) (bin Mul (missing p) (natural (2 ^ p)))) k v on m
@@ -231,10 +234,14 @@ or_or : (a b c : Bool) → (a || b) || c ≡ a || (b || c)
 or_or true b c = refl
 or_or false b c = refl
 
-module _ (env : Around) (n : Parts) (e : Entry) (g : Progress) (w : World) (shown : ShowsBranches n g w)
-    (small : reads_mask (spec_of n e.block).kind ≡ true → (spec_of n e.block).evtin ≤ 8) where
+-- whether an entry's mark is asked for
+abbrev pub wants_mark : Bool → Entry → Bool
+wants_mark own e = not own || not e.always
+
+module _ (env : Around) (n : Parts) (own : Bool) (e : Entry) (told : ℕ → Bool) (g : Progress) (w : World) (shown : ShowsBranches n told g w)
+    (small : reads_mask (spec_of n e.block).kind ≡ true → (spec_of n e.block).evtin ≤ 8) (place_there : Has w actives (e.block - 1)) where
   abbrev Marked : Bool → ℕ → World → Type 0
-  Marked t x v = IsMarked n e.block t (pos x) w v
+  Marked t x v = IsMarked n (wants_mark own e) e.block t (pos x) w v
 
   -- marked where the entry doesn't apply always
   mark_where : (t : Bool) (x k : ℕ) (v : World) → (e.always ≡ true → t ≡ true) → Marked t x v
@@ -244,7 +251,7 @@ module _ (env : Around) (n : Parts) (e : Entry) (g : Progress) (w : World) (show
       by_always : (a : Bool) → e.always ≡ a → Leads (run_block env k (text_where (not a) (mark e.block)) v) (Marked (t || true) x)
       by_always true a = done_leads env k v (subst (λ (u : Bool). Marked u x v) (on a ∙ sym (or_true t)) m)
       by_always false a =
-          subst (λ (u : Bool). Leads (run_block env k (mark e.block) v) (Marked u x)) (sym (or_true t)) (mark_leads env n e.block w t (pos x) k v m)
+          subst (λ (u : Bool). Leads (run_block env k (mark e.block) v) (Marked u x)) (sym (or_true t)) (mark_leads env n (wants_mark own e) e.block w t (pos x) k v place_there m)
 
   -- and bits added where the kind reads them
   bits_where : (t : Bool) (x y k : ℕ) (v : World) → (reads_mask (spec_of n e.block).kind ≡ true → x < 2 ^ (spec_of n e.block).evtin)
@@ -259,19 +266,19 @@ module _ (env : Around) (n : Parts) (e : Entry) (g : Progress) (w : World) (show
           let below = few r in
           subst (λ (z : ℕ). Leads (run_block env k (with_bits e.block y (spec_of n e.block).evtin) v) (Marked t z))
           (joined_all x y (spec_of n e.block).evtin less)
-          (bits_lead env n e.block w t x y (spec_of n e.block).evtin r (small r) (omega (arith, at_most, below)) k v m)
-      by_kind false r = done_leads env k v (any_mask n e.block t (pos x) (pos (bit_or x y)) w v r m)
+          (bits_lead env n (wants_mark own e) e.block w t x y (spec_of n e.block).evtin r (small r) (omega (arith, at_most, below)) k v m)
+      by_kind false r = done_leads env k v (any_mask n (wants_mark own e) e.block t (pos x) (pos (bit_or x y)) w v r m)
 
   abbrev body : Guard → Block
   body q = joined (text_where (not e.always) (mark e.block))
       (text_where (reads_mask (spec_of n e.block).kind) (with_bits e.block q.mask (spec_of n e.block).evtin))
 
-  guard_leads : (q : Guard) → IsGuarding n e.block q → (t : Bool) (x k : ℕ) (v : World) → (e.always ≡ true → t ≡ true)
+  guard_leads : (q : Guard) → IsGuarding n e.block q → told q.block ≡ true → (t : Bool) (x k : ℕ) (v : World) → (e.always ≡ true → t ≡ true)
       → (reads_mask (spec_of n e.block).kind ≡ true → x < 2 ^ (spec_of n e.block).evtin) → Marked t x v
       → Leads (run_block env k (guard_text n e q) v) (Marked (t || is_taken_in n g q) (if is_taken_in n g q then bit_or x q.mask else x))
-  guard_leads q is t x k v on few m =
+  guard_leads q is known t x k v on few m =
       test_runs (λ r. Leads r (Marked (t || is_taken_in n g q) (if is_taken_in n g q then bit_or x q.mask else x))) env k (is_taken q) (body q) done done v
-      (is_taken_in n g q) (taken_is n g q v (m.same branches (q.block - 1) refl (λ r. refl) ∙ shown.each q.block is.block is.sync) is.port)
+      (is_taken_in n g q) (taken_is n g q v (m.same branches (q.block - 1) refl (λ r. refl) ∙ shown.each q.block is.block known is.sync) is.port)
       (λ i j l. by_taken i j l (is_taken_in n g q))
     where
       inside : (i : ℕ) → Leads (run_block env i (body q) v) (Marked (t || true) (bit_or x q.mask))
@@ -287,18 +294,18 @@ module _ (env : Around) (n : Parts) (e : Entry) (g : Progress) (w : World) (show
           then_leads (run_block env j done v) (run_block env l done) (done_leads env j v (subst (λ (u : Bool). Marked u x v) (sym (or_false t)) m))
           (λ v' m'. done_leads env l v' m')
 
-  guards_lead : (qs : List Guard) → ((q : Guard) → Contains qs q → IsGuarding n e.block q) → (t : Bool) (x k : ℕ) (v : World) → (e.always ≡ true → t ≡ true)
+  guards_lead : (qs : List Guard) → ((q : Guard) → Contains qs q → IsGuarding n e.block q) → ((q : Guard) → Contains qs q → told q.block ≡ true) → (t : Bool) (x k : ℕ) (v : World) → (e.always ≡ true → t ≡ true)
       → (reads_mask (spec_of n e.block).kind ≡ true → x < 2 ^ (spec_of n e.block).evtin) → Marked t x v
       → Leads (run_block env k (texts (guard_text n e) qs) v) (Marked (t || list_any (is_taken_in n g) qs) (with_guards n g x qs))
-  guards_lead [] are t x k v on few m = done_leads env k v (subst (λ (u : Bool). Marked u x v) (sym (or_false t)) m)
-  guards_lead (q ∷ qs) are t x k v on few m =
+  guards_lead [] are known t x k v on few m = done_leads env k v (subst (λ (u : Bool). Marked u x v) (sym (or_false t)) m)
+  guards_lead (q ∷ qs) are known t x k v on few m =
       let here = are q (0, omega arith, refl) in
       let u = is_taken_in n g q in
       subst (λ (a : Bool). Leads (run_block env k (texts (guard_text n e) (q ∷ qs)) v) (Marked a (with_guards n g x (q ∷ qs))))
       (or_or t u (list_any (is_taken_in n g) qs))
       (joined_leads (λ r. Leads r (Marked ((t || u) || list_any (is_taken_in n g) qs) (with_guards n g x (q ∷ qs)))) env k (guard_text n e q)
-      (texts (guard_text n e) qs) v (guard_leads q here t x k v on few m)
-      (λ k' v' m'. guards_lead qs (λ p c. are p (cons-Contains q qs p c)) (t || u) (if u then bit_or x q.mask else x) k' v' (λ a. still t u (on a))
+      (texts (guard_text n e) qs) v (guard_leads q here (known q (0, omega arith, refl)) t x k v on few m)
+      (λ k' v' m'. guards_lead qs (λ p c. are p (cons-Contains q qs p c)) (λ p c. known p (cons-Contains q qs p c)) (t || u) (if u then bit_or x q.mask else x) k' v' (λ a. still t u (on a))
       (λ r. less u x q.mask (few r) here.few) m'))
     where
       still : (t u : Bool) → t ≡ true → t || u ≡ true
@@ -313,35 +320,39 @@ module _ (env : Around) (n : Parts) (e : Entry) (g : Progress) (w : World) (show
   -- ---- the first part of an entry
 
   -- Marked where the entry applies, with the mask of the pass where the kind reads it.
-  pub entry_marks : ((q : Guard) → Contains e.guards q → IsGuarding n e.block q) → e.mask < 2 ^ (spec_of n e.block).evtin
-      → get w actives (e.block - 1) ≡ Some (pos 0) → Has w masks (e.block - 1) → (Q : Ran → Type 0) (k : ℕ) (rest : Block)
+  pub entry_marks : ((q : Guard) → Contains e.guards q → IsGuarding n e.block q) → ((q : Guard) → Contains e.guards q → told q.block ≡ true)
+      → e.mask < 2 ^ (spec_of n e.block).evtin
+      → (wants_mark own e ≡ true → get w actives (e.block - 1) ≡ Some (pos 0)) → Has w masks (e.block - 1) → (Q : Ran → Type 0) (k : ℕ) (rest : Block)
       → ((k : ℕ) (v : World) → Marked (applies n g e) (mask_in n g e) v → Q (run_block env k rest v))
-      → Q (run_block env k (joined (text_where e.always (mark e.block))
+      → Q (run_block env k (joined (text_where (not own && e.always) (mark e.block))
       (joined (text_where (reads_mask (spec_of n e.block).kind) (one (set (cell masks (natural (e.block - 1))) (natural e.mask))))
       (joined (text_where (not e.always || reads_mask (spec_of n e.block).kind) (texts (guard_text n e) e.guards)) rest))) w)
-  entry_marks are less idle room Q k rest go =
-      joined_leads Q env k (text_where e.always (mark e.block)) _ w (always_first e.always) (λ k v m.
+  entry_marks are known less idle room Q k rest go =
+      joined_leads Q env k (text_where (not own && e.always) (mark e.block)) _ w (always_first own e.always idle) (λ k v m.
       joined_leads Q env k (text_where (reads_mask (spec_of n e.block).kind) (one (set (cell masks (natural (e.block - 1))) (natural e.mask)))) _ v
       (mask_first (reads_mask (spec_of n e.block).kind) refl k v m) (λ k v m.
       joined_leads Q env k (text_where (not e.always || reads_mask (spec_of n e.block).kind) (texts (guard_text n e) e.guards)) rest v
       (guards_first e.always refl (reads_mask (spec_of n e.block).kind) refl k v m) go))
     where
-      always_first : (a : Bool) → Leads (run_block env k (text_where a (mark e.block)) w) (IsMarked n e.block a room.holds w)
-      always_first true = mark_leads env n e.block w false room.holds k w start
-        where
-          start : IsMarked n e.block false room.holds w w
-          start = record { active = idle; mask = λ r. room.is; same = λ y j a k. refl; there = λ y j h. h; left = refl }
-      always_first false = done_leads env k w (record { active = idle; mask = λ r. room.is; same = λ y j a k. refl; there = λ y j h. h; left = refl })
+      start : (q t : Bool) → (q ≡ true → get w actives (e.block - 1) ≡ Some (truth t)) → IsMarked n q e.block t room.holds w w
+      start q t h = record { active = h; mask = λ r. room.is; same = λ y j a k. refl; there = λ y j h. h; left = refl }
 
-      mask_first : (r : Bool) → reads_mask (spec_of n e.block).kind ≡ r → (k : ℕ) (v : World) → IsMarked n e.block e.always room.holds w v
+      always_first : (o a : Bool) → (not o || not a ≡ true → get w actives (e.block - 1) ≡ Some (pos 0))
+          → Leads (run_block env k (text_where (not o && a) (mark e.block)) w) (IsMarked n (not o || not a) e.block a room.holds w)
+      always_first false true rests = mark_leads env n true e.block w false room.holds k w place_there (start true false rests)
+      always_first false false rests = done_leads env k w (start true false rests)
+      always_first true true rests = done_leads env k w (start false true (λ h. absurd (true≢false (sym h))))
+      always_first true false rests = done_leads env k w (start true false rests)
+
+      mask_first : (r : Bool) → reads_mask (spec_of n e.block).kind ≡ r → (k : ℕ) (v : World) → IsMarked n (wants_mark own e) e.block e.always room.holds w v
           → Leads (run_block env k (text_where r (one (set (cell masks (natural (e.block - 1))) (natural e.mask)))) v) (Marked e.always e.mask)
-      mask_first true r k v m = mask_leads env n e.block w e.always room.holds (pos e.mask) (natural e.mask) k v r m refl
-      mask_first false r k v m = done_leads env k v (any_mask n e.block e.always room.holds (pos e.mask) w v r m)
+      mask_first true r k v m = mask_leads env n (wants_mark own e) e.block w e.always room.holds (pos e.mask) (natural e.mask) k v r m refl
+      mask_first false r k v m = done_leads env k v (any_mask n (wants_mark own e) e.block e.always room.holds (pos e.mask) w v r m)
 
       guards_first : (a : Bool) → e.always ≡ a → (r : Bool) → reads_mask (spec_of n e.block).kind ≡ r → (k : ℕ) (v : World) → Marked e.always e.mask v
           → Leads (run_block env k (text_where (not a || r) (texts (guard_text n e) e.guards)) v) (Marked (applies n g e) (mask_in n g e))
       guards_first true a false r k v m =
-          done_leads env k v (any_mask n e.block (applies n g e) (pos e.mask) (pos (mask_in n g e)) w v r
+          done_leads env k v (any_mask n (wants_mark own e) e.block (applies n g e) (pos e.mask) (pos (mask_in n g e)) w v r
           (subst (λ (u : Bool). Marked u e.mask v) (a ∙ sym (ap (λ (t : Bool). t || list_any (is_taken_in n g) e.guards) a)) m))
-      guards_first true a true r k v m = guards_lead e.guards are e.always e.mask k v (λ h. h) (λ h. less) m
-      guards_first false a r q k v m = guards_lead e.guards are e.always e.mask k v (λ h. h) (λ h. less) m
+      guards_first true a true r k v m = guards_lead e.guards are known e.always e.mask k v (λ h. h) (λ h. less) m
+      guards_first false a r q k v m = guards_lead e.guards are known e.always e.mask k v (λ h. h) (λ h. less) m

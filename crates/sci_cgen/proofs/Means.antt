@@ -1,5 +1,5 @@
 -- The program means the run of the net, and so do its steps, where its reactions go as those of the net.
-use Rattle.std.proofs.Common.{◌≡◌, ℕ, suc, ◌+◌, ◌-◌, ◌*◌, ◌≤◌, ◌^◌, List, [], ◌∷◌, ◌++◌, length, Option, Some, refl, sym, ap, ◌∙◌, subst, arith, pos, append-nil}
+use Rattle.std.proofs.Common.{◌≡◌, ℕ, suc, ◌+◌, ◌-◌, ◌*◌, ◌≤◌, ◌^◌, List, [], ◌∷◌, ◌++◌, length, Option, Some, Bool, false, refl, sym, ap, ◌∙◌, subst, arith, pos, append-nil}
 use Rattle.std.proofs.Math.Nat.{mul-le-mul_right}
 use Rattle.sci_base.specs.declared.observation.Obs.{Obs}
 use Rattle.sci_base.specs.declared.observation.Obs.TheVariants.{End}
@@ -34,8 +34,8 @@ use Rattle.c_steps.proofs.Programs.{meaning_runs}
 use Rattle.sci_due.specs.Due.{best as chosen_name}
 use Rattle.sci_due.specs.Laws.{ShowsPending}
 use Rattle.sci_cgen.proofs.Counting.{counts_stand}
-use Rattle.sci_cgen.specs.Names.{actives, branches, limit_name, fired_name, next_date, source_name, settle_name, choose_name, event_name}
-use Rattle.sci_cgen.specs.Program.{one, port_count, scratch_count, outset_text, first_text, begin_text, turn_text, main_text, called_functions, functions, program}
+use Rattle.sci_cgen.specs.Names.{actives, branches, limit_name, fired_name, next_date, source_name, choose_name, event_name}
+use Rattle.sci_cgen.specs.Program.{one, has_own, port_count, scratch_count, outset_text, first_text, begin_text, turn_text, main_text, called_functions, functions, program}
 use Rattle.sci_cgen.specs.Laws.{answer_by}
 use Rattle.sci_cgen.specs.Shows.{HasRoom}
 use Rattle.sci_cgen.specs.Stepping.{called, stepped, Waits, IsToldBy}
@@ -50,19 +50,18 @@ use Rattle.sci_cgen.proofs.Running.{DoesEvents, halted_stays, ends_so, stops_so,
 use Rattle.sci_cgen.proofs.Starting.{start_goes, start_stops}
 use Rattle.sci_cgen.proofs.Blank.{blank_first}
 use Rattle.sci_cgen.proofs.Outset.{ports_few, outset_leads, first_ready, none_fired, coming_there}
-use Rattle.sci_cgen.proofs.Called.{AreReactions, react, settle, clear, choose, react_is, settle_is, clear_is, choose_is, clear_runs, choose_runs, reactions_are, same_call, event_called}
+use Rattle.sci_cgen.proofs.Called.{AreReactions, react, clear, choose, react_is, clear_is, choose_is, clear_runs, choose_runs, reactions_are, same_call, event_called}
 
--- The runs of the functions of all sources and of the one that settles do the reactions of the net, on these columns and within these bounds.
+-- The runs of the functions of all sources do the reactions of the net, on these columns and within these bounds.
 unfoldable pub ReactionsGo : Parts → List (List Entry) → Columns → (until limit : ℕ) → Type 0
 ReactionsGo n rows i until limit =
-    (react : ℕ → World → Ran) (settle : World → Ran) → AreReactions n rows (pos until) (pos limit) react settle
-    → ReactionGoes n (scratch_count n rows (length n.specs)) i until limit react settle
+    (react : ℕ → World → Ran) → AreReactions n rows (pos until) (pos limit) react
+    → ReactionGoes n (scratch_count n rows (length n.specs)) i (has_own n rows) until limit react
 
 reactions : (n : Parts) (rows : List (List Entry)) (i : Columns) (until limit : ℕ) → ReactionsGo n rows i until limit
-    → ReactionGoes n (scratch_count n rows (length n.specs)) i until limit (react n rows (pos until) (pos limit)) (settle n rows (pos until) (pos limit))
+    → ReactionGoes n (scratch_count n rows (length n.specs)) i (has_own n rows) until limit (react n rows (pos until) (pos limit))
 unfolding ReactionsGo
-reactions n rows i until limit go =
-    go (react n rows (pos until) (pos limit)) (settle n rows (pos until) (pos limit)) (reactions_are n rows (pos until) (pos limit))
+reactions n rows i until limit go = go (react n rows (pos until) (pos limit)) (reactions_are n rows (pos until) (pos limit))
 
 module _ (n : Parts) (rows : List (List Entry)) (i : Columns) (until asked : ℕ) (net : IsNet n) (free : AreLoopFree n) (columns : AreColumns n i)
     (late : until ≤ 2 ^ 62) (go : ReactionsGo n rows i until asked) where
@@ -94,8 +93,8 @@ module _ (n : Parts) (rows : List (List Entry)) (i : Columns) (until asked : ℕ
   abbrev reacts : ℕ → World → Ran
   reacts = react n rows (pos until) (pos asked)
 
-  abbrev settles : World → Ran
-  settles = settle n rows (pos until) (pos asked)
+  abbrev own : Bool
+  own = has_own n rows
 
   abbrev cleared : World → Ran
   cleared = clear n rows (pos until) (pos asked)
@@ -103,9 +102,9 @@ module _ (n : Parts) (rows : List (List Entry)) (i : Columns) (until asked : ℕ
   abbrev chooses : World → Ran
   chooses = choose n rows (pos until) (pos asked)
 
-  clears_so : 1 ≤ port_count n → (w : World) → HasRoom n scratch w → Leads (cleared w) (HasCleared n (length n.specs) w)
-  clears_so some w room =
-      let c = clear_runs n rows (pos until) (pos asked) some in
+  clears_so : 1 ≤ port_count n → own ≡ false → (w : World) → HasRoom n scratch w → Leads (cleared w) (HasCleared n (length n.specs) w)
+  clears_so some one_for_all w room =
+      let c = clear_runs n rows (pos until) (pos asked) some one_for_all in
       subst (λ (run : World → Ran). Leads (run w) (HasCleared n (length n.specs) w)) (sym c.2)
       (clear_leads (surroundings c.0 (pos until) (pos asked)) n w (omega (arith, net.wired.few))
       (λ b l. subst (λ (j : ℕ). Has w actives j) (let e : suc b - 1 ≡ b = omega arith in e)
@@ -120,10 +119,10 @@ module _ (n : Parts) (rows : List (List Entry)) (i : Columns) (until asked : ℕ
       subst (λ (run : World → Ran). Leads (run w) (HasNext n p w)) (sym c.2)
       (choice_leads (surroundings c.0 (pos until) (pos asked)) n now p c.1 w (omega (arith, few_ports)) order shows (room.chosen some) (room.scan some) there)
 
-  calls : HasCalls env n scratch i until asked reacts settles cleared chooses
+  calls : HasCalls env n scratch i own until asked reacts cleared chooses
   calls = record {
+    few_ports = few_ports;
     react_called = react_is n rows (pos until) (pos asked);
-    settle_called = settle_is n rows (pos until) (pos asked);
     clear_called = clear_is n rows (pos until) (pos asked);
     choose_called = choose_is n rows (pos until) (pos asked);
     clears = clears_so;
@@ -138,15 +137,15 @@ module _ (n : Parts) (rows : List (List Entry)) (i : Columns) (until asked : ℕ
 
   -- what holds of the run of the first statements holds where they are filled in
   begin_runs : (Q : Ran → Type 0) (k : ℕ)
-      → ((k2 : ℕ) (w : World) → get w fired_name 0 ≡ Some (pos 0) → Has w next_date 0 → IsReady n scratch i until asked 0 (first_state n) w
-      → Q (run_block main k2 (next (call (source_name 0)) (next (call settle_name) (first_text n))) w)) → Q (run_block main k (begin_text n) first_memory)
+      → ((k2 : ℕ) (w : World) → get w fired_name 0 ≡ Some (pos 0) → Has w next_date 0 → IsReady n scratch i own until asked 0 (first_state n) w
+      → Q (run_block main k2 (next (call (source_name 0)) (first_text n)) w)) → Q (run_block main k (begin_text n) first_memory)
   begin_runs Q k go =
       let blank = blank_first n rows i in
       joined_leads Q main k (outset_text n) (starting n) first_memory (outset_leads main n net scratch i first_memory blank k) (λ k1 w h.
-      limit_runs Q main k1 (scalar limit_name) (next (call (source_name 0)) (next (call settle_name) (first_text n))) w limit_name 0 (refl, refl)
+      limit_runs Q main k1 (scalar limit_name) (next (call (source_name 0)) (first_text n)) w limit_name 0 (refl, refl)
       (h.rest.there limit_name 0 (record { holds = pos 0; is = blank.limit })) (λ k2 w2 put.
-      go k2 w2 (none_fired n net scratch i until asked first_memory w w2 blank h put) (coming_there n net scratch i until asked first_memory w w2 blank h put)
-      (first_ready n net scratch i until asked first_memory w w2 blank h put)))
+      go k2 w2 (none_fired n net scratch i own until asked first_memory w w2 blank h put) (coming_there n net scratch i own until asked first_memory w w2 blank h put)
+      (first_ready n net scratch i own until asked first_memory w w2 blank h put)))
 
   module _ (limit : ℕ) (most : limit ≤ 2 ^ 51) where
     ordered : (st : State) (seen : List Obs) → Reachable n i until limit st seen → IsInOrder n st
@@ -157,21 +156,19 @@ module _ (n : Parts) (rows : List (List Entry)) (i : Columns) (until asked : ℕ
         × Stands n scratch i until asked 0 first w)
     begin_goes k first at_start started =
         begin_runs (λ r. (w : World) × ((r ≡ record { seen = at_start; how = going w }) × Stands n scratch i until asked 0 first w)) k (λ k2 w fired there ready.
-        start_goes env main n scratch i until asked reacts settles cleared chooses calls
+        start_goes env main n scratch i own until asked reacts cleared chooses calls
         (same_call n rows (pos until) (pos asked) (source_name 0) refl ∙ react_is n rows (pos until) (pos asked) 0 (omega arith))
-        (same_call n rows (pos until) (pos asked) settle_name refl ∙ settle_is n rows (pos until) (pos asked))
         (λ l. same_call n rows (pos until) (pos asked) choose_name refl ∙ choose_is n rows (pos until) (pos asked) l)
         k2 w first at_start fired there ready started
-        (one_first env n net free scratch i until asked late reacts settles cleared chooses calls limit ordered first at_start started)
+        (one_first env n net free scratch i own until asked late reacts cleared chooses calls limit ordered first at_start started)
         (ordered first at_start (record { first = first; at_start = at_start; later = []; started = started; reaches = here; observed = sym (append-nil at_start) })))
 
     begin_stops : (k block : ℕ) (word : StopWord) → IsResult n (first_state n).memory i Start (Stopped block word)
         → run_block main k (begin_text n) first_memory ≡ record { seen = stop_seen 0 Start block word; how = halted }
     begin_stops k block word h =
         begin_runs (λ r. r ≡ record { seen = stop_seen 0 Start block word; how = halted }) k (λ k2 w fired there ready.
-        start_stops env main n scratch i until asked reacts settles cleared chooses calls
+        start_stops env main n scratch i own until asked reacts cleared chooses calls
         (same_call n rows (pos until) (pos asked) (source_name 0) refl ∙ react_is n rows (pos until) (pos asked) 0 (omega arith))
-        (same_call n rows (pos until) (pos asked) settle_name refl ∙ settle_is n rows (pos until) (pos asked))
         (λ l. same_call n rows (pos until) (pos asked) choose_name refl ∙ choose_is n rows (pos until) (pos asked) l)
         k2 w block word ready h)
 
@@ -183,13 +180,13 @@ module _ (n : Parts) (rows : List (List Entry)) (i : Columns) (until asked : ℕ
     abbrev event_number : ℕ
     event_number = (event_called n rows (pos until) (pos asked)).0
 
-    event_is : (w : World) → call_event w ≡ run_block env event_number (turn_text n) w
+    event_is : (w : World) → call_event w ≡ run_block env event_number (turn_text own n) w
     event_is w =
         ap (λ (o : Option (World → Ran)). needs (behind_functions 1 (functions n rows)) o (λ run. run w)) (event_called n rows (pos until) (pos asked)).1
 
     stepping : DoesEvents n i until limit call_event (Stands n scratch i until asked 0)
     stepping =
-        host_does env n net free scratch i until asked late reacts settles cleared chooses calls limit ordered call_event event_number event_is
+        host_does env n net free scratch i own until asked late reacts cleared chooses calls limit ordered call_event event_number event_is
 
     -- begun and stepped so often, it waits for the next event
     pub program_waits : (st : State) (seen : List Obs) → Reachable n i until limit st seen → st.fired ≡ limit
@@ -242,14 +239,14 @@ module _ (n : Parts) (rows : List (List Entry)) (i : Columns) (until limit : ℕ
   around_event = surroundings (called_functions n rows) (pos until) (pos limit)
 
   abbrev run_event : World → Ran
-  run_event = run_block around_event (event_called n rows (pos until) (pos limit)).0 (turn_text n)
+  run_event = run_block around_event (event_called n rows (pos until) (pos limit)).0 (turn_text (has_own n rows) n)
 
   abbrev Counts : State → World → Type 0
   Counts st w = Stands n many i until limit st.fired st w
 
   looping : (l : ℕ) → DoesEvents n i until limit (one_turn around_main l fired_name (one (call event_name))) Counts
   looping l =
-      main_does around_event n net free many i until limit late (react n rows (pos until) (pos limit)) (settle n rows (pos until) (pos limit))
+      main_does around_event n net free many i (has_own n rows) until limit late (react n rows (pos until) (pos limit))
       (clear n rows (pos until) (pos limit)) (choose n rows (pos until) (pos limit)) (calls n rows i until limit net free columns late go) limit
       (in_order n rows i until limit net free columns late go limit most) run_event (event_called n rows (pos until) (pos limit)).0 (λ w. refl) around_main l
       (event_called n rows (pos until) (pos limit)).1 (omega (arith, most))

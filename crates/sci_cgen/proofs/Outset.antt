@@ -44,7 +44,7 @@ use Rattle.sci_cgen.proofs.Counting.{first_counts}
 use Rattle.sci_cgen.proofs.Ready.{IsReady}
 use Rattle.sci_cgen.proofs.Staying.{pending_stays}
 use Rattle.sci_cgen.proofs.Between.{alone_wider}
-use Rattle.sci_cgen.proofs.Turns.{ready_from}
+use Rattle.sci_cgen.proofs.Turns.{idle_from}
 use Rattle.sci_cgen.proofs.Begun.{AllBegun, begun_all}
 use Rattle.sci_cgen.proofs.Blank.{IsBlank}
 
@@ -322,7 +322,7 @@ module _ (env : Around) (n : Parts) (net : IsNet n) (scratch : ℕ) (i : Columns
 
 -- ---- the first state
 
-module _ (n : Parts) (net : IsNet n) (scratch : ℕ) (i : Columns) (until limit : ℕ) (w0 w w' : World) (blank : IsBlank n scratch i w0)
+module _ (n : Parts) (net : IsNet n) (scratch : ℕ) (i : Columns) (own : Bool) (until limit : ℕ) (w0 w w' : World) (blank : IsBlank n scratch i w0)
     (h : HasOutset n (pos until) w0 w) (put : Puts w limit_name 0 (pos limit) w') where
   alone : LeftAlone (assigns_only is_outset) w0 w'
   alone = alone_then (assigns_only is_outset) w0 w w' h.rest (puts_alone (assigns_only is_outset) w w' limit_name 0 (pos limit) refl put)
@@ -361,12 +361,10 @@ module _ (n : Parts) (net : IsNet n) (scratch : ℕ) (i : Columns) (until limit 
     room = room_is;
   }
 
-  pub first_ready : IsReady n scratch i until limit 0 (first_state n) w'
+  pub first_ready : IsReady n scratch i own until limit 0 (first_state n) w'
   first_ready = record {
     shows = state_is;
-    rest =
-        ready_from n scratch i until limit 0 (first_state n) w' state_is (λ b l. alone.same _ b refl ∙ blank.actives b l)
-        (λ s b l. alone.same _ b refl ∙ blank.branches s b l);
+    idle = λ q. idle_from n w' (λ b l. alone.same _ b refl ∙ blank.actives b l) (λ s b l. alone.same _ b refl ∙ blank.branches s b l);
     goes_on = none_halts 1 n.specs;
     memory = memory n net;
     counts = first_counts n net;

@@ -5,13 +5,12 @@ use Rattle.sci_net.specs.Sources.{sources_of, source_of}
 use Rattle.sci_net.specs.Net.{all_elements}
 use Rattle.sci_reaction.specs.Schedule.{Entry}
 use Rattle.c_ast.specs.declared.Bound.TheVariants as bounds
-use Rattle.c_ast.specs.declared.Op.TheVariants.{Eq}
-use Rattle.c_ast.specs.Syntax.{var, bin, scalar, cell, until, limit, finish, set, ask, loop, call, tell, Block, next, Declared, Function}
-use Rattle.c_steps.specs.Texts.{joined}
+use Rattle.c_ast.specs.Syntax.{scalar, cell, until, limit, finish, set, ask, loop, call, tell, Block, next, Declared, Function}
 use Rattle.sci_cgen_blocks.specs.Texts.{values, states, masks}
 use Rattle.sci_due.specs.Due.{dates, orders, best as chosen_name, scan as scan_name, now as now_name, last as programmed_name, delay as delay_name}
+use Rattle.sci_cgen.specs.declared.parts.Part.{Part}
 use Rattle.sci_cgen.specs.Names.{actives, branches, limit_name, until_name, fired_name, next_date, halt_name, source_name, clear_name, settle_name, choose_name, event_name}
-use Rattle.sci_cgen.specs.Program.{natural, one, array, a_scalar, states_before, texts, text_where, only_where, each_block, each_port, port_count, is_active, guard_text, call_text, clear_text, choose_text, settle_text, values_shown, delay_text, state_text, halt_text, halted_text, first_text, held_begun, state_begun, source_begun, programmed_before, block_function, source_function, functions_upto}
+use Rattle.sci_cgen.specs.Program.{natural, one, array, a_scalar, states_before, texts, text_where, only_where, each_block, each_port, port_count, is_active, guard_text, call_text, clear_text, choose_text, shared_text, values_shown, delay_text, state_text, halt_text, halted_or, first_text, held_begun, state_begun, source_begun, programmed_before, block_function, source_function, functions_upto, functions_where}
 use Rattle.sci_forms.specs.Form.{reads_mask}
 
 -- ---- of an entry
@@ -30,17 +29,17 @@ called n e = if e.always then call_text n e.block else only_where (is_active e.b
 
 -- ---- behind a reaction
 
-abbrev pub all_shown : Parts → Block
-all_shown n = each_block (values_shown n) n
+abbrev pub all_shown : Parts → (ℕ → Part) → Block
+all_shown n part = each_block (values_shown n part) n
 
-abbrev pub all_delays : Parts → Block
-all_delays n = each_port (λ i. delay_text n i (source_of n i)) n
+abbrev pub all_delays : Parts → (ℕ → Part) → Block
+all_delays n part = each_port (λ i. delay_text n part i (source_of n i)) n
 
-abbrev pub all_states : Parts → Block
-all_states n = each_block (state_text n) n
+abbrev pub all_states : Parts → (ℕ → Part) → Block
+all_states n part = each_block (state_text n part) n
 
-abbrev pub all_halts : Parts → Block
-all_halts n = each_block (halt_text n) n
+abbrev pub all_halts : Parts → (ℕ → Part) → Block
+all_halts n part = each_block (halt_text n part) n
 
 -- ---- before the run
 
@@ -61,15 +60,12 @@ where_ports n = text_where (nat_lt 0 (port_count n)) (until_asked n)
 
 -- ---- the run
 
-abbrev pub fires_source : ℕ → Block
-fires_source k = only_where (bin Eq (var chosen_name) (natural (suc k - 1))) (one (call (source_name (suc k))))
-
 abbrev pub ending : Parts → Block
-ending n = joined (halted_text n) (one (tell (finish (natural 1))))
+ending n = halted_or n (one (tell (finish (natural 1))))
 
 -- behind what is there before the run
 abbrev pub starting : Parts → Block
-starting n = next (ask (scalar limit_name) limit) (next (call (source_name 0)) (next (call settle_name) (first_text n)))
+starting n = next (ask (scalar limit_name) limit) (next (call (source_name 0)) (first_text n))
 
 abbrev pub running : Parts → Block
 running n = next (loop fired_name (bounds.Var limit_name) (one (call event_name))) (ending n)
@@ -86,7 +82,7 @@ abbrev pub sources : Parts → List (List Entry) → List Function
 sources n rows = functions_upto (source_function n rows) (length (sources_of n))
 
 abbrev pub settle_function : Parts → Function
-settle_function n = record { name = settle_name; body = settle_text n }
+settle_function n = record { name = settle_name; body = shared_text n }
 
 abbrev pub clear_function : Parts → Function
 clear_function n = record { name = clear_name; body = clear_text n }
@@ -94,8 +90,15 @@ clear_function n = record { name = clear_name; body = clear_text n }
 abbrev pub choose_function : Parts → Function
 choose_function n = record { name = choose_name; body = choose_text n }
 
-abbrev pub before : Parts → List Function
-before n = clear_function n ∷ choose_function n ∷ []
+-- for all sources
+abbrev pub clears : Parts → List Function
+clears n = functions_where (nat_lt 0 (port_count n)) (clear_function n ∷ [])
+
+abbrev pub shared : Parts → List Function
+shared n = settle_function n ∷ clears n
+
+abbrev pub chooses : Parts → List Function
+chooses n = functions_where (nat_lt 0 (port_count n)) (choose_function n ∷ [])
 
 -- ---- variables
 

@@ -1,5 +1,5 @@
 -- The text of a source's row does the pass over the row.
-use Rattle.std.proofs.Common.{◌≡◌, ℕ, ◌+◌, ◌-◌, ◌≤◌, inl, inr, ◌⊎◌, List, [], ◌∷◌, ◌++◌, drop, append_assoc, Contains, Some, Bool, true, false, if◌then◌else◌, Result, Ok, Err, refl, sym, ap, ◌∙◌, subst, ℤ, pos, true≢false}
+use Rattle.std.proofs.Common.{◌≡◌, ℕ, ◌+◌, ◌-◌, inl, inr, ◌⊎◌, List, [], ◌∷◌, ◌++◌, drop, append_assoc, Contains, Some, Bool, true, false, not, ◌||◌, if◌then◌else◌, Result, Ok, Err, refl, sym, ap, ◌∙◌, subst, ℤ, pos, true≢false}
 use Rattle.std.proofs.lemmas.Bool.{cases_eq}
 use Rattle.std.proofs.lemmas.List.{append-nil}
 use Rattle.sci_base.specs.declared.observation.Obs.{Obs}
@@ -17,7 +17,7 @@ use Rattle.sci_net.specs.Net.{IsNet}
 use Rattle.sci_reaction.specs.Depends.{IsLoopFree}
 use Rattle.sci_reaction.specs.Memory.{Memory, Columns, IsMemory, AreColumns}
 use Rattle.sci_reaction.specs.Equations.{Signals, AreInRange, input_in, all_inputs, branch_on, answer}
-use Rattle.sci_reaction.specs.Schedule.{Entry, blocks_of, IsRow}
+use Rattle.sci_reaction.specs.Schedule.{Guard, Entry, blocks_of, IsRow}
 use Rattle.sci_reaction.specs.Pass.{Progress, put, at_rest, applies, mask_in, with_values, IsFront, IsNext}
 use Rattle.sci_reaction.proofs.Lists.{put_same, put_other, Has-left}
 use Rattle.sci_reaction.proofs.Rows.{Contains-has, has-Contains}
@@ -26,23 +26,25 @@ use Rattle.sci_reaction.proofs.Masks.{mask_in_range}
 use Rattle.sci_reaction.proofs.Fills.{answer_in_range, inputs_in_range}
 use Rattle.sci_pass.proofs.Stays.{branch_stays, applied_is_done}
 use Rattle.sci_run.specs.Observed.{header}
+use Rattle.c_ast.specs.declared.Name.{Name}
 use Rattle.c_ast.specs.Syntax.{Block, done, set, cell, var}
 use Rattle.c_mean.specs.Meaning.{World, Around, Ran, truth, run_block, then_run, behind}
 use Rattle.c_steps.specs.Places.{get, value_of}
+use Rattle.c_steps.specs.Texts.{joined}
 use Rattle.c_steps.specs.Runs.{Leads}
 use Rattle.c_steps.proofs.Memory.{put_there, put_apart}
-use Rattle.c_steps.proofs.Steps.{joined_runs, done_leads, run_done, then_leads, then_stops, on_leads, test_runs, call_runs, cell_runs, start_runs, event_runs}
-use Rattle.sci_cgen_blocks.specs.Recipes.{scratch_of}
+use Rattle.c_steps.proofs.Steps.{joined_runs, joined_leads, done_leads, run_done, then_leads, then_stops, on_leads, test_runs, call_runs, cell_runs, start_runs, event_runs}
 use Rattle.sci_cgen_blocks.specs.Texts.{states as states_name, branch_expression}
 use Rattle.sci_cgen_blocks.specs.Laws.{BranchLaw}
 use Rattle.sci_due.specs.Due.{now as now_name}
 use Rattle.sci_cgen.specs.Names.{branches, block_name}
-use Rattle.sci_cgen.specs.Program.{natural, one, texts, text_where, only_where, places_of, is_active, call_text, entry_text, row_text}
+use Rattle.sci_cgen.specs.Program.{natural, one, texts, text_where, only_where, places_of, is_active, call_text, entry_text, cleared_text, pass_text}
 use Rattle.sci_forms.specs.Form.{reads_mask}
-use Rattle.sci_cgen.specs.Shows.{ShowsStates, ShowsBranches, ShowsPass, branch_so_far}
+use Rattle.sci_cgen.specs.Shows.{ShowsValues, ShowsStates, ShowsColumns, ShowsBranches, ShowsPass, HasRoom, IsIdle, branch_so_far, is_asked, is_told, is_worked}
 use Rattle.sci_cgen.specs.Passes.{IsDated, ShowsNet, HasCalled, Gives, AreCalled, cursors, HasPassed, PassStops, Passes}
-use Rattle.sci_cgen.proofs.Marks.{IsMarked, entry_marks}
-use Rattle.sci_cgen.proofs.Entries.{few_inputs, here_in_row, block_here, mask_few, guarding, fresh, done_next}
+use Rattle.sci_cgen.proofs.Marks.{IsMarked, wants_mark, entry_marks}
+use Rattle.sci_cgen.proofs.Entries.{few_inputs, here_in_row, block_here, mask_few, guarding, guard_possible, fresh, done_next}
+use Rattle.sci_cgen.proofs.Taking.{asked_here, told_of, row_cleared}
 use Rattle.sci_cgen.proofs.Given.{holds_unread}
 use Rattle.sci_cgen.proofs.Found.{ShowsMost, with_branches, other_block, marked_shows, idle_shows, called_same, called_shows, branched_shows}
 
@@ -52,15 +54,22 @@ sync_reads AndLog h = absurd (true≢false (sym h))
 sync_reads _ h = refl
 
 module _ (env : Around) (n : Parts) (net : IsNet n) (scratch : ℕ) (i : Columns) (columns : AreColumns n i) (m : Memory) (memory : IsMemory n m)
-    (law : BranchLaw) (s : Source) (free : IsLoopFree n s) (row : List Entry) (is : IsRow n s row) (before : World) (states : ShowsStates n m.state before)
-    (enough : (b : ℕ) → Contains (blocks_of row) b → scratch_of (spec_of n b).kind (spec_of n b) ≤ scratch) (called : AreCalled env n scratch i m row) where
+    (law : BranchLaw) (s : Source) (free : IsLoopFree n s) (own : Bool) (row : List Entry) (is : IsRow n s row) (before : World)
+    (states : ShowsStates n m.state before)
+    (called : AreCalled env n scratch i m row) where
   -- states are as they were before
-  states_still : (cursor : ℕ → ℕ) (y : Signals) (active : ℕ → Bool) (w : World) → ShowsMost n scratch i cursor y active before w → ShowsStates n m.state w
+  abbrev asked : ℕ → Bool
+  asked = is_asked own row
+
+  abbrev told : ℕ → Bool
+  told = is_told own row
+
+  states_still : (cursor : ℕ → ℕ) (y : Signals) (active : ℕ → Bool) (w : World) → ShowsMost n scratch i asked cursor y active before w → ShowsStates n m.state w
   states_still cursor y active w h = record { each = λ b j k l. h.kept states_name _ refl ∙ states.each b j k l }
 
   -- ---- one entry
 
-  module _ (pre post : List Entry) (e : Entry) (split : row ≡ pre ++ e ∷ post) (w : World) (h : HasPassed n scratch i m s pre before w) where
+  module _ (pre post : List Entry) (e : Entry) (split : row ≡ pre ++ e ∷ post) (w : World) (h : HasPassed n scratch i asked told m s pre before w) where
     abbrev b : ℕ
     b = e.block
 
@@ -74,13 +83,23 @@ module _ (env : Around) (n : Parts) (net : IsNet n) (scratch : ℕ) (i : Columns
     cursor = cursors n m g.applied
 
     abbrev Goes : Ran → Type 0
-    Goes r = Leads r (HasPassed n scratch i m s (pre ++ e ∷ []) before) ⊎ PassStops n i m s [] r
+    Goes r = Leads r (HasPassed n scratch i asked told m s (pre ++ e ∷ []) before) ⊎ PassStops n i m s [] r
 
     block : IsBlock n b
     block = block_here n s net free row is pre post e split
 
     in_row : Contains (blocks_of row) b
     in_row = here_in_row n s net free row is pre post e split
+
+    asked_is : asked b ≡ wants_mark own e
+    asked_is = asked_here own row pre post e split (fresh n s net free row is pre post e split)
+
+    -- the blocks of the row are told of
+    in_told : (c : ℕ) → Contains (blocks_of row) c → told c ≡ true
+    in_told c k = told_of own row c k
+
+    guards_told : (q : Guard) → Contains e.guards q → told q.block ≡ true
+    guards_told q k = in_told q.block ((is.exactly q.block).1 (guard_possible n s net free row is pre post e split q k))
 
     step : IsNext n m i s (blocks_of pre) g e
     step = pass_goes_on n m i s net free row is pre post e g split h.front
@@ -96,13 +115,13 @@ module _ (env : Around) (n : Parts) (net : IsNet n) (scratch : ℕ) (i : Columns
     goes_then r k (inr x) = inr (record { block = x.block; word = x.word; result = x.result; is = then_stops r (run_block env k done) x.word x.block x.is })
 
     -- the block isn't active
-    idle : applies n g e ≡ false → (k : ℕ) (v : World) → IsMarked n b false (pos mask) w v → Goes (run_block env k done v)
+    idle : applies n g e ≡ false → (k : ℕ) (v : World) → IsMarked n (asked b) b false (pos mask) w v → Goes (run_block env k done v)
     idle no_entry k v marked =
         inl (done_leads env k v (record {
           found = g;
           front = subst (λ bs. IsFront n m i s bs g) (sym (done_next n s net free row is pre post e split)) (step.idle no_entry);
           in_range = h.in_range;
-          shows = idle_shows n scratch i b block cursor g before w v h.shows (pos mask) marked off;
+          shows = idle_shows n scratch i asked told b block cursor g before w v h.shows (pos mask) marked off;
         }))
 
     abbrev branch_text : Block
@@ -115,9 +134,9 @@ module _ (env : Around) (n : Parts) (net : IsNet n) (scratch : ℕ) (i : Columns
       is_mask : IsMask (spec_of n b) mask
       is_mask = mask_in_range n s g.values b mask net (step.applies_is.0 on) step.mask_is
 
-      module _ (v : World) (marked : IsMarked n b true (pos mask) w v) where
-        most : ShowsMost n scratch i cursor g.values (put g.applied b true) before v
-        most = marked_shows n scratch i b block cursor g before w v h.shows true (pos mask) marked
+      module _ (v : World) (marked : IsMarked n (asked b) b true (pos mask) w v) where
+        most : ShowsMost n scratch i asked cursor g.values (put g.applied b true) before v
+        most = marked_shows n scratch i asked told b block cursor g before w v h.shows true (pos mask) marked
 
         stands : ShowsNet n scratch i m cursor g.values b mask v
         stands = record {
@@ -158,9 +177,9 @@ module _ (env : Around) (n : Parts) (net : IsNet n) (scratch : ℕ) (i : Columns
                 (sym (put_other g.applied b true c d))
           ]
 
-          shown : ShowsMost n scratch i (cursors n m more.applied) more.values more.applied before u
+          shown : ShowsMost n scratch i asked (cursors n m more.applied) more.values more.applied before u
           shown =
-              let a = called_shows n scratch i b block cursor g.values (put g.applied b true) before v u most vs k in
+              let a = called_shows n scratch i asked told b block cursor g.values (put g.applied b true) before v u most vs k in
               record {
                 values = a.values;
                 active_are = a.active_are;
@@ -196,30 +215,30 @@ module _ (env : Around) (n : Parts) (net : IsNet n) (scratch : ℕ) (i : Columns
                   ∙ ap (chosen c) (sym (put_other g.applied b true c d ∙ a))
 
           branches_more : (x : World) → (is_sync (spec_of n b).kind ≡ true → get x branches (b - 1) ≡ Some (pos taken))
-              → ((c : ℕ) → IsBlock n c → (c ≡ b → ⊥) → get x branches (c - 1) ≡ get w branches (c - 1)) → ShowsBranches n more x
+              → ((c : ℕ) → IsBlock n c → (c ≡ b → ⊥) → get x branches (c - 1) ≡ get w branches (c - 1)) → ShowsBranches n told more x
           branches_more x here others = record {
-            each = λ c inside sync. elim (cases_eq c b) [
+            each = λ c inside known sync. elim (cases_eq c b) [
               | inl q ↦ ap (λ d. get x branches (d - 1)) q
                   ∙ (here (subst (λ d. is_sync (spec_of n d).kind ≡ true) q sync)
                   ∙ (ap (λ d. Some (pos (branch_on (spec_of n d) (input_in n more.values d)))) (sym q)
                   ∙ ap (λ (t : Bool). Some (pos (if t then branch_on (spec_of n c) (input_in n more.values c) else 0))) (sym (put_same g.applied b true c q))))
-              | inr d ↦ others c inside d ∙ (h.shows.branches.each c inside sync ∙ ap (λ j. Some (pos j)) (still c d))
+              | inr d ↦ others c inside d ∙ (h.shows.branches.each c inside known sync ∙ ap (λ j. Some (pos j)) (still c d))
             ];
           }
 
-          passed : (x : World) → ShowsMost n scratch i (cursors n m more.applied) more.values more.applied before x → ShowsBranches n more x
-              → HasPassed n scratch i m s (pre ++ e ∷ []) before x
+          passed : (x : World) → ShowsMost n scratch i asked (cursors n m more.applied) more.values more.applied before x → ShowsBranches n told more x
+              → HasPassed n scratch i asked told m s (pre ++ e ∷ []) before x
           passed x a c = record {
             found = more;
             front = subst (λ bs. IsFront n m i s bs more) (sym (done_next n s net free row is pre post e split)) (step.valued vs on gives);
             in_range = more_in_range;
-            shows = with_branches n scratch i (cursors n m more.applied) more before x a c;
+            shows = with_branches n scratch i asked told (cursors n m more.applied) more before x a c;
           }
 
           -- up to the call no branch changes
           old_branch : (c : ℕ) → get u branches (c - 1) ≡ get w branches (c - 1)
           old_branch c =
-              called_same n scratch i b block cursor g.values (put g.applied b true) before v u most vs k branches (c - 1) refl refl
+              called_same n scratch i asked told b block cursor g.values (put g.applied b true) before v u most vs k branches (c - 1) refl refl
               ∙ marked.same branches (c - 1) refl (λ r. refl)
 
           branch_value : is_sync (spec_of n b).kind ≡ true → value_of (branch_expression (spec_of n b) (places_of n b)) u ≡ Some (pos taken)
@@ -228,7 +247,7 @@ module _ (env : Around) (n : Parts) (net : IsNet n) (scratch : ℕ) (i : Columns
               law (spec_of n b) (places_of n b) (m.state b) 0 (all_inputs (spec_of n b) (input_in n more.values b)) u (net.typed_specs b block) sync
               (inputs_in_range n net more.values b block more_in_range)
               (holds_unread n net more.values (λ c inside. (more_in_range c inside).enough) u shown.values b scratch (m.state b) block
-              (sync_reads (spec_of n b).kind sync) (enough b in_row)
+              (sync_reads (spec_of n b).kind sync)
               (λ j l. (states_still (cursors n m more.applied) more.values more.applied u shown).each b j block l) shown.room)
 
           tail_goes : (j : ℕ) → Goes (run_block env j (text_where (is_sync (spec_of n b).kind) branch_text) u)
@@ -237,9 +256,9 @@ module _ (env : Around) (n : Parts) (net : IsNet n) (scratch : ℕ) (i : Columns
               by_sync : (t : Bool) → is_sync (spec_of n b).kind ≡ t → Goes (run_block env j (text_where t branch_text) u)
               by_sync true sync =
                   cell_runs Goes env j branches (b - 1) (branch_expression (spec_of n b) (places_of n b)) done u (pos taken) (branch_value sync)
-                  (record { holds = pos (branch_so_far n g b); is = old_branch b ∙ h.shows.branches.each b block sync })
+                  (record { holds = pos (branch_so_far n g b); is = old_branch b ∙ h.shows.branches.each b block (in_told b in_row) sync })
                   (λ j' x p. inl (done_leads env j' x (passed x
-                  (branched_shows n scratch i b block (cursors n m more.applied) more.values more.applied before u x shown (pos taken) p)
+                  (branched_shows n scratch i asked told b block (cursors n m more.applied) more.values more.applied before u x shown (pos taken) p)
                   (branches_more x (λ q. put_there u x branches (b - 1) (pos taken) p)
                   (λ c inside d. put_apart u x branches (b - 1) (pos taken) branches (c - 1) p (other_block n b c block inside d) ∙ old_branch c)))))
               by_sync false sync =
@@ -259,73 +278,90 @@ module _ (env : Around) (n : Parts) (net : IsNet n) (scratch : ℕ) (i : Columns
                 inr (record { block = b; word = word; result = step.stops word on q; is = then_stops (run v) (run_block env j tail) word b x })
 
     -- An entry does what the pass does.
-    entry_goes : (k : ℕ) → Goes (run_block env k (entry_text n e) w)
+    entry_goes : (k : ℕ) → Goes (run_block env k (entry_text own n e) w)
     entry_goes k =
-        entry_marks env n e g w h.shows.branches (few_inputs (spec_of n b) (net.typed_specs b block)) (guarding n s net free row is pre post e split)
-        (mask_few n s net free row is pre post e split) (h.shows.active.each b block ∙ ap (λ (t : Bool). Some (truth t)) off) (h.shows.room.masks b block)
-        Goes k (if e.always then call_text n b else only_where (is_active b) (call_text n b)) (λ j v marked. by_always e.always refl j v marked)
+        entry_marks env n own e told g w h.shows.branches (few_inputs (spec_of n b) (net.typed_specs b block)) (h.shows.room.actives b block)
+        (guarding n s net free row is pre post e split) guards_told
+        (mask_few n s net free row is pre post e split) (λ a. h.shows.marks.each b block (asked_is ∙ a) ∙ ap (λ (t : Bool). Some (truth t)) off)
+        (h.shows.room.masks b block)
+        Goes k (if e.always then call_text n b else only_where (is_active b) (call_text n b))
+        (λ j v marked. by_always e.always refl j v (subst (λ (q : Bool). IsMarked n q b (applies n g e) (pos mask) w v) (sym asked_is) marked))
       where
-        called_at : (j : ℕ) (v : World) → applies n g e ≡ true → IsMarked n b (applies n g e) (pos mask) w v → Goes (run_block env j (call_text n b) v)
-        called_at j v on marked = call_goes on v (subst (λ (t : Bool). IsMarked n b t (pos mask) w v) on marked) j
+        called_at : (j : ℕ) (v : World) → applies n g e ≡ true → IsMarked n (asked b) b (applies n g e) (pos mask) w v → Goes (run_block env j (call_text n b) v)
+        called_at j v on marked = call_goes on v (subst (λ (t : Bool). IsMarked n (asked b) b t (pos mask) w v) on marked) j
 
-        by_applies : (j k l : ℕ) (v : World) → IsMarked n b (applies n g e) (pos mask) w v → (t : Bool) → applies n g e ≡ t
+        by_applies : (j k l : ℕ) (v : World) → IsMarked n (asked b) b (applies n g e) (pos mask) w v → (t : Bool) → applies n g e ≡ t
             → Goes (then_run (if t then run_block env j (call_text n b) v else run_block env k done v) (run_block env l done))
         by_applies j k l v marked true on = goes_then (run_block env j (call_text n b) v) l (called_at j v on marked)
         by_applies j k l v marked false no_entry =
-            goes_then (run_block env k done v) l (idle no_entry k v (subst (λ (t : Bool). IsMarked n b t (pos mask) w v) no_entry marked))
+            goes_then (run_block env k done v) l (idle no_entry k v (subst (λ (t : Bool). IsMarked n (asked b) b t (pos mask) w v) no_entry marked))
 
-        by_always : (a : Bool) → e.always ≡ a → (j : ℕ) (v : World) → IsMarked n b (applies n g e) (pos mask) w v
+        wanted : (o : Bool) → e.always ≡ false → not o || not e.always ≡ true
+        wanted true a = ap not a
+        wanted false a = refl
+
+        by_always : (a : Bool) → e.always ≡ a → (j : ℕ) (v : World) → IsMarked n (asked b) b (applies n g e) (pos mask) w v
             → Goes (run_block env j (if a then call_text n b else only_where (is_active b) (call_text n b)) v)
         by_always true a j v marked = called_at j v (rw a refl) marked
         by_always false a j v marked =
-            test_runs Goes env j (is_active b) (call_text n b) done done v (applies n g e) marked.active
+            test_runs Goes env j (is_active b) (call_text n b) done done v (applies n g e) (marked.active (asked_is ∙ wanted own a))
             (λ x y z. by_applies x y z v marked (applies n g e) refl)
 
   -- ---- a row
 
   abbrev Does : List Obs → Ran → Type 0
-  Does seen r = Passes n scratch i m s row before seen r
+  Does seen r = Passes n scratch i asked told m s row before seen r
 
-  entries_go : (post pre : List Entry) → row ≡ pre ++ post → (k : ℕ) (w : World) → HasPassed n scratch i m s pre before w
-      → Does [] (run_block env k (texts (entry_text n) post) w)
+  entries_go : (post pre : List Entry) → row ≡ pre ++ post → (k : ℕ) (w : World) → HasPassed n scratch i asked told m s pre before w
+      → Does [] (run_block env k (texts (entry_text own n) post) w)
   entries_go [] pre split k w h =
       inl (record {
         to = w;
         is = run_done env k w;
-        holds = subst (λ es. HasPassed n scratch i m s es before w) (sym (split ∙ append-nil pre)) h;
+        holds = subst (λ es. HasPassed n scratch i asked told m s es before w) (sym (split ∙ append-nil pre)) h;
       })
   entries_go (e ∷ es) pre split k w h =
-      joined_runs (Does []) env k (entry_text n e) (texts (entry_text n) es) w
+      joined_runs (Does []) env k (entry_text own n e) (texts (entry_text own n) es) w
       (λ j. further j (λ w' d. entries_go es (pre ++ e ∷ []) (split ∙ sym (append_assoc pre (e ∷ []) es)) j w' d) (entry_goes pre es e split w h k))
     where
-      further : (j : ℕ) → ((w' : World) → HasPassed n scratch i m s (pre ++ e ∷ []) before w' → Does [] (run_block env j (texts (entry_text n) es) w'))
-          → Goes pre es e split w h (run_block env k (entry_text n e) w)
-          → Does [] (then_run (run_block env k (entry_text n e) w) (run_block env j (texts (entry_text n) es)))
-      further j go (inl l) = on_leads (Does []) (run_block env k (entry_text n e) w) (run_block env j (texts (entry_text n) es)) l go
+      further : (j : ℕ) → ((w' : World) → HasPassed n scratch i asked told m s (pre ++ e ∷ []) before w' → Does [] (run_block env j (texts (entry_text own n) es) w'))
+          → Goes pre es e split w h (run_block env k (entry_text own n e) w)
+          → Does [] (then_run (run_block env k (entry_text own n e) w) (run_block env j (texts (entry_text own n) es)))
+      further j go (inl l) = on_leads (Does []) (run_block env k (entry_text own n e) w) (run_block env j (texts (entry_text own n) es)) l go
       further j go (inr x) = inr (record {
         block = x.block;
         word = x.word;
         result = x.result;
-        is = then_stops (run_block env k (entry_text n e) w) (run_block env j (texts (entry_text n) es)) x.word x.block x.is;
+        is = then_stops (run_block env k (entry_text own n e) w) (run_block env j (texts (entry_text own n) es)) x.word x.block x.is;
       })
 
   seen_first : (o : Obs) (r : Ran) → Does [] r → Does (o ∷ []) (behind (o ∷ []) r)
   seen_first o r (inl l) = inl (record { to = l.to; is = ap (behind (o ∷ [])) l.is; holds = l.holds })
   seen_first o r (inr x) = inr (record { block = x.block; word = x.word; result = x.result; is = ap (behind (o ∷ [])) x.is })
 
-  -- From a memory at rest the text of the row observes the header and does the pass.
-  pub row_goes : (date k : ℕ) (w : World) → IsDated s date w → ShowsPass n scratch i m.cursor (at_rest m) before w
-      → Does (header date s ∷ []) (run_block env k (row_text n s row) w)
-  row_goes date k w dated rests = by_source s refl dated
-    where
-      begun : (j : ℕ) → Does [] (run_block env j (texts (entry_text n) row) w)
-      begun j = entries_go row [] refl j w (record { found = at_rest m; front = pass_begins n m i s; in_range = memory.held; shows = rests })
+  abbrev behind_header : Block
+  behind_header = joined (text_where own (texts (cleared_text n) row)) (texts (entry_text own n) row)
 
-      by_source : (t : Source) → s ≡ t → IsDated t date w → Does (header date t ∷ []) (run_block env k (row_text n t row) w)
+  -- From a memory that shows values, columns and room, and where one text follows for all sources no mark and no branch, the text of the row observes the header
+  -- and does the pass.
+  pub row_goes : (date k : ℕ) (w : World) → IsDated s date w → ShowsValues n m.held w → ShowsColumns n i m.cursor w → HasRoom n scratch w
+      → (own ≡ false → IsIdle n w) → ((x : Name) (j : ℕ) → is_worked x ≡ false → get w x j ≡ get before x j)
+      → Does (header date s ∷ []) (run_block env k (pass_text own n s row) w)
+  row_goes date k w dated values columns room idle kept = by_source s refl dated
+    where
+      begun : (j : ℕ) (v : World) → ShowsPass n scratch i asked told m.cursor (at_rest m) before v → Does [] (run_block env j (texts (entry_text own n) row) v)
+      begun j v rests = entries_go row [] refl j v (record { found = at_rest m; front = pass_begins n m i s; in_range = memory.held; shows = rests })
+
+      cleared : (j : ℕ) → Does [] (run_block env j behind_header w)
+      cleared j =
+          joined_leads (Does []) env j (text_where own (texts (cleared_text n) row)) (texts (entry_text own n) row) w
+          (row_cleared env n net scratch i m s free own row is before w values columns room idle kept j) (λ l v rests. begun l v rests)
+
+      by_source : (t : Source) → s ≡ t → IsDated t date w → Does (header date t ∷ []) (run_block env k (pass_text own n t row) w)
       by_source Start q d =
-          start_runs (Does (header date Start ∷ [])) env k (texts (entry_text n) row) w
-          (λ j. seen_first (header date Start) (run_block env j (texts (entry_text n) row) w) (begun j))
+          start_runs (Does (header date Start ∷ [])) env k behind_header w
+          (λ j. seen_first (header date Start) (run_block env j behind_header w) (cleared j))
       by_source (Port f) q d =
-          event_runs (Does (header date (Port f) ∷ [])) env k (var now_name) (natural f.block) (natural f.port) (texts (entry_text n) row) w
+          event_runs (Does (header date (Port f) ∷ [])) env k (var now_name) (natural f.block) (natural f.port) behind_header w
           (pos date) (pos f.block) (pos f.port) d refl refl
-          (λ j. seen_first (header date (Port f)) (run_block env j (texts (entry_text n) row) w) (begun j))
+          (λ j. seen_first (header date (Port f)) (run_block env j behind_header w) (cleared j))

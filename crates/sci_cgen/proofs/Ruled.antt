@@ -1,15 +1,16 @@
 -- The texts of a generated program keep the static rules.
-use Rattle.std.proofs.Common.{◌≡◌, ℕ, zero, suc, ◌+◌, ◌-◌, ◌<◌, ◌≤◌, List, [], ◌∷◌, ◌++◌, append_assoc, length, slice_index_or, Contains, Option, Bool, true, false, ◌||◌, not, nat_eq, nat_lt, if◌then◌else◌, refl, sym, ◌∙◌, arith, pos}
+use Rattle.std.proofs.Common.{◌≡◌, ℕ, zero, suc, ◌+◌, ◌-◌, ◌<◌, ◌≤◌, List, [], ◌∷◌, ◌++◌, append_assoc, length, slice_index_or, Contains, Option, Bool, true, false, ◌||◌, ◌&&◌, not, nat_eq, nat_lt, if◌then◌else◌, refl, sym, ap, ◌∙◌, arith, pos}
 use Rattle.std.specs.Int.{bit_at}
 use Rattle.std.specs.List.{list_any}
 use Rattle.std.proofs.lemmas.List.Elements.{Contains-get_or}
+use Rattle.std.proofs.lemmas.List.Folds.{list_any-append}
 use Rattle.sci_forms.specs.declared.ports.Port.{Port as Output}
-use Rattle.sci_forms.specs.declared.spec.Spec.{Spec}
 use Rattle.sci_forms.specs.Ports.{elements}
 use Rattle.sci_forms.specs.Form.{is_sync, has_state}
+use Rattle.sci_net.specs.declared.Feed.{Feed}
 use Rattle.sci_net.specs.declared.Source.{Source}
 use Rattle.sci_net.specs.declared.Source.TheVariants.{Start, Port}
-use Rattle.sci_net.specs.Parts.{Parts, IsBlock, spec_of, no_spec}
+use Rattle.sci_net.specs.Parts.{Parts, IsBlock, spec_of}
 use Rattle.sci_net.specs.Sources.{sources_of, source_of}
 use Rattle.sci_net.specs.Net.{IsNet}
 use Rattle.sci_places.specs.Flat.{start_of}
@@ -24,21 +25,25 @@ use Rattle.c_ast.specs.declared.Bound.TheVariants as bounds
 use Rattle.c_ast.specs.declared.events.Kind.{Kind}
 use Rattle.c_ast.specs.declared.events.Opened.{Opened}
 use Rattle.c_ast.specs.declared.events.Opened.TheVariants.{Branch, Turn}
-use Rattle.c_ast.specs.Syntax.{var, scalar, cell, set, Block, Function}
+use Rattle.c_ast.specs.Syntax.{var, scalar, cell, set, Block, done, Function}
 use Rattle.c_ast.specs.Rules.{Routine, same_name, is_guarded, is_hit}
 use Rattle.c_steps.specs.Texts.{joined}
+use Rattle.sci_cgen_blocks.specs.Terms.{is_looped}
 use Rattle.sci_cgen_blocks.specs.Recipes.{scratch_of}
-use Rattle.sci_cgen_blocks.specs.Texts.{values, states, masks, scratch_name, body_text, next_text, branch_expression}
+use Rattle.sci_cgen_blocks.specs.Texts.{values, states, masks, scratch_name, body_text, next_text, delay_expression, branch_expression}
 use Rattle.sci_cgen_blocks.specs.Keeping.{Scene, IsScalar, IsArray, ReadsWell, BlockKeeps, HasBlockNames}
 use Rattle.sci_cgen_blocks.proofs.TextRules.{joined_keep, upto_keeps, body_keeps, next_keeps, delay_keeps, branch_keeps}
 use Rattle.sci_cgen_blocks.proofs.WholeRules.{IsKnown, AreKnown, calls_well}
 use Rattle.sci_due.specs.Due.{dates, orders, best as chosen_name, scan as scan_name, now as now_name, last as programmed_name, delay as delay_name}
-use Rattle.sci_cgen.specs.Names.{actives, branches, limit_name, until_name, fired_name, next_date, halt_name, block_name}
-use Rattle.sci_cgen.specs.Program.{natural, one, texts, text_where, only_where, port_count, places_of, is_scheduled, block_function, source_function, is_active, mark, with_bit, with_bits, guard_text, call_text, entry_text, header_text, has_sync, has_halt, clear_text, choose_text, elements_shown, outputs_shown, values_shown, delay_text, state_text, halt_text, settle_text}
+use Rattle.sci_due.specs.Texts.{program_text}
+use Rattle.sci_cgen.specs.declared.parts.Part.{Part}
+use Rattle.sci_cgen.specs.declared.parts.Part.TheVariants.{Absent, Sure, Marked}
+use Rattle.sci_cgen.specs.Names.{actives, branches, limit_name, until_name, fired_name, next_date, halt_name, block_name, settle_name}
+use Rattle.sci_cgen.specs.Program.{natural, one, texts, text_where, only_where, has_own, part_in, port_count, places_of, is_scheduled, block_function, source_function, is_active, where_part, mark, with_bit, with_bits, guard_text, call_text, entry_text, cleared_text, header_text, pass_text, following_text, has_sync, has_halt, clear_text, choose_text, elements_shown, outputs_shown, values_shown, delay_text, state_text, halt_text, settle_text, is_any_looped, has_loop, looped_shown, output_shown}
 use Rattle.sci_cgen.proofs.Parted.{reads, masked, guarded, called, all_shown, all_delays, all_states, all_halts}
 use Rattle.sci_cgen.proofs.Marks.{IsGuarding}
 use Rattle.sci_cgen.proofs.Entries.{block_here, guarding}
-use Rattle.sci_cgen.proofs.Sizes.{port_has_delay}
+use Rattle.sci_cgen.proofs.Sizes.{first_any, other_any, some_block, port_has_delay}
 
 -- what the program's texts find declared
 pub record Finds (n : Parts) (scratch : ℕ) (c : Scene) : Type 0 where
@@ -89,20 +94,6 @@ texts_split c opens t all pre (x ∷ xs) e h =
     joined_keep c opens (t x) (texts t xs) (h pre xs x e)
     (texts_split c opens t all (pre ++ x ∷ []) xs (e ∙ sym (append_assoc pre (x ∷ []) xs)) h)
 
--- one of a list passes a test
-any_at : {A : Type 0} (test : A → Bool) (d : A) (xs : List A) (k : ℕ) → k < length xs → test (slice_index_or xs k d) ≡ true → list_any test xs ≡ true
-any_at test d [] k l h = absurd (omega (arith, l))
-any_at test d (x ∷ xs) zero l h = rw h refl
-any_at test d (x ∷ xs) (suc k) l h = later (test x) (any_at test d xs k (omega (arith, l)) h)
-  where
-    later : (t : Bool) → list_any test xs ≡ true → t || list_any test xs ≡ true
-    later true e = refl
-    later false e = e
-
-some_block : (n : Parts) (test : Spec → Bool) (b : ℕ) → IsBlock n b → test (spec_of n b) ≡ true → list_any test n.specs ≡ true
-some_block n test zero is h = absurd (omega (arith, is.least))
-some_block n test (suc k) is h = any_at test no_spec n.specs k (omega (arith, is.most)) h
-
 -- ---- functions
 
 known_left : (may : Name → Bool) (d : ℕ) (routines : Name → Option Routine) (xs ys : List Function) → AreKnown may d routines (xs ++ ys)
@@ -145,69 +136,87 @@ module _ (n : Parts) (net : IsNet n) (scratch : ℕ) (kinds : Name → Option Ki
     elements_keep opens b p e o zero = tt
     elements_keep opens b p e o (suc m) = ((tt, tt, tt, (finds.values, tt)), elements_keep opens b p (e + 1) (o + 1) m)
 
-    outputs_keep : (opens : List Opened) (b p o : ℕ) (qs : List Output) → BlockKeeps c opens (outputs_shown b p o qs)
-    outputs_keep opens b p o [] = tt
-    outputs_keep opens b p o (q ∷ qs) =
-        joined_keep c opens (elements_shown b p 1 o (elements q)) (outputs_shown b (p + 1) (o + elements q) qs) (elements_keep opens b p 1 o (elements q))
-        (outputs_keep opens b (p + 1) (o + elements q) qs)
+    -- a scratch number counts in a loop
+    output_keeps : (opens : List Opened) → ((x : Name) → is_guarded opens x ≡ false) → (b p o m : ℕ) → (is_looped m ≡ true → 1 ≤ scratch)
+        → BlockKeeps c opens (output_shown b p o m)
+    output_keeps opens free b p o m enough = by_size (is_looped m) refl
+      where
+        by_size : (t : Bool) → is_looped m ≡ t → BlockKeeps c opens (if t then one (looped_shown b p o m) else elements_shown b p 1 o m)
+        by_size true e =
+            let t = finds.scratch_names 1 (omega arith) (enough e) in
+            ((t, (refl, free (scratch_name 1)), tt, ((tt, tt, (t, tt), (finds.values, (t, tt))), tt)), tt)
+        by_size false e = elements_keep opens b p 1 o m
+
+    outputs_keep : (opens : List Opened) → ((x : Name) → is_guarded opens x ≡ false) → (b p o : ℕ) (qs : List Output)
+        → (is_any_looped qs ≡ true → 1 ≤ scratch) → BlockKeeps c opens (outputs_shown b p o qs)
+    outputs_keep opens free b p o [] enough = tt
+    outputs_keep opens free b p o (q ∷ qs) enough =
+        joined_keep c opens (output_shown b p o (elements q)) (outputs_shown b (p + 1) (o + elements q) qs)
+        (output_keeps opens free b p o (elements q) (λ h. enough (first_any (is_looped (elements q)) (is_any_looped qs) h)))
+        (outputs_keep opens free b (p + 1) (o + elements q) qs (λ h. enough (other_any (is_looped (elements q)) (is_any_looped qs) h)))
 
     active_reads : (b : ℕ) → IsBlock n b → ReadsWell c (is_active b)
     active_reads b is = (finds.actives (some b is), tt)
 
-    values_keep : (b : ℕ) → IsBlock n b → BlockKeeps c one_open (values_shown n b)
-    values_keep b is =
-        let shown = outputs_shown b 1 (start_of n b) (spec_of n b).outs in
-        where_keeps c one_open (nat_lt 0 (length (spec_of n b).outs)) (only_where (is_active b) shown) (λ q.
-        ((active_reads b is, outputs_keep two_open b 1 (start_of n b) (spec_of n b).outs, tt), tt))
+    -- a text that keeps the rules under a test and without
+    part_keeps : (p : Part) (b : ℕ) → IsBlock n b → (t : Block) → BlockKeeps c one_open t → BlockKeeps c two_open t → BlockKeeps c one_open (where_part p b t)
+    part_keeps Absent b is t h k = tt
+    part_keeps Sure b is t h k = h
+    part_keeps Marked b is t h k = ((active_reads b is, k, tt), tt)
 
-    delay_text_keeps : (i : ℕ) (s : Source) → 1 ≤ port_count n → IsSource n s → BlockKeeps c one_open (delay_text n i s)
-    delay_text_keeps i Start l is = tt
-    delay_text_keeps i (Port q) l is =
-        let block = is.0.block in
-        let reads = delay_keeps c (spec_of n q.block) (places_of n q.block) (net.typed_specs q.block block) (names 0 (omega arith))
-        (port_has_delay n net q is) in (
-          (
-            active_reads q.block block,
+    module _ (part : ℕ → Part) where
+      values_keep : (has_loop n ≡ true → 1 ≤ scratch) → (b : ℕ) → IsBlock n b → BlockKeeps c one_open (values_shown n part b)
+      values_keep loops b is =
+          let looped = λ (h : is_any_looped (spec_of n b).outs ≡ true). loops (some_block n (λ s. is_any_looped s.outs) b is h) in
+          let shown = outputs_shown b 1 (start_of n b) (spec_of n b).outs in
+          where_keeps c one_open (nat_lt 0 (length (spec_of n b).outs)) (where_part (part b) b shown) (λ q.
+          part_keeps (part b) b is shown (outputs_keep one_open (λ x. refl) b 1 (start_of n b) (spec_of n b).outs looped)
+          (outputs_keep two_open (λ x. refl) b 1 (start_of n b) (spec_of n b).outs looped))
+
+      -- the text that programs a port
+      programs_keep : (opens : List Opened) → ((x : Name) → is_guarded opens x ≡ false) → (i : ℕ) (q : Feed) → 1 ≤ port_count n → IsSource n (Port q)
+          → BlockKeeps c opens (program_text i (delay_expression (spec_of n q.block) (places_of n q.block)) done)
+      programs_keep opens free i q l is =
+          let inner : (x : Name) → is_guarded (opens ++ Branch ∷ []) x ≡ false
+          = λ x. list_any-append (is_hit (same_name x)) opens (Branch ∷ []) ∙ ap (λ (t : Bool). t || false) (free x) in
+          let reads = delay_keeps c (spec_of n q.block) (places_of n q.block) (net.typed_specs q.block is.0.block) (names 0 (omega arith))
+          (port_has_delay n net q is) in (
+            ((finds.delay l, (refl, free delay_name)), reads),
             (
-              ((finds.delay l, (refl, refl)), reads),
               (
+                (finds.delay l, tt),
                 (
-                  (finds.delay l, tt),
+                  ((finds.dates l, (refl, inner dates), tt), (finds.now l, finds.delay l)),
                   (
-                    ((finds.dates l, (refl, refl), tt), (finds.now l, finds.delay l)),
-                    (
-                      ((finds.orders l, (refl, refl), tt), finds.programmed l),
-                      (((finds.programmed l, (refl, refl)), (finds.programmed l, tt)), tt),
-                    ),
+                    ((finds.orders l, (refl, inner orders), tt), finds.programmed l),
+                    (((finds.programmed l, (refl, inner programmed_name)), (finds.programmed l, tt)), tt),
                   ),
-                  tt,
                 ),
                 tt,
               ),
+              tt,
             ),
-            tt,
-          ),
-          tt,
-        )
+          )
 
-    state_keeps : (b : ℕ) → IsBlock n b → BlockKeeps c one_open (state_text n b)
-    state_keeps b is =
-        let t = next_text (spec_of n b) (places_of n b) in
-        where_keeps c one_open (has_state (spec_of n b).kind) (only_where (is_active b) t) (λ q. (
-          (
-            active_reads b is,
-            next_keeps c (spec_of n b) (places_of n b) (net.typed_specs b is) (names 0 (omega arith)) two_open (refl, refl),
-            tt,
-          ),
-          tt,
-        ))
+      delay_text_keeps : (i : ℕ) (s : Source) → 1 ≤ port_count n → IsSource n s → BlockKeeps c one_open (delay_text n part i s)
+      delay_text_keeps i Start l is = tt
+      delay_text_keeps i (Port q) l is =
+          part_keeps (part q.block) q.block is.0.block (program_text (i - 1) (delay_expression (spec_of n q.block) (places_of n q.block)) done)
+          (programs_keep one_open (λ x. refl) (i - 1) q l is) (programs_keep two_open (λ x. refl) (i - 1) q l is)
 
-    halt_keeps : (b : ℕ) → IsBlock n b → BlockKeeps c one_open (halt_text n b)
-    halt_keeps b is =
-        where_keeps c one_open (is_halt (spec_of n b).kind) (only_where (is_active b) (one (set (scalar halt_name) (natural 1)))) (λ q. (
-          (active_reads b is, (((finds.halt (some_block n (λ s. is_halt s.kind) b is q), (refl, refl)), tt), tt), tt),
-          tt,
-        ))
+      state_keeps : (b : ℕ) → IsBlock n b → BlockKeeps c one_open (state_text n part b)
+      state_keeps b is =
+          let t = next_text (spec_of n b) (places_of n b) in
+          where_keeps c one_open (has_state (spec_of n b).kind) (where_part (part b) b t) (λ q.
+          part_keeps (part b) b is t (next_keeps c (spec_of n b) (places_of n b) (net.typed_specs b is) (names 0 (omega arith)) one_open (refl, refl))
+          (next_keeps c (spec_of n b) (places_of n b) (net.typed_specs b is) (names 0 (omega arith)) two_open (refl, refl)))
+
+      halt_keeps : (b : ℕ) → IsBlock n b → BlockKeeps c one_open (halt_text n part b)
+      halt_keeps b is =
+          let t = one (set (scalar halt_name) (natural 1)) in
+          where_keeps c one_open (is_halt (spec_of n b).kind) (where_part (part b) b t) (λ q.
+          let flag = finds.halt (some_block n (λ s. is_halt s.kind) b is q) in
+          part_keeps (part b) b is t (((flag, (refl, refl)), tt), tt) (((flag, (refl, refl)), tt), tt))
 
     inside : (k : ℕ) → k < length n.specs → IsBlock n (suc k)
     inside k l = record { least = omega arith; most = omega (arith, l) }
@@ -215,16 +224,16 @@ module _ (n : Parts) (net : IsNet n) (scratch : ℕ) (kinds : Name → Option Ki
     source_is : (i : ℕ) → i < length (sources_of n) → IsSource n (source_of n i)
     source_is i l = (sources_are n (source_of n i)).0 (Contains-get_or (sources_of n) i Start l)
 
-    pub settle_keeps : BlockKeeps c one_open (settle_text n)
-    settle_keeps =
-        joined_keep c one_open (all_shown n) (joined (all_delays n) (joined (all_states n) (all_halts n)))
-        (upto_keeps c one_open (λ k. values_shown n (suc k)) (length n.specs) (λ k l. values_keep (suc k) (inside k l)))
-        (joined_keep c one_open (all_delays n) (joined (all_states n) (all_halts n))
-        (upto_keeps c one_open (λ k. delay_text n (suc k) (source_of n (suc k))) (port_count n) (λ k l.
-        delay_text_keeps (suc k) (source_of n (suc k)) (omega (arith, l)) (source_is (suc k) (omega (arith, l)))))
-        (joined_keep c one_open (all_states n) (all_halts n)
-        (upto_keeps c one_open (λ k. state_text n (suc k)) (length n.specs) (λ k l. state_keeps (suc k) (inside k l)))
-        (upto_keeps c one_open (λ k. halt_text n (suc k)) (length n.specs) (λ k l. halt_keeps (suc k) (inside k l)))))
+    pub settle_keeps : (has_loop n ≡ true → 1 ≤ scratch) → (part : ℕ → Part) → BlockKeeps c one_open (settle_text n part)
+    settle_keeps loops part =
+        joined_keep c one_open (all_shown n part) (joined (all_delays n part) (joined (all_states n part) (all_halts n part)))
+        (upto_keeps c one_open (λ k. values_shown n part (suc k)) (length n.specs) (λ k l. values_keep part loops (suc k) (inside k l)))
+        (joined_keep c one_open (all_delays n part) (joined (all_states n part) (all_halts n part))
+        (upto_keeps c one_open (λ k. delay_text n part (suc k) (source_of n (suc k))) (port_count n) (λ k l.
+        delay_text_keeps part (suc k) (source_of n (suc k)) (omega (arith, l)) (source_is (suc k) (omega (arith, l)))))
+        (joined_keep c one_open (all_states n part) (all_halts n part)
+        (upto_keeps c one_open (λ k. state_text n part (suc k)) (length n.specs) (λ k l. state_keeps part (suc k) (inside k l)))
+        (upto_keeps c one_open (λ k. halt_text n part (suc k)) (length n.specs) (λ k l. halt_keeps part (suc k) (inside k l)))))
 
     -- ---- before a reaction
 
@@ -317,12 +326,20 @@ module _ (n : Parts) (net : IsNet n) (scratch : ℕ) (kinds : Name → Option Ki
       called_keeps e true is = call_keeps one_open e.block is (λ x. refl) refl
       called_keeps e false is = ((active_reads e.block is, call_keeps two_open e.block is (λ x. refl) refl, tt), tt)
 
-      module _ (s : Source) (free : IsLoopFree n s) (row : List Entry) (is : IsRow n s row) where
-        entry_keeps : (pre post : List Entry) (e : Entry) → row ≡ pre ++ e ∷ post → BlockKeeps c one_open (entry_text n e)
+      cleared_keeps : (e : Entry) → IsBlock n e.block → BlockKeeps c one_open (cleared_text n e)
+      cleared_keeps e is =
+          let active = one (set (cell actives (natural (e.block - 1))) (natural 0)) in
+          let branch = one (set (cell branches (natural (e.block - 1))) (natural 0)) in
+          joined_keep c one_open (text_where (not e.always) active) (text_where (is_sync (spec_of n e.block).kind) branch)
+          (where_keeps c one_open (not e.always) active (λ q. (((finds.actives (some e.block is), (refl, refl), tt), tt), tt)))
+          (where_keeps c one_open (is_sync (spec_of n e.block).kind) branch (λ q. (((finds.branches (sync_there e.block is q), (refl, refl), tt), tt), tt)))
+
+      module _ (own : Bool) (s : Source) (free : IsLoopFree n s) (row : List Entry) (is : IsRow n s row) where
+        entry_keeps : (pre post : List Entry) (e : Entry) → row ≡ pre ++ e ∷ post → BlockKeeps c one_open (entry_text own n e)
         entry_keeps pre post e split =
             let block : IsBlock n e.block = block_here n s net free row is pre post e split in
-            joined_keep c one_open (text_where e.always (mark e.block)) (joined (masked n e) (joined (guarded n e) (called n e)))
-            (where_keeps c one_open e.always (mark e.block) (λ q. mark_keeps one_open e.block block (λ x. refl)))
+            joined_keep c one_open (text_where (not own && e.always) (mark e.block)) (joined (masked n e) (joined (guarded n e) (called n e)))
+            (where_keeps c one_open (not own && e.always) (mark e.block) (λ q. mark_keeps one_open e.block block (λ x. refl)))
             (joined_keep c one_open (masked n e) (joined (guarded n e) (called n e))
             (where_keeps c one_open (reads n e) (one (set (cell masks (natural (e.block - 1))) (natural e.mask))) (λ q.
             (((finds.masks, (refl, refl), tt), tt), tt)))
@@ -331,8 +348,13 @@ module _ (n : Parts) (net : IsNet n) (scratch : ℕ) (kinds : Name → Option Ki
             texts_keep c one_open (guard_text n e) e.guards (λ g i. guard_keeps e g block (guarding n s net free row is pre post e split g i))))
             (called_keeps e e.always block)))
 
-        row_keeps : BlockKeeps c one_open (texts (entry_text n) row)
-        row_keeps = texts_split c one_open (entry_text n) row [] row refl entry_keeps
+        row_keeps : BlockKeeps c one_open (joined (text_where own (texts (cleared_text n) row)) (texts (entry_text own n) row))
+        row_keeps =
+            joined_keep c one_open (text_where own (texts (cleared_text n) row)) (texts (entry_text own n) row)
+            (where_keeps c one_open own (texts (cleared_text n) row) (λ q.
+            texts_split c one_open (cleared_text n) row [] row refl (λ pre post e split.
+            cleared_keeps e (block_here n s net free row is pre post e split))))
+            (texts_split c one_open (entry_text own n) row [] row refl entry_keeps)
 
       header_keeps : (i : ℕ) → i < length (sources_of n) → BlockKeeps c one_open (header_text (source_of n i))
       header_keeps zero l = (tt, tt)
@@ -342,8 +364,19 @@ module _ (n : Parts) (net : IsNet n) (scratch : ℕ) (kinds : Name → Option Ki
           by_source Start = (tt, tt)
           by_source (Port q) = ((finds.now (omega (arith, l)), tt, tt), tt)
 
-      pub source_keeps : (rows : List (List Entry)) → AreLoopFree n → IsSchedule n rows → (i : ℕ) → i < length (sources_of n)
+      following_keeps : (has_loop n ≡ true → 1 ≤ scratch) → (own : Bool) (row : List Entry) → (own ≡ false → IsKnown may_assign 1 routines settle_name)
+          → BlockKeeps c one_open (following_text own n row)
+      following_keeps loops true row h = settle_keeps loops (part_in row)
+      following_keeps loops false row h = (calls_well c one_open may_assign 1 settle_name (h refl) deep (λ x h. h) refl, tt)
+
+      pub source_keeps : (has_loop n ≡ true → 1 ≤ scratch) → (rows : List (List Entry)) → AreLoopFree n → IsSchedule n rows
+          → (has_own n rows ≡ false → IsKnown may_assign 1 routines settle_name) → (i : ℕ) → i < length (sources_of n)
           → BlockKeeps c one_open (source_function n rows i).body
-      source_keeps rows free schedule i l =
-          joined_keep c one_open (header_text (source_of n i)) (texts (entry_text n) (slice_index_or rows i [])) (header_keeps i l)
-          (row_keeps (source_of n i) (free i l) (slice_index_or rows i []) (schedule.each i (omega (arith, l, schedule.enough))))
+      source_keeps loops rows free schedule settles i l =
+          let own = has_own n rows in
+          let row = slice_index_or rows i [] in
+          let behind = joined (text_where own (texts (cleared_text n) row)) (texts (entry_text own n) row) in
+          joined_keep c one_open (pass_text own n (source_of n i) row) (following_text own n row)
+          (joined_keep c one_open (header_text (source_of n i)) behind (header_keeps i l)
+          (row_keeps own (source_of n i) (free i l) row (schedule.each i (omega (arith, l, schedule.enough)))))
+          (following_keeps loops own row settles)

@@ -17,8 +17,8 @@ use Rattle.sci_cgen.proofs.Reacting.{reactions_go}
 -- ---- the texts of blocks
 
 values_law : ValuesLaw
-values_law env s p x m u n w is_typed other state mask fills holds apart =
-    body_answers cell_law cell_reads_law env s p x m u n w is_typed other state mask fills holds apart
+values_law env s p x m u n w is_typed other state mask fills holds room bounds apart =
+    body_answers cell_law cell_reads_law env s p x m u n w is_typed other state mask fills holds room bounds apart
 
 sensor_law : SensorLaw
 sensor_law env s p column n w kind param room scratch = body_senses env s p column n w kind param room scratch
@@ -36,7 +36,7 @@ pub program_means_run : ProgramMeansRun
 unfolding ReactionsGo
 program_means_run n rows i until limit st how os net free schedule columns late most finish =
     program_means n rows i until limit net free columns late most
-    (λ react settle are. reactions_go values_law sensor_law branch_law may_law n rows i until limit net free schedule columns react settle are) finish
+    (λ react are. reactions_go values_law sensor_law branch_law may_law n rows i until limit net free schedule columns react are) finish
 
 -- Begun and then stepped by its host, it observes the reactions of start and of as many events, or all of a run that has fewer.
 pub program_can_step : ProgramSteps
@@ -46,10 +46,10 @@ program_can_step n rows net free schedule = record {
   parted = record { rest = ending n; is = refl };
   waits = λ i until most k st seen columns late few r all.
       program_waits n rows i until most net free columns late
-      (λ react settle are. reactions_go values_law sensor_law branch_law may_law n rows i until most net free schedule columns react settle are) k few st seen
+      (λ react are. reactions_go values_law sensor_law branch_law may_law n rows i until most net free schedule columns react are) k few st seen
       r all;
   ends = λ i until most k st how os columns late few finish told.
       program_steps n rows i until most net free columns late
-      (λ react settle are. reactions_go values_law sensor_law branch_law may_law n rows i until most net free schedule columns react settle are) k few finish
+      (λ react are. reactions_go values_law sensor_law branch_law may_law n rows i until most net free schedule columns react are) k few finish
       told;
 }

@@ -1,5 +1,5 @@
 -- A run, from a memory that is ready for the reaction of start on: event by event to its end, by turns that are called for by main or by its host.
-use Rattle.std.proofs.Common.{◌≡◌, ℕ, zero, suc, ◌+◌, ◌-◌, ◌<◌, ◌≤◌, ◌^◌, List, [], ◌∷◌, ◌++◌, length, Some, refl, sym, ap, ◌∙◌, subst, arith, pos, append-nil}
+use Rattle.std.proofs.Common.{◌≡◌, ℕ, zero, suc, ◌+◌, ◌-◌, ◌<◌, ◌≤◌, ◌^◌, List, [], ◌∷◌, ◌++◌, length, Bool, Some, refl, sym, ap, ◌∙◌, subst, arith, pos, append-nil}
 use Rattle.sci_base.specs.declared.observation.Obs.{Obs}
 use Rattle.sci_base.specs.declared.observation.Obs.TheVariants.{End}
 use Rattle.sci_base.specs.declared.observation.EndWord.{EndWord}
@@ -26,7 +26,7 @@ use Rattle.c_steps.specs.Runs.{Ends}
 use Rattle.c_steps.proofs.Steps.{then_assoc, then_seen, then_ends, behind_twice}
 use Rattle.c_steps.proofs.Memory.{put_there, put_other}
 use Rattle.c_steps.proofs.Loops.{count_is}
-use Rattle.c_steps.proofs.Frames.{alone_of, then_leaves, puts_alone}
+use Rattle.c_steps.proofs.Frames.{alone_of, puts_alone}
 use Rattle.sci_due.proofs.Lists.{next_first}
 use Rattle.sci_due.specs.Due.{best as chosen_name}
 use Rattle.sci_cgen.specs.Names.{fired_name, next_date, event_name}
@@ -158,9 +158,9 @@ module _ (n : Parts) (i : Columns) (until limit : ℕ) (turn : World → Ran) (S
 
 -- ---- the function of one event
 
-module _ (env : Around) (n : Parts) (net : IsNet n) (free : AreLoopFree n) (scratch : ℕ) (i : Columns) (until asked : ℕ) (late : until ≤ 2 ^ 62)
-    (react : ℕ → World → Ran) (settle clear choose : World → Ran)
-    (calls : HasCalls env n scratch i until asked react settle clear choose) (limit : ℕ)
+module _ (env : Around) (n : Parts) (net : IsNet n) (free : AreLoopFree n) (scratch : ℕ) (i : Columns) (own : Bool) (until asked : ℕ) (late : until ≤ 2 ^ 62)
+    (react : ℕ → World → Ran) (clear choose : World → Ran)
+    (calls : HasCalls env n scratch i own until asked react clear choose) (limit : ℕ)
     (in_order : (st : State) (seen : List Obs) → Reachable n i until limit st seen → IsInOrder n st) where
   source_within : (st : State) (e : Event) → IsInOrder n st → next st.pending.events ≡ Some e → e.source < length (sources_of n)
   source_within st e o is =
@@ -201,9 +201,9 @@ module _ (env : Around) (n : Parts) (net : IsNet n) (free : AreLoopFree n) (scra
   turn_reacts : (k count : ℕ) (st after : State) (e : Event) (seen more : List Obs) (w : World) → Reachable n i until limit st seen
       → comes_next n until (limit - st.fired) st ≡ Fires e
       → Reacts n i e.date (source_of n e.source) (taken st e) after more → Stands n scratch i until asked count st w
-      → GoesTo count after more (run_block env k (turn_text n) w)
+      → GoesTo count after more (run_block env k (turn_text own n) w)
   turn_reacts k count st after e seen more w r is h s =
-      turn_fires env n scratch i until asked late react settle clear choose calls (GoesTo count after more) k (limit - st.fired - 1) count st e w
+      turn_fires env n scratch i own until asked late react clear choose calls (GoesTo count after more) k (limit - st.fired - 1) count st e w
       (left_is st e is) s (in_order st seen r) goes
     where
       within : e.source < length (sources_of n)
@@ -212,16 +212,15 @@ module _ (env : Around) (n : Parts) (net : IsNet n) (free : AreLoopFree n) (scra
       order_after : IsInOrder n after
       order_after = in_order after (seen ++ more) (further n i until limit st after e seen more r is h)
 
-      goes : (w3 : World) → IsFired env n scratch i until asked late react settle clear choose calls count st e w3
-          → GoesTo count after more (then_run (then_run (react e.source w3) settle) choose)
+      goes : (w3 : World) → IsFired env n scratch i own until asked late react clear choose calls count st e w3
+          → GoesTo count after more (then_run (react e.source w3) choose)
       goes w3 f =
           let d = calls.reaction.values e.source e.date (taken st e) after more w3 within f.ready h (one_next st after e seen more r is h) in
-          let alone = alone_of reacting w3 (then_run (react e.source w3) settle) more d.0
-          (then_leaves reacting w3 (react e.source w3) settle (calls.reaction.leaves e.source within w3) (λ v _. calls.reaction.settle_leaves v)) d.1.0 in
+          let alone = alone_of reacting w3 (react e.source w3) more d.0 (calls.reaction.leaves e.source within w3) d.1.0 in
           let c = calls.chooses f.ports after.now after.pending d.0 order_after.pending (d.1.1.pending f.ports) d.1.1.room (alone.there next_date 0 f.coming) in (
             c.to,
             (
-              then_seen (then_run (react e.source w3) settle) more d.0 choose d.1.0 ∙ (ap (behind more) c.is
+              then_seen (react e.source w3) more d.0 choose d.1.0 ∙ (ap (behind more) c.is
                   ∙ ap (λ (l : List Obs). let q : Ran = record { seen = l; how = going c.to } in q) (append-nil more)),
               stands_next n scratch i until asked count after d.0 c.to d.1.1 (alone.same fired_name 0 refl ∙ f.fired) c.holds,
             ),
@@ -230,25 +229,24 @@ module _ (env : Around) (n : Parts) (net : IsNet n) (free : AreLoopFree n) (scra
   turn_stops : (k count : ℕ) (st : State) (e : Event) (block : ℕ) (word : StopWord) (seen : List Obs) (w : World) → Reachable n i until limit st seen
       → comes_next n until (limit - st.fired) st ≡ Fires e → IsResult n st.memory i (source_of n e.source) (Stopped block word)
       → Stands n scratch i until asked count st w
-      → run_block env k (turn_text n) w ≡ record { seen = stop_seen e.date (source_of n e.source) block word; how = halted }
+      → run_block env k (turn_text own n) w ≡ record { seen = stop_seen e.date (source_of n e.source) block word; how = halted }
   turn_stops k count st e block word seen w r is h s =
-      turn_fires env n scratch i until asked late react settle clear choose calls
+      turn_fires env n scratch i own until asked late react clear choose calls
       (λ q. q ≡ record { seen = stop_seen e.date (source_of n e.source) block word; how = halted }) k (limit - st.fired - 1) count st e w (left_is st e is) s
       (in_order st seen r) (λ w3 f.
-      halted_stays (then_run (react e.source w3) settle) (stop_seen e.date (source_of n e.source) block word) choose
-      (halted_stays (react e.source w3) (stop_seen e.date (source_of n e.source) block word) settle
-      (calls.reaction.stops e.source e.date (taken st e) block word w3 (source_of_next st seen e r is) f.ready h)))
+      halted_stays (react e.source w3) (stop_seen e.date (source_of n e.source) block word) choose
+      (calls.reaction.stops e.source e.date (taken st e) block word w3 (source_of_next st seen e r is) f.ready h))
 
   turn_ends : (k count : ℕ) (st : State) (word : EndWord) (seen : List Obs) (w : World) → Reachable n i until limit st seen → st.fired < limit
-      → comes_next n until (limit - st.fired) st ≡ Over word → Stands n scratch i until asked count st w → Ends (run_block env k (turn_text n) w) word
+      → comes_next n until (limit - st.fired) st ≡ Over word → Stands n scratch i until asked count st w → Ends (run_block env k (turn_text own n) w) word
   turn_ends k count st word seen w r some is s =
-      turn_over env n scratch i until asked late react settle clear choose calls k (limit - st.fired - 1) count st w word
+      turn_over env n scratch i own until asked late react clear choose calls k (limit - st.fired - 1) count st w word
       (subst (λ (j : ℕ). comes_next n until j st ≡ Over word)
       (let same : limit - st.fired ≡ suc (limit - st.fired - 1) = omega (arith, some) in same) is)
       s (in_order st seen r)
 
   -- where a call runs it
-  module _ (event : World → Ran) (number : ℕ) (event_is : (w : World) → event w ≡ run_block env number (turn_text n) w) where
+  module _ (event : World → Ran) (number : ℕ) (event_is : (w : World) → event w ≡ run_block env number (turn_text own n) w) where
     -- a host that calls it again and again
     pub host_does : DoesEvents n i until limit event (Stands n scratch i until asked 0)
     host_does = record {
@@ -266,7 +264,7 @@ module _ (env : Around) (n : Parts) (net : IsNet n) (free : AreLoopFree n) (scra
       abbrev Counted : State → World → Type 0
       Counted st w = Stands n scratch i until asked st.fired st w
 
-      turn_is : (w : World) → counted_turn w ≡ then_run (run_block env number (turn_text n) w) (count_up l fired_name)
+      turn_is : (w : World) → counted_turn w ≡ then_run (run_block env number (turn_text own n) w) (count_up l fired_name)
       turn_is w = ap (λ (r : Ran). then_run r (count_up l fired_name)) (call_alone main (later l 1) event_name w event called ∙ event_is w)
 
       counts : (st after : State) (more : List Obs) (r : Ran) → st.fired < 2 ^ 62 → after.fired ≡ st.fired + 1 → GoesTo st.fired after more r
@@ -293,13 +291,13 @@ module _ (env : Around) (n : Parts) (net : IsNet n) (free : AreLoopFree n) (scra
       main_does = record {
         fires = λ st after e seen more w r is h s.
             let some_left = (fires_within until (limit - st.fired) (halts n st.active) (next st.pending.events) e is).0 in
-            let c = counts st after more (run_block env number (turn_text n) w) (omega (arith, some_left, most)) (ap (λ (a : State). a.fired) h.leads)
+            let c = counts st after more (run_block env number (turn_text own n) w) (omega (arith, some_left, most)) (ap (λ (a : State). a.fired) h.leads)
             (turn_reacts number st.fired st after e seen more w r is h s) in
             (c.0, (turn_is w ∙ c.1.0, c.1.1));
         stops = λ st e block word seen w r is h s.
-            turn_is w ∙ halted_stays (run_block env number (turn_text n) w) (stop_seen e.date (source_of n e.source) block word) (count_up l fired_name)
+            turn_is w ∙ halted_stays (run_block env number (turn_text own n) w) (stop_seen e.date (source_of n e.source) block word) (count_up l fired_name)
             (turn_stops number st.fired st e block word seen w r is h s);
         ends = λ st word seen w r some is s.
             subst (λ (r : Ran). Ends r word) (sym (turn_is w))
-            (then_ends (run_block env number (turn_text n) w) (count_up l fired_name) word (turn_ends number st.fired st word seen w r some is s));
+            (then_ends (run_block env number (turn_text own n) w) (count_up l fired_name) word (turn_ends number st.fired st word seen w r some is s));
       }

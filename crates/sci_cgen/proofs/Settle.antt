@@ -19,6 +19,7 @@ use Rattle.sci_reaction.specs.Equations.{Signals, Active, input_in, all_inputs}
 use Rattle.sci_reaction.specs.Result.{Whole, IsResult}
 use Rattle.sci_reaction.specs.Next.{IsNextMemory, IsUpdated, Stays}
 use Rattle.sci_reaction.specs.Schedule.{Entry, IsRow}
+use Rattle.sci_reaction.specs.Pass.{Progress}
 use Rattle.sci_reaction.proofs.Next.{some_next}
 use Rattle.sci_reaction.proofs.Steps.{pass_ends}
 use Rattle.sci_pass.proofs.Stays.{applied_are_active}
@@ -29,7 +30,7 @@ use Rattle.sci_run.specs.Run.{State, after_reaction, Reacts}
 use Rattle.c_ast.specs.declared.Name.{Name}
 use Rattle.c_ast.specs.Syntax.{Block}
 use Rattle.c_mean.specs.Meaning.{World, truth, Around, Ran, going, behind, run_block}
-use Rattle.c_steps.specs.Places.{get}
+use Rattle.c_steps.specs.Places.{get, is_scratch}
 use Rattle.c_steps.specs.Texts.{assigns_only, joined, upto}
 use Rattle.c_steps.specs.Runs.{Leads, LeftAlone}
 use Rattle.c_steps.proofs.Steps.{number_after, run_joined, then_seen, joined_leads, leads_as, done_leads}
@@ -37,9 +38,10 @@ use Rattle.c_steps.proofs.Frames.{alone_all, alone_then}
 use Rattle.sci_due.specs.Due.{now as now_name, dates, orders, last, is_programming}
 use Rattle.sci_due.specs.Laws.{ShowsPending, AreOfPorts}
 use Rattle.sci_cgen_blocks.specs.Texts.{states}
-use Rattle.sci_cgen.specs.Names.{halt_name, limit_name, until_name}
-use Rattle.sci_cgen.specs.Program.{port_count, each_port, each_block, has_halt, values_shown, delay_text, state_text, halt_text, settle_text}
-use Rattle.sci_cgen.specs.Shows.{ShowsValues, ShowsStates, ShowsColumns, ShowsBounds, ShowsState, is_worked}
+use Rattle.sci_cgen.specs.declared.parts.Part.{Part}
+use Rattle.sci_cgen.specs.Names.{actives, branches, halt_name, limit_name, until_name}
+use Rattle.sci_cgen.specs.Program.{port_count, each_port, each_block, has_halt, values_shown, delay_text, state_text, halt_text, settle_text, has_loop}
+use Rattle.sci_cgen.specs.Shows.{ShowsValues, ShowsStates, ShowsActive, ShowsColumns, ShowsBounds, ShowsState, is_worked, ShowsPass}
 use Rattle.sci_cgen.specs.Passes.{cursors, HasPassed}
 use Rattle.sci_cgen.proofs.Observing.{values_told}
 use Rattle.sci_cgen.proofs.Staying.{neither, values_stay, states_stay, active_stays, bounds_stay, pending_stays, room_stays}
@@ -80,10 +82,11 @@ next_unmasked GatedDelay s x m u i = refl
 next_unmasked _ s x m u i = refl
 
 module _ (env : Around) (n : Parts) (net : IsNet n) (scratch : ℕ) (i : Columns) (until limit date : ℕ) (s : Source) (st : State) (row : List Entry)
-    (before w : World) (row_is : IsRow n s row) (in_range : IsMemory n st.memory) (counts : AreCounts n st.memory) (shows : ShowsState n scratch i until limit (at_date date st) before)
+    (before w : World) (asked told : ℕ → Bool) (part : ℕ → Part) (row_is : IsRow n s row) (in_range : IsMemory n st.memory) (counts : AreCounts n st.memory)
+    (shows : ShowsState n scratch i until limit (at_date date st) before)
     (halted : halts n st.active ≡ false) (soon : date ≤ 2 ^ 62) (small : suc (st.pending.programmed + port_count n) < 2 ^ 63)
-    (ports : AreOfPorts (port_count n) st.pending.events) (passed : HasPassed n scratch i st.memory s row before w) (memory : Memory)
-    (next : IsNextMemory n st.memory s passed.found.values memory) where
+    (ports : AreOfPorts (port_count n) st.pending.events) (passed : HasPassed n scratch i asked told st.memory s row before w)
+    (acting : ShowsActive n part passed.found.applied w) (memory : Memory) (next : IsNextMemory n st.memory s passed.found.values memory) where
   abbrev y : Signals
   y = passed.found.values
 
@@ -156,11 +159,11 @@ module _ (env : Around) (n : Parts) (net : IsNet n) (scratch : ℕ) (i : Columns
     pub alone : LeftAlone (assigns_only is_programming) w w'
     pub pending : 1 ≤ port_count n → ShowsPending (port_count n) (next_pending n date y active st.pending) w'
 
-  ports_lead : (k : ℕ) → Leads (run_block env k (each_port (λ k. delay_text n k (source_of n k)) n) w) HasDelays
+  ports_lead : (k : ℕ) → Leads (run_block env k (each_port (λ k. delay_text n part k (source_of n k)) n) w) HasDelays
   ports_lead k = by_count (port_count n) refl
     where
       text : ℕ → Block
-      text j = upto (λ m. delay_text n (suc m) (source_of n (suc m))) j
+      text j = upto (λ m. delay_text n part (suc m) (source_of n (suc m))) j
 
       by_count : (j : ℕ) → port_count n ≡ j → Leads (run_block env k (text (port_count n)) w) HasDelays
       by_count zero e =
@@ -169,8 +172,8 @@ module _ (env : Around) (n : Parts) (net : IsNet n) (scratch : ℕ) (i : Columns
       by_count (suc j) e =
           let some : 1 ≤ port_count n = omega (arith, e) in
           leads_as (run_block env k (text (port_count n)) w) (λ w' h. record { alone = h.rest; pending = λ l. h.pending })
-          (delays_lead env n net scratch date st.memory.state y active st.pending w passed.in_range passed.shows.values states_there passed.shows.room
-          passed.shows.active ports soon small some (pending_there some) (kept now_name 0 refl ∙ shows.now some) k)
+          (delays_lead env n net scratch date st.memory.state y part active st.pending w passed.in_range passed.shows.values states_there passed.shows.room
+          acting ports soon small some (pending_there some) (kept now_name 0 refl ∙ shows.now some) k)
 
   flag_clear : has_halt n ≡ true → get w halt_name 0 ≡ Some (pos 0)
   flag_clear h = kept halt_name 0 refl ∙ (shows.halt h ∙ ap (λ (t : Bool). Some (truth t)) halted)
@@ -218,41 +221,74 @@ module _ (env : Around) (n : Parts) (net : IsNet n) (scratch : ℕ) (i : Columns
     }
 
   rest_leads : (k : ℕ) → Leads (run_block env k
-      (joined (each_port (λ k. delay_text n k (source_of n k)) n) (joined (each_block (state_text n) n) (each_block (halt_text n) n))) w)
+      (joined (each_port (λ k. delay_text n part k (source_of n k)) n) (joined (each_block (state_text n part) n) (each_block (halt_text n part) n))) w)
       (ShowsState n scratch i until limit after)
   rest_leads k =
-      joined_leads (λ r. Leads r (ShowsState n scratch i until limit after)) env k (each_port (λ k. delay_text n k (source_of n k)) n)
-      (joined (each_block (state_text n) n) (each_block (halt_text n) n)) w (ports_lead k) (λ k1 w1 one.
-      let marked = active_stays is_programming w w1 one.alone n active refl passed.shows.active in
-      joined_leads (λ r. Leads r (ShowsState n scratch i until limit after)) env k1 (each_block (state_text n) n) (each_block (halt_text n) n) w1
-      (states_lead env n net scratch st.memory.state memory.state y active passed.in_range in_range.states counts nexts w1
-      (values_stay is_programming w w1 one.alone n y refl passed.shows.values) marked
+      joined_leads (λ r. Leads r (ShowsState n scratch i until limit after)) env k (each_port (λ k. delay_text n part k (source_of n k)) n)
+      (joined (each_block (state_text n part) n) (each_block (halt_text n part) n)) w (ports_lead k) (λ k1 w1 one.
+      let acts = active_stays is_programming w w1 one.alone n part active refl acting in
+      joined_leads (λ r. Leads r (ShowsState n scratch i until limit after)) env k1 (each_block (state_text n part) n) (each_block (halt_text n part) n) w1
+      (states_lead env n net scratch st.memory.state memory.state y part active passed.in_range in_range.states counts nexts w1
+      (values_stay is_programming w w1 one.alone n y refl passed.shows.values) acts
       (room_stays is_programming w w1 one.alone n scratch refl passed.shows.room)
       (states_stay is_programming w w1 one.alone n st.memory.state refl states_there) k1) (λ k2 w2 two.
-      leads_as (run_block env k2 (each_block (halt_text n) n) w2) (λ w3 three. shows_behind w1 w2 w3 one two.0 two.1 three.0 three.1)
-      (halts_lead env n active w2 (active_stays is_stating w1 w2 two.0 n active refl marked)
+      leads_as (run_block env k2 (each_block (halt_text n part) n) w2) (λ w3 three. shows_behind w1 w2 w3 one two.0 two.1 three.0 three.1)
+      (halts_lead env n part active w2 (active_stays is_stating w1 w2 two.0 n part active refl acts)
       (λ h. two.0.same halt_name 0 refl ∙ (one.alone.same halt_name 0 refl ∙ flag_clear h)) k2)))
 
+-- Where nothing but scratch has changed, a memory shows the same pass.
+passed_stays : (n : Parts) (scratch : ℕ) (i : Columns) (asked told : ℕ → Bool) (cursor : ℕ → ℕ) (g : Progress) (before w v : World)
+    → LeftAlone (assigns_only is_scratch) w v → ShowsPass n scratch i asked told cursor g before w → ShowsPass n scratch i asked told cursor g before v
+passed_stays n scratch i asked told cursor g before w v same p = record {
+  values = values_stay is_scratch w v same n g.values refl p.values;
+  marks = record { each = λ b block is. same.same actives _ refl ∙ p.marks.each b block is };
+  branches = record { each = λ b block is sync. same.same branches _ refl ∙ p.branches.each b block is sync };
+  columns = record {
+    each = λ b sensor. ap (λ (left : List (List ℤ)). numbered [] left (column_of (spec_of n b))) (same.left refl) ∙ p.columns.each b sensor;
+  };
+  room = room_stays is_scratch w v same n scratch refl p.room;
+  kept = λ x k h. same.same x k (neither (is_scratch x) _ h).0 ∙ p.kept x k h;
+}
+
+-- The text behind a pass observes the values of the active blocks, and leads to the memory behind the reaction. It goes by how blocks take part, which says of
+-- each whether it is active.
+module _ (env : Around) (n : Parts) (net : IsNet n) (scratch : ℕ) (i : Columns) (until limit date : ℕ) (s : Source) (st : State) (row : List Entry)
+    (before w : World) (asked told : ℕ → Bool) (part : ℕ → Part) (row_is : IsRow n s row) (in_range : IsMemory n st.memory) (counts : AreCounts n st.memory)
+    (shows : ShowsState n scratch i until limit (at_date date st) before)
+    (halted : halts n st.active ≡ false) (soon : date ≤ 2 ^ 62) (small : suc (st.pending.programmed + port_count n) < 2 ^ 63)
+    (ports : AreOfPorts (port_count n) st.pending.events) (passed : HasPassed n scratch i asked told st.memory s row before w)
+    (acting : ShowsActive n part passed.found.applied w) (loops : has_loop n ≡ true → 1 ≤ scratch) where
   -- with a next memory
-  settles_with : (k : ℕ) → Settles n scratch i until limit date s st (run_block env k (settle_text n) w)
-  settles_with k =
-      let first = each_block (values_shown n) n in
-      let more = joined (each_port (λ k. delay_text n k (source_of n k)) n) (joined (each_block (state_text n) n) (each_block (halt_text n) n)) in
+  settles_with : (memory : Memory) → IsNextMemory n st.memory s passed.found.values memory → (k : ℕ)
+      → Settles n scratch i until limit date s st (run_block env k (settle_text n part) w)
+  settles_with memory next k =
+      let y = passed.found.values in
+      let active = passed.found.applied in
+      let first = each_block (values_shown n part) n in
+      let more = joined (each_port (λ k. delay_text n part k (source_of n k)) n) (joined (each_block (state_text n part) n) (each_block (halt_text n part) n)) in
       let seen = blocks_seen 1 n.specs y active in
-      let l = rest_leads (number_after first k) in record {
-        after = after;
+      let shown = values_told env y part active n net w (λ b block. (passed.in_range b block).enough) passed.shows.values acting
+      (λ h. passed.shows.room.scratch_names 1 (omega arith) (loops h)) k in
+      let there : HasPassed n scratch i asked told st.memory s row before shown.to = record {
+        found = passed.found;
+        front = passed.front;
+        in_range = passed.in_range;
+        shows = passed_stays n scratch i asked told (cursors n st.memory active) passed.found before w shown.to shown.alone passed.shows;
+      } in
+      let l = rest_leads env n net scratch i until limit date s st row before shown.to asked told part row_is in_range counts shows halted soon small ports there
+      (active_stays is_scratch w shown.to shown.alone n part active refl acting) memory next (number_after first k) in record {
+        after = after_reaction n date st y active memory;
         seen = seen;
         to = l.to;
         is =
             run_joined env first more k w
-            ∙ (then_seen (run_block env k first w) seen w (run_block env (number_after first k) more)
-            (values_told env y active w n (λ b block. (passed.in_range b block).enough) passed.shows.values passed.shows.active k)
+            ∙ (then_seen (run_block env k first w) seen shown.to (run_block env (number_after first k) more) shown.is
             ∙ (ap (behind seen) l.is ∙ ap (λ (o : List Obs). let r : Ran = record { seen = o; how = going l.to } in r) (append-nil seen)));
         reacts = record {
           values = y;
           active = active;
           memory = memory;
-          result = result;
+          result = pass_ends n st.memory i s row passed.found row_is passed.front;
           active_are = λ b block. applied_are_active n st.memory i s row passed.found b row_is passed.front;
           next = next;
           leads = refl;
@@ -261,12 +297,7 @@ module _ (env : Around) (n : Parts) (net : IsNet n) (scratch : ℕ) (i : Columns
         holds = l.holds;
       }
 
--- The text behind a pass observes the values of the active blocks, and leads to the memory behind the reaction.
-module _ (env : Around) (n : Parts) (net : IsNet n) (scratch : ℕ) (i : Columns) (until limit date : ℕ) (s : Source) (st : State) (row : List Entry)
-    (before w : World) (row_is : IsRow n s row) (in_range : IsMemory n st.memory) (counts : AreCounts n st.memory) (shows : ShowsState n scratch i until limit (at_date date st) before)
-    (halted : halts n st.active ≡ false) (soon : date ≤ 2 ^ 62) (small : suc (st.pending.programmed + port_count n) < 2 ^ 63)
-    (ports : AreOfPorts (port_count n) st.pending.events) (passed : HasPassed n scratch i st.memory s row before w) where
-  pub settles : (k : ℕ) → Settles n scratch i until limit date s st (run_block env k (settle_text n) w)
+  pub settles : (k : ℕ) → Settles n scratch i until limit date s st (run_block env k (settle_text n part) w)
   settles k =
       let m = some_next n st.memory s passed.found.values in
-      settles_with env n net scratch i until limit date s st row before w row_is in_range counts shows halted soon small ports passed m.0 m.1 k
+      settles_with m.0 m.1 k

@@ -22,7 +22,8 @@ use Rattle.c_ast.specs.Syntax.{tell, value, Statement, Block, done}
 use Rattle.c_steps.specs.Texts.{place, joined, upto}
 use Rattle.sci_cgen_blocks.specs.Texts.{Places, values}
 use Rattle.sci_cgen_blocks.proofs.Written.{joined_assoc, joined_done, all_dropped}
-use Rattle.sci_cgen.specs.Program.{natural, one, text_where, elements_shown, outputs_shown, delay_text, places_of}
+use Rattle.sci_cgen.specs.declared.parts.Part.{Part}
+use Rattle.sci_cgen.specs.Program.{natural, one, text_where, elements_shown, outputs_shown, delay_text, places_of, output_shown}
 use Rattle.sci_cgen.proofs.Sizes.{port_is}
 
 -- ---- texts behind one another
@@ -80,12 +81,12 @@ elements_none b p e o m k h = let none : m - k ≡ 0 = omega (arith, h) in ap (e
 
 -- output k + 1 was pushed
 pub output_done : (b o k m : ℕ) (qs : List Output) (old new all : Block) → k < length qs → m ≡ elements (port_at qs k)
-    → new ≡ joined old (elements_shown b (k + 1) 1 o m) → joined old (outputs_shown b (k + 1) o (drop k qs)) ≡ all
+    → new ≡ joined old (output_shown b (k + 1) o m) → joined old (outputs_shown b (k + 1) o (drop k qs)) ≡ all
     → joined new (outputs_shown b (k + 1 + 1) (o + m) (drop (k + 1) qs)) ≡ all
 output_done b o k m qs old new all l is e so_far =
     let rest = λ (j : ℕ). outputs_shown b (k + 1 + 1) (o + j) (drop (k + 1) qs) in
-    part_done old new (elements_shown b (k + 1) 1 o m) (rest m) all e
-    (ap (λ (j : ℕ). joined old (joined (elements_shown b (k + 1) 1 o j) (rest j))) is
+    part_done old new (output_shown b (k + 1) o m) (rest m) all e
+    (ap (λ (j : ℕ). joined old (joined (output_shown b (k + 1) o j) (rest j))) is
     ∙ ap (λ (ps : List Output). joined old (outputs_shown b (k + 1) o ps)) (sym (drop_more qs k no_port l)) ∙ so_far)
 
 pub outputs_none : (b p o k : ℕ) (qs : List Output) → length qs ≤ k → outputs_shown b p o (drop k qs) ≡ done
@@ -117,5 +118,5 @@ port_source n q zero l m e = absurd (omega (arith, l))
 port_source n q (suc j) l m e = port_is n q j (omega (arith, m)) e
 
 -- start isn't programmed
-pub start_absent : (n : Parts) (i : ℕ) (s : Source) (b : Block) → s ≡ Start → b ≡ joined b (delay_text n i s)
-start_absent n i s b is = sym (joined_done b) ∙ ap (λ (t : Source). joined b (delay_text n i t)) (sym is)
+pub start_absent : (n : Parts) (part : ℕ → Part) (i : ℕ) (s : Source) (b : Block) → s ≡ Start → b ≡ joined b (delay_text n part i s)
+start_absent n part i s b is = sym (joined_done b) ∙ ap (λ (t : Source). joined b (delay_text n part i t)) (sym is)

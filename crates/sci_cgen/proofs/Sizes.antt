@@ -1,5 +1,6 @@
 -- How large a program's arrays and numbers are.
-use Rattle.std.proofs.Common.{◌≡◌, ℕ, zero, suc, ◌+◌, ◌-◌, ◌*◌, ◌<◌, ◌≤◌, List, [], ◌∷◌, length, map, max, slice_index_or, Bool, true, false, ◌&&◌, nat_le, if◌then◌else◌, refl, sym, ap, ◌∙◌, subst, arith, ℤ, pos, negsuc, true≢false, Contains, inl, inr, ◌≤ℤ◌}
+use Rattle.std.proofs.Common.{◌≡◌, ℕ, zero, suc, ◌+◌, ◌-◌, ◌*◌, ◌<◌, ◌≤◌, List, [], ◌∷◌, length, map, max, slice_index_or, Bool, true, false, ◌&&◌, ◌||◌, nat_le, if◌then◌else◌, refl, sym, ap, ◌∙◌, subst, arith, ℤ, pos, negsuc, true≢false, Contains, inl, inr, ◌≤ℤ◌}
+use Rattle.std.specs.List.{list_any}
 use Rattle.std.proofs.lemmas.Bool.{cases_eq}
 use Rattle.std.proofs.lemmas.Bool.Decides.{nat_tests}
 use Rattle.std.proofs.lemmas.Int.{ints}
@@ -9,7 +10,7 @@ use Rattle.sci_base.specs.declared.Ty.{Ty}
 use Rattle.sci_base.specs.declared.Ty.TheVariants.{I32, I16, I8, U32, U16, U8}
 use Rattle.sci_base.specs.Fit.{InRange}
 use Rattle.sci_forms.specs.declared.Kind.{Kind}
-use Rattle.sci_forms.specs.declared.Kind.TheVariants.{Const, Dollar, GatedDelay, Register, ModuloCount, EvtDly, EvtVarDly, IfThEl, ESelect, LogicalOp, Shift}
+use Rattle.sci_forms.specs.declared.Kind.TheVariants.{Const, Dollar, GatedDelay, Register, ModuloCount, EvtDly, EvtVarDly, IfThEl, ESelect}
 use Rattle.sci_forms.specs.declared.spec.Spec.{Spec}
 use Rattle.sci_forms.specs.Ports.{total, elements, port_at}
 use Rattle.sci_forms.specs.Forms.{counts_of}
@@ -37,7 +38,27 @@ use Rattle.sci_reaction.proofs.Sources.{sources_are}
 use Rattle.sci_cgen_blocks.specs.Recipes.{scratch_of}
 use Rattle.sci_cgen_blocks.specs.Texts.{input_place}
 use Rattle.sci_cgen_blocks.specs.Meant.{AreInBounds}
-use Rattle.sci_cgen.specs.Program.{port_count, places_of, states_before, is_scheduled, scratch_count}
+use Rattle.sci_cgen_blocks.proofs.Bounds.{scratch_few as few_scratch}
+use Rattle.sci_cgen.specs.Program.{port_count, places_of, states_before, is_scheduled, has_loop, scratch_count}
+
+-- ---- tests of some of a list
+
+pub first_any : (a b : Bool) → a ≡ true → a || b ≡ true
+first_any true b h = refl
+first_any false b h = cc
+
+pub other_any : (a b : Bool) → b ≡ true → a || b ≡ true
+other_any true b h = refl
+other_any false b h = h
+
+any_at : {A : Type 0} (test : A → Bool) (d : A) (xs : List A) (k : ℕ) → k < length xs → test (slice_index_or xs k d) ≡ true → list_any test xs ≡ true
+any_at test d [] k l h = absurd (omega (arith, l))
+any_at test d (x ∷ xs) zero l h = first_any (test x) (list_any test xs) h
+any_at test d (x ∷ xs) (suc k) l h = other_any (test x) (list_any test xs) (any_at test d xs k (omega (arith, l)) h)
+
+pub some_block : (n : Parts) (test : Spec → Bool) (b : ℕ) → IsBlock n b → test (spec_of n b) ≡ true → list_any test n.specs ≡ true
+some_block n test zero is h = absurd (omega (arith, is.least))
+some_block n test (suc k) is h = any_at test no_spec n.specs k (omega (arith, is.most)) h
 
 -- ---- activation outputs
 
@@ -133,6 +154,7 @@ module _ (n : Parts) (net : IsNet n) where
   in_bounds b is = record {
     ins = λ k e h. omega (arith, input_within b k e is h.0 h.1, net.small);
     outs = omega (arith, block_within n b is, net.small);
+    count = omega (arith, block_within n b is, net.small);
     state = omega (arith, state_within b is, few_all_states);
     mask = omega (arith, is.most, net.wired.few);
     number = omega (arith, is.most, net.wired.few);
@@ -140,34 +162,30 @@ module _ (n : Parts) (net : IsNet n) where
 
 -- ---- scratch
 
-few_scratch : (c : Kind) (s : Spec) → scratch_of c s ≤ 4
-few_scratch LogicalOp s = by_test _
-  where
-    by_test : (b : Bool) → (if b then 1 else 4) ≤ 4
-    by_test true = omega arith
-    by_test false = omega arith
-few_scratch Shift s = by_test _
-  where
-    by_test : (b : Bool) → (if b then 0 else 1) ≤ 4
-    by_test true = omega arith
-    by_test false = omega arith
-few_scratch _ s = omega arith
-
 max_most : (a b m : ℕ) → a ≤ m → b ≤ m → max a b ≤ m
 max_most a b m p q = omega (arith, p, q)
 
 max_left : (a b m : ℕ) → m ≤ a → m ≤ max a b
 max_left a b m p = omega (arith, p)
 
-pub scratch_few : (n : Parts) (rows : List (List Entry)) (k : ℕ) → scratch_count n rows k ≤ 4
-scratch_few n rows zero = omega arith
-scratch_few n rows (suc k) = max_most _ _ 4 (scratch_few n rows k) (by_test (is_scheduled rows (suc k)))
+pub scratch_few : (n : Parts) (rows : List (List Entry)) (k : ℕ) → scratch_count n rows k ≤ 5
+scratch_few n rows zero = by_loop (has_loop n)
   where
-    by_test : (t : Bool) → (if t then scratch_of (spec_of n (suc k)).kind (spec_of n (suc k)) else 0) ≤ 4
+    by_loop : (t : Bool) → (if t then 1 else 0) ≤ 5
+    by_loop true = omega arith
+    by_loop false = omega arith
+scratch_few n rows (suc k) = max_most _ _ 5 (scratch_few n rows k) (by_test (is_scheduled rows (suc k)))
+  where
+    by_test : (t : Bool) → (if t then scratch_of (spec_of n (suc k)).kind (spec_of n (suc k)) else 0) ≤ 5
     by_test true = few_scratch (spec_of n (suc k)).kind (spec_of n (suc k))
     by_test false = omega arith
 
--- what a scheduled block takes is there
+-- what a loop over values takes is there
+pub loop_enough : (n : Parts) (rows : List (List Entry)) (k : ℕ) → has_loop n ≡ true → 1 ≤ scratch_count n rows k
+loop_enough n rows zero h = subst (λ (t : Bool). 1 ≤ (if t then 1 else 0)) (sym h) (omega arith)
+loop_enough n rows (suc k) h = max_left _ _ 1 (loop_enough n rows k h)
+
+-- so is what a scheduled block takes
 pub scratch_enough : (n : Parts) (rows : List (List Entry)) (b m : ℕ) → 1 ≤ b → b ≤ m → is_scheduled rows b ≡ true
     → scratch_of (spec_of n b).kind (spec_of n b) ≤ scratch_count n rows m
 scratch_enough n rows b zero lo hi h = absurd (omega (arith, lo, hi))

@@ -15,9 +15,9 @@ use Rattle.c_steps.specs.Places.{get, Has}
 use Rattle.c_steps.specs.Texts.{number, assigns_only}
 use Rattle.c_steps.specs.Runs.{Leads}
 use Rattle.c_steps.proofs.Memory.{put_there}
-use Rattle.c_steps.proofs.Steps.{then_assoc, then_same, then_seen, done_leads, let_runs}
-use Rattle.c_steps.proofs.Frames.{alone_of, then_leaves, puts_alone}
-use Rattle.sci_cgen.specs.Names.{fired_name, next_date, source_name, settle_name, choose_name}
+use Rattle.c_steps.proofs.Steps.{then_seen, done_leads, let_runs}
+use Rattle.c_steps.proofs.Frames.{alone_of, puts_alone}
+use Rattle.sci_cgen.specs.Names.{fired_name, next_date, source_name, choose_name}
 use Rattle.sci_cgen.specs.Program.{one, port_count, first_text}
 use Rattle.sci_cgen.specs.Shows.{ShowsState}
 use Rattle.sci_cgen.specs.Stepping.{date_of}
@@ -26,9 +26,9 @@ use Rattle.sci_cgen.proofs.Ready.{IsReady, reacting, IsOneReaction}
 use Rattle.sci_cgen.proofs.Turns.{HasCalls, Stands, IsInOrder, call_exact, call_alone, none_next, stands_next}
 use Rattle.sci_cgen.proofs.Running.{halted_stays}
 
-module _ (env main : Around) (n : Parts) (scratch : ℕ) (i : Columns) (until asked : ℕ) (react : ℕ → World → Ran) (settle clear choose : World → Ran)
-    (calls : HasCalls env n scratch i until asked react settle clear choose) (react_called : main.calls (source_name 0) ≡ Some (react 0))
-    (settle_called : main.calls settle_name ≡ Some settle) (choose_called : 1 ≤ port_count n → main.calls choose_name ≡ Some choose) where
+module _ (env main : Around) (n : Parts) (scratch : ℕ) (i : Columns) (own : Bool) (until asked : ℕ) (react : ℕ → World → Ran) (clear choose : World → Ran)
+    (calls : HasCalls env n scratch i own until asked react clear choose) (react_called : main.calls (source_name 0) ≡ Some (react 0))
+    (choose_called : 1 ≤ port_count n → main.calls choose_name ≡ Some choose) where
   -- the first event is chosen, or there is none
   first_leads : (m : ℕ) (st : State) (w : World) → ShowsState n scratch i until asked st w → IsInOrder n st → Has w next_date 0
       → Leads (run_block main m (first_text n) w) (HasNext n st.pending w)
@@ -51,40 +51,33 @@ module _ (env main : Around) (n : Parts) (scratch : ℕ) (i : Columns) (until as
           }))
 
   abbrev start_text : Block
-  start_text = followed (call (source_name 0)) (followed (call settle_name) (first_text n))
+  start_text = followed (call (source_name 0)) (first_text n)
 
-  start_is : (k : ℕ) (w : World)
-      → run_block main k start_text w ≡ then_run (then_run (react 0 w) settle) (run_block main (later (later k 1) 1) (first_text n))
-  start_is k w =
-      call_exact main k (source_name 0) (followed (call settle_name) (first_text n)) w (react 0) react_called
-      ∙ (then_same (react 0 w) (run_block main (later k 1) (followed (call settle_name) (first_text n)))
-      (λ v. then_run (settle v) (run_block main (later (later k 1) 1) (first_text n)))
-      (λ v. call_exact main (later k 1) settle_name (first_text n) v settle settle_called)
-      ∙ sym (then_assoc (react 0 w) settle (run_block main (later (later k 1) 1) (first_text n))))
+  start_is : (k : ℕ) (w : World) → run_block main k start_text w ≡ then_run (react 0 w) (run_block main (later k 1) (first_text n))
+  start_is k w = call_exact main k (source_name 0) (first_text n) w (react 0) react_called
 
   -- start reacts, and memory stands for the state behind it
   pub start_goes : (k : ℕ) (w : World) (first : State) (at_start : List Obs) → get w fired_name 0 ≡ Some (pos 0) → Has w next_date 0
-      → IsReady n scratch i until asked 0 (first_state n) w → Reacts n i 0 Start (first_state n) first at_start
+      → IsReady n scratch i own until asked 0 (first_state n) w → Reacts n i 0 Start (first_state n) first at_start
       → IsOneReaction n i 0 Start (first_state n) first at_start → IsInOrder n first
       → (w' : World) × ((run_block main k start_text w ≡ record { seen = at_start; how = going w' }) × Stands n scratch i until asked 0 first w')
   start_goes k w first at_start fired there ready started only o =
       let d = calls.reaction.values 0 0 (first_state n) first at_start w (omega arith) ready started only in
-      let alone = alone_of reacting w (then_run (react 0 w) settle) at_start d.0
-      (then_leaves reacting w (react 0 w) settle (calls.reaction.leaves 0 (omega arith) w) (λ v _. calls.reaction.settle_leaves v)) d.1.0 in
-      let c = first_leads (later (later k 1) 1) first d.0 d.1.1 o (alone.there next_date 0 there) in (
+      let alone = alone_of reacting w (react 0 w) at_start d.0 (calls.reaction.leaves 0 (omega arith) w) d.1.0 in
+      let c = first_leads (later k 1) first d.0 d.1.1 o (alone.there next_date 0 there) in (
         c.to,
         (
-          start_is k w ∙ (then_seen (then_run (react 0 w) settle) at_start d.0 (run_block main (later (later k 1) 1) (first_text n)) d.1.0
+          start_is k w ∙ (then_seen (react 0 w) at_start d.0 (run_block main (later k 1) (first_text n)) d.1.0
               ∙ (ap (behind at_start) c.is ∙ ap (λ (l : List Obs). let q : Ran = record { seen = l; how = going c.to } in q) (append-nil at_start))),
           stands_next n scratch i until asked 0 first d.0 c.to d.1.1 (alone.same fired_name 0 refl ∙ fired) c.holds,
         ),
       )
 
   -- or it stops
-  pub start_stops : (k : ℕ) (w : World) (block : ℕ) (word : StopWord) → IsReady n scratch i until asked 0 (first_state n) w
+  pub start_stops : (k : ℕ) (w : World) (block : ℕ) (word : StopWord) → IsReady n scratch i own until asked 0 (first_state n) w
       → IsResult n (first_state n).memory i Start (Stopped block word)
       → run_block main k start_text w ≡ record { seen = stop_seen 0 Start block word; how = halted }
   start_stops k w block word ready h =
       start_is k w
-      ∙ halted_stays (then_run (react 0 w) settle) (stop_seen 0 Start block word) (run_block main (later (later k 1) 1) (first_text n))
-      (halted_stays (react 0 w) (stop_seen 0 Start block word) settle (calls.reaction.stops 0 0 (first_state n) block word w (omega arith) ready h))
+      ∙ halted_stays (react 0 w) (stop_seen 0 Start block word) (run_block main (later k 1) (first_text n))
+      (calls.reaction.stops 0 0 (first_state n) block word w (omega arith) ready h)

@@ -27,10 +27,12 @@ use Rattle.sci_cgen_blocks.specs.Texts.{states, next_text}
 use Rattle.sci_cgen_blocks.specs.Laws.{IsCount}
 use Rattle.sci_cgen_blocks.proofs.NextStates.{next_law, next_reads_law}
 use Rattle.sci_cgen_blocks.proofs.NextTexts.{next_is}
+use Rattle.sci_cgen.specs.declared.parts.Part.{Part}
+use Rattle.sci_cgen.specs.declared.parts.Part.TheVariants.{Absent, Sure, Marked}
 use Rattle.sci_cgen.specs.Names.{actives}
-use Rattle.sci_cgen.specs.Program.{each_block, text_where, only_where, is_active, places_of, states_before, state_text}
-use Rattle.sci_cgen.specs.Shows.{ShowsValues, ShowsStates, ShowsActive, HasRoom}
-use Rattle.sci_cgen.proofs.Given.{holds_unread, state_unread, state_few}
+use Rattle.sci_cgen.specs.Program.{each_block, text_where, is_active, where_part, places_of, states_before, state_text}
+use Rattle.sci_cgen.specs.Shows.{ShowsValues, ShowsStates, Acts, ShowsActive, HasRoom}
+use Rattle.sci_cgen.proofs.Given.{holds_unread, state_unread}
 use Rattle.sci_cgen.proofs.Staying.{neither, values_stay, active_stays, room_stays}
 
 -- ---- texts one behind another
@@ -45,12 +47,14 @@ upto_leads env f (suc m) I go k w h =
     (λ k' w' h'. go m (omega arith) k' w' h')
 
 -- what is done where a block is active
-pub where_active : {P : World → Type 0} (env : Around) (b : ℕ) (a : Block) (t : Bool) (k : ℕ) (w : World) → get w actives (b - 1) ≡ Some (truth t)
-    → (t ≡ true → (k : ℕ) → Leads (run_block env k a w) P) → (t ≡ false → P w) → Leads (run_block env k (only_where (is_active b) a) w) P
-where_active {P} env b a true k w is on off =
+pub where_active : {P : World → Type 0} (env : Around) (p : Part) (b : ℕ) (a : Block) (t : Bool) (k : ℕ) (w : World) → Acts p t w b
+    → (t ≡ true → (k : ℕ) → Leads (run_block env k a w) P) → (t ≡ false → P w) → Leads (run_block env k (where_part p b a) w) P
+where_active {P} env Absent b a t k w is on off = done_leads env k w (off is)
+where_active {P} env Sure b a t k w is on off = on is k
+where_active {P} env Marked b a true k w is on off =
     if_runs (λ r. Leads r P) env k (is_active b) a done done w (element_is actives (num (pos (b - 1))) w (b - 1) (truth true) refl is) (λ l m.
     then_leads (run_block env l a w) (run_block env m done) (on refl l) (λ w' h. done_leads env m w' h))
-where_active {P} env b a false k w is on off =
+where_active {P} env Marked b a false k w is on off =
     skip_runs (λ r. Leads r P) env k (is_active b) a done w (element_is actives (num (pos (b - 1))) w (b - 1) (truth false) refl is) (λ m.
     done_leads env m w (off refl))
 
@@ -113,11 +117,11 @@ pub record AreNext (n : Parts) (y : Signals) (active : Activity) (x next : Signa
       → at (next b) i ≡ next_of (spec_of n b).kind (spec_of n b) (x b) 0 (all_inputs (spec_of n b) (input_in n y b)) i
   pub kept : (b : ℕ) → IsBlock n b → active b ≡ false → next b ≡ x b
 
-module _ (env : Around) (n : Parts) (net : IsNet n) (scratch : ℕ) (x next y : Signals) (active : Activity) (in_range : AreInRange n y)
+module _ (env : Around) (n : Parts) (net : IsNet n) (scratch : ℕ) (x next y : Signals) (part : ℕ → Part) (active : Activity) (in_range : AreInRange n y)
     (states_are : (b : ℕ) → IsBlock n b → IsState (spec_of n b) (x b)) (counts : (b : ℕ) → IsBlock n b → IsCount (spec_of n b) (x b)) (nexts : AreNext n y active x next) where
-  one_state : (b k : ℕ) (w : World) → IsBlock n b → ShowsValues n y w → ShowsActive n active w → HasRoom n scratch w
+  one_state : (b k : ℕ) (w : World) → IsBlock n b → ShowsValues n y w → ShowsActive n part active w → HasRoom n scratch w
       → ((i : ℕ) → i < state_size n b → get w states (state_start n b + i) ≡ Some (at (x b) i))
-      → Leads (run_block env k (state_text n b) w) (HasState n b (next b) w)
+      → Leads (run_block env k (state_text n part b) w) (HasState n b (next b) w)
   one_state b k w block values marked room held = by_kind (has_state (spec_of n b).kind) refl
     where
       unchanged : ((i : ℕ) → i < state_size n b → get w states (state_start n b + i) ≡ Some (at (next b) i)) → HasState n b (next b) w w
@@ -126,7 +130,6 @@ module _ (env : Around) (n : Parts) (net : IsNet n) (scratch : ℕ) (x next y : 
       works : has_state (spec_of n b).kind ≡ true → active b ≡ true → (k : ℕ)
           → Leads (run_block env k (next_text (spec_of n b) (places_of n b)) w) (HasState n b (next b) w)
       works has on k =
-          let few = state_few (spec_of n b).kind (spec_of n b) has in
           leads_as (run_block env k (next_text (spec_of n b) (places_of n b)) w)
           (λ w' h. record {
             alone = keeps_alone (state_start n b) (state_size n b) w w' h.0;
@@ -134,14 +137,13 @@ module _ (env : Around) (n : Parts) (net : IsNet n) (scratch : ℕ) (x next y : 
             others = λ j q. h.0.same states j (record { kept = refl; apart = λ e. q });
           })
           (next_is env (spec_of n b) (places_of n b) (x b) 0 (all_inputs (spec_of n b) (input_in n y b)) w
-          (holds_unread n net y (λ c h. (in_range c h).enough) w values b scratch (x b) block (state_unread (spec_of n b).kind has) (omega (arith, few)) held
-          room)
+          (holds_unread n net y (λ c h. (in_range c h).enough) w values b scratch (x b) block (state_unread (spec_of n b).kind has) held room)
           next_law next_reads_law (net.typed_specs b block) (states_are b block) (counts b block) (inputs_in_range n net y b block in_range) k)
 
       by_kind : (t : Bool) → has_state (spec_of n b).kind ≡ t
-          → Leads (run_block env k (text_where t (only_where (is_active b) (next_text (spec_of n b) (places_of n b)))) w) (HasState n b (next b) w)
+          → Leads (run_block env k (text_where t (where_part (part b) b (next_text (spec_of n b) (places_of n b)))) w) (HasState n b (next b) w)
       by_kind true has =
-          where_active env b (next_text (spec_of n b) (places_of n b)) (active b) k w (marked.each b block) (works has)
+          where_active env (part b) b (next_text (spec_of n b) (places_of n b)) (active b) k w (marked.each b block) (works has)
           (λ off. unchanged (λ i l. held i l ∙ ap (λ (v : List ℤ). Some (at v i)) (sym (nexts.kept b block off))))
       by_kind false none =
           let z = no_state (spec_of n b) none in done_leads env k w (unchanged (λ i l. absurd (omega (arith, l, z))))
@@ -154,11 +156,11 @@ module _ (env : Around) (n : Parts) (net : IsNet n) (scratch : ℕ) (x next y : 
     pub behind : (b i : ℕ) → IsBlock n b → b ≤ m → i < state_size n b → get w states (state_start n b + i) ≡ Some (at (next b) i)
     pub ahead : (b i : ℕ) → IsBlock n b → m < b → i < state_size n b → get w states (state_start n b + i) ≡ Some (at (x b) i)
 
-  module _ (w0 : World) (values : ShowsValues n y w0) (marked : ShowsActive n active w0) (room : HasRoom n scratch w0) where
-    one_more : (j : ℕ) → j < length n.specs → (k : ℕ) (w : World) → HasStates w0 j w → Leads (run_block env k (state_text n (suc j)) w) (HasStates w0 (suc j))
+  module _ (w0 : World) (values : ShowsValues n y w0) (marked : ShowsActive n part active w0) (room : HasRoom n scratch w0) where
+    one_more : (j : ℕ) → j < length n.specs → (k : ℕ) (w : World) → HasStates w0 j w → Leads (run_block env k (state_text n part (suc j)) w) (HasStates w0 (suc j))
     one_more j l k w h =
         let block : IsBlock n (suc j) = record { least = omega arith; most = omega (arith, l) } in
-        leads_as (run_block env k (state_text n (suc j)) w)
+        leads_as (run_block env k (state_text n part (suc j)) w)
         (λ w' g. record {
           alone = alone_then (assigns_only is_stating) w0 w w' h.alone g.alone;
           behind = λ b i c m r. elim (cases_lt b (suc j)) [
@@ -169,7 +171,7 @@ module _ (env : Around) (n : Parts) (net : IsNet n) (scratch : ℕ) (x next y : 
           ahead = λ b i c m r. g.others (state_start n b + i) (outside_of n b (suc j) i c block (λ e. omega (arith, e, m)) r)
               ∙ h.ahead b i c (omega (arith, m)) r;
         })
-        (one_state (suc j) k w block (values_stay is_stating w0 w h.alone n y refl values) (active_stays is_stating w0 w h.alone n active refl marked)
+        (one_state (suc j) k w block (values_stay is_stating w0 w h.alone n y refl values) (active_stays is_stating w0 w h.alone n part active refl marked)
         (room_stays is_stating w0 w h.alone n scratch refl room) (λ i r. h.ahead (suc j) i block (omega arith) r))
       where
         last : (w' : World) (b i : ℕ) → b ≡ suc j → i < state_size n b
@@ -180,11 +182,11 @@ module _ (env : Around) (n : Parts) (net : IsNet n) (scratch : ℕ) (x next y : 
 
     -- The states are the next ones, and nothing else has changed but scratch.
     pub states_lead : ShowsStates n x w0 → (k : ℕ)
-        → Leads (run_block env k (each_block (state_text n) n) w0) (λ w. LeftAlone (assigns_only is_stating) w0 w × ShowsStates n next w)
+        → Leads (run_block env k (each_block (state_text n part) n) w0) (λ w. LeftAlone (assigns_only is_stating) w0 w × ShowsStates n next w)
     states_lead shows k =
-        leads_as (run_block env k (each_block (state_text n) n) w0)
+        leads_as (run_block env k (each_block (state_text n part) n) w0)
         (λ w h. (h.alone, record { each = λ b i block l. h.behind b i block block.most l }))
-        (upto_leads env (λ j. state_text n (suc j)) (length n.specs) (HasStates w0) one_more k w0
+        (upto_leads env (λ j. state_text n part (suc j)) (length n.specs) (HasStates w0) one_more k w0
         (record {
           alone = alone_all (assigns_only is_stating) w0;
           behind = λ b i c m r. absurd (omega (arith, m, c.least));

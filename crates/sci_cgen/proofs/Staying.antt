@@ -12,8 +12,10 @@ use Rattle.sci_pending.specs.Pending.{Pending}
 use Rattle.sci_due.specs.Due.{dates, orders, last}
 use Rattle.sci_due.specs.Laws.{ShowsPending}
 use Rattle.sci_cgen_blocks.specs.Texts.{values, states, masks}
+use Rattle.sci_cgen.specs.declared.parts.Part.{Part}
+use Rattle.sci_cgen.specs.declared.parts.Part.TheVariants.{Absent, Sure, Marked}
 use Rattle.sci_cgen.specs.Names.{actives, limit_name, until_name}
-use Rattle.sci_cgen.specs.Shows.{ShowsValues, ShowsStates, ShowsActive, ShowsBounds, HasRoom}
+use Rattle.sci_cgen.specs.Shows.{ShowsValues, ShowsStates, Acts, ShowsActive, ShowsBounds, HasRoom}
 
 pub neither : (a b : Bool) → a || b ≡ false → (a ≡ false) × (b ≡ false)
 neither true b h = cc
@@ -26,8 +28,13 @@ module _ (names : Name → Bool) (w w' : World) (alone : LeftAlone (assigns_only
   pub states_stay : (n : Parts) (x : Signals) → names states ≡ false → ShowsStates n x w → ShowsStates n x w'
   states_stay n x h s = record { each = λ b i block l. alone.same states _ h ∙ s.each b i block l }
 
-  pub active_stays : (n : Parts) (active : Activity) → names actives ≡ false → ShowsActive n active w → ShowsActive n active w'
-  active_stays n active h s = record { each = λ b block. alone.same actives _ h ∙ s.each b block }
+  pub acts_stay : (p : Part) (a : Bool) (b : ℕ) → names actives ≡ false → Acts p a w b → Acts p a w' b
+  acts_stay Absent a b h s = s
+  acts_stay Sure a b h s = s
+  acts_stay Marked a b h s = alone.same actives _ h ∙ s
+
+  pub active_stays : (n : Parts) (part : ℕ → Part) (active : Activity) → names actives ≡ false → ShowsActive n part active w → ShowsActive n part active w'
+  active_stays n part active h s = record { each = λ b block. acts_stay (part b) (active b) b h (s.each b block) }
 
   pub bounds_stay : (n : Parts) (until limit : ℕ) → names limit_name ≡ false → names until_name ≡ false → ShowsBounds n until limit w
       → ShowsBounds n until limit w'

@@ -10,47 +10,48 @@ use Rattle.sci_forms.specs.Form.{is_sync}
 use Rattle.sci_net.specs.Parts.{Parts, IsBlock, spec_of, no_spec}
 use Rattle.sci_net.specs.Sources.{sources_of}
 use Rattle.sci_reaction.specs.Memory.{Columns, IsMemory}
-use Rattle.sci_reaction.specs.Pass.{at_rest}
 use Rattle.sci_pending.specs.Pending.{Event, Pending, next}
 use Rattle.sci_run.specs.Activity.{Activity, halts, halts_from}
 use Rattle.sci_forms.specs.Form.{is_halt}
 use Rattle.sci_run.specs.Order.{PendingInOrder}
 use Rattle.sci_run.specs.Run.{State, taken, Decision, Over, Fires, in_time, comes_next}
 use Rattle.c_ast.specs.declared.Name.{Name}
-use Rattle.c_ast.specs.declared.Op.TheVariants.{Lt, Gt, Eq}
+use Rattle.c_ast.specs.declared.Op.TheVariants.{Lt, Gt}
 use Rattle.c_ast.specs.Syntax.{Exp, var, bin, tell, finish, call, Block, done, next as followed}
-use Rattle.c_mean.specs.Meaning.{World, Around, Ran, going, quietly, then_run, run_block, later, truth, end_word, same_name}
+use Rattle.c_mean.specs.Meaning.{World, Around, Ran, then_run, run_block, later, truth, end_word, same_name}
 use Rattle.c_steps.specs.Places.{get, value_of, Has}
-use Rattle.c_steps.specs.Texts.{joined}
-use Rattle.c_steps.specs.Runs.{Leads, Ends}
-use Rattle.c_steps.proofs.Steps.{then_assoc, then_same, then_ends, joined_runs, if_runs, skip_runs, call_leads, finish_ends, run_done}
+use Rattle.c_steps.specs.Texts.{assigns_only}
+use Rattle.c_steps.specs.Runs.{Leads, Ends, LeftAlone}
+use Rattle.c_steps.proofs.Steps.{then_same, then_ends, joined_runs, joined_leads, leads_as, done_leads, if_runs, else_runs, finish_ends}
+use Rattle.c_steps.proofs.Frames.{alone_all}
 use Rattle.c_steps.proofs.Values.{lt_is, gt_is}
 use Rattle.sci_due.specs.Due.{best as chosen_name, scan as scan_name, is_taking}
 use Rattle.sci_due.specs.Laws.{ShowsPending, AreOfPorts, HasTaken, next_port}
 use Rattle.sci_due.proofs.Lists.{has_first, next_first, was_there}
-use Rattle.sci_cgen.specs.Names.{actives, branches, until_name, fired_name, next_date, halt_name, source_name, clear_name, settle_name, choose_name}
-use Rattle.sci_cgen.specs.Program.{natural, one, only_where, text_where, each_port, port_count, has_halt, has_sync, end_where, halted_text, fire_text, event_text, turn_text}
-use Rattle.sci_cgen.specs.Shows.{HasRoom, ShowsState, ShowsPass}
+use Rattle.sci_cgen.specs.Names.{actives, branches, until_name, fired_name, next_date, halt_name, source_name, clear_name, choose_name}
+use Rattle.sci_cgen.specs.Program.{natural, one, text_where, port_count, has_halt, has_sync, end_or, halted_or, react_step, react_deep, fire_text, event_text, turn_text}
+use Rattle.sci_cgen.specs.Shows.{HasRoom, IsIdle, ShowsState}
 use Rattle.sci_cgen.specs.Stepping.{date_of}
 use Rattle.sci_cgen.proofs.Choice.{is_choosing_next, HasNext, are_of_ports, take_goes}
-use Rattle.sci_cgen.proofs.Dispatch.{still_going, dispatch_is}
+use Rattle.sci_cgen.proofs.Dispatch.{nothing_behind, dispatch_is}
 use Rattle.sci_cgen.proofs.Counting.{AreCounts}
-use Rattle.sci_cgen.proofs.Ready.{IsReady, reacting, ReactionGoes}
+use Rattle.sci_cgen.proofs.Ready.{IsReady, ReactionGoes}
 use Rattle.sci_cgen.proofs.Staying.{values_stay, states_stay, room_stays, bounds_stay}
 use Rattle.sci_cgen.proofs.Between.{columns_stay, is_between, alone_wider, state_stays}
 use Rattle.sci_cgen.proofs.Clear.{is_clearing, HasCleared}
 
 -- What calls mean in the function of one event.
-pub record HasCalls (env : Around) (n : Parts) (scratch : ℕ) (i : Columns) (until limit : ℕ) (react : ℕ → World → Ran) (settle clear choose : World → Ran)
+pub record HasCalls (env : Around) (n : Parts) (scratch : ℕ) (i : Columns) (own : Bool) (until limit : ℕ) (react : ℕ → World → Ran)
+    (clear choose : World → Ran)
     : Type 0 where
+  pub few_ports : port_count n ≤ 2048
   pub react_called : (k : ℕ) → k < length (sources_of n) → env.calls (source_name k) ≡ Some (react k)
-  pub settle_called : env.calls settle_name ≡ Some settle
-  pub clear_called : 1 ≤ port_count n → env.calls clear_name ≡ Some clear
+  pub clear_called : 1 ≤ port_count n → own ≡ false → env.calls clear_name ≡ Some clear
   pub choose_called : 1 ≤ port_count n → env.calls choose_name ≡ Some choose
-  pub clears : 1 ≤ port_count n → (w : World) → HasRoom n scratch w → Leads (clear w) (HasCleared n (length n.specs) w)
+  pub clears : 1 ≤ port_count n → own ≡ false → (w : World) → HasRoom n scratch w → Leads (clear w) (HasCleared n (length n.specs) w)
   pub chooses : 1 ≤ port_count n → (now : ℕ) (p : Pending) (w : World) → PendingInOrder n now p → ShowsPending (port_count n) p w → HasRoom n scratch w
       → Has w next_date 0 → Leads (choose w) (HasNext n p w)
-  pub reaction : ReactionGoes n scratch i until limit react settle
+  pub reaction : ReactionGoes n scratch i own until limit react
 
 -- memory between two events, where so many were counted
 pub record Stands (n : Parts) (scratch : ℕ) (i : Columns) (until limit count : ℕ) (st : State) (w : World) : Type 0 where
@@ -99,33 +100,35 @@ none_next m (x ∷ es) e h = let s = h x (has_first x es) in absurd (omega (arit
 -- ---- ends
 
 pub end_ends : (env : Around) (k : ℕ) (test : Exp) (code : ℕ) (word : EndWord) (rest : Block) (w : World) → value_of test w ≡ Some (pos 1)
-    → end_word (pos code) ≡ Some word → Ends (run_block env k (joined (end_where test code) rest) w) word
+    → end_word (pos code) ≡ Some word → Ends (run_block env k (end_or test code rest) w) word
 end_ends env k test code word rest w is e =
-    if_runs (λ r. Ends r word) env k test (one (tell (finish (natural code)))) done rest w is (λ l m.
-    then_ends (run_block env l (one (tell (finish (natural code)))) w) (run_block env m rest) word
+    if_runs (λ r. Ends r word) env k test (one (tell (finish (natural code)))) rest done w is (λ l m.
+    then_ends (run_block env l (one (tell (finish (natural code)))) w) (run_block env m done) word
     (finish_ends env l (natural code) done w (pos code) word refl e))
 
 pub end_skips : (Q : Ran → Type 0) (env : Around) (k : ℕ) (test : Exp) (code : ℕ) (rest : Block) (w : World) → value_of test w ≡ Some (pos 0)
-    → ((m : ℕ) → Q (run_block env m rest w)) → Q (run_block env k (joined (end_where test code) rest) w)
-end_skips Q env k test code rest w is go = skip_runs Q env k test (one (tell (finish (natural code)))) rest w is go
+    → ((m : ℕ) → Q (run_block env m rest w)) → Q (run_block env k (end_or test code rest) w)
+end_skips Q env k test code rest w is go =
+    else_runs Q env k test (one (tell (finish (natural code)))) rest done w is (λ l m.
+    subst Q (sym (nothing_behind env m (run_block env l rest w))) (go l))
 
 -- the run halts where a HALT_f was active
 module _ (env : Around) (n : Parts) (active : Activity) (w : World) (shown : has_halt n ≡ true → get w halt_name 0 ≡ Some (truth (halts n active))) where
-  pub halt_ends : (k : ℕ) (rest : Block) → halts n active ≡ true → Ends (run_block env k (joined (halted_text n) rest) w) Halt
+  pub halt_ends : (k : ℕ) (rest : Block) → halts n active ≡ true → Ends (run_block env k (halted_or n rest) w) Halt
   halt_ends k rest h =
       let has : has_halt n ≡ true = halts_has 1 n.specs active h in
-      subst (λ (t : Bool). Ends (run_block env k (joined (text_where t (end_where (var halt_name) 0)) rest) w) Halt) (sym has)
+      subst (λ (t : Bool). Ends (run_block env k (if t then end_or (var halt_name) 0 rest else rest) w) Halt) (sym has)
       (end_ends env k (var halt_name) 0 Halt rest w (shown has ∙ ap (λ (t : Bool). Some (truth t)) h) refl)
 
   pub halt_skips : (Q : Ran → Type 0) (k : ℕ) (rest : Block) → halts n active ≡ false → ((m : ℕ) → Q (run_block env m rest w))
-      → Q (run_block env k (joined (halted_text n) rest) w)
+      → Q (run_block env k (halted_or n rest) w)
   halt_skips Q k rest h go = by_has (has_halt n) refl
     where
-      by_has : (t : Bool) → has_halt n ≡ t → Q (run_block env k (joined (halted_text n) rest) w)
+      by_has : (t : Bool) → has_halt n ≡ t → Q (run_block env k (halted_or n rest) w)
       by_has true e =
-          subst (λ (t : Bool). Q (run_block env k (joined (text_where t (end_where (var halt_name) 0)) rest) w)) (sym e)
+          subst (λ (t : Bool). Q (run_block env k (if t then end_or (var halt_name) 0 rest else rest) w)) (sym e)
           (end_skips Q env k (var halt_name) 0 rest w (shown e ∙ ap (λ (t : Bool). Some (truth t)) h) go)
-      by_has false e = subst (λ (t : Bool). Q (run_block env k (joined (text_where t (end_where (var halt_name) 0)) rest) w)) (sym e) (go k)
+      by_has false e = subst (λ (t : Bool). Q (run_block env k (if t then end_or (var halt_name) 0 rest else rest) w)) (sym e) (go k)
 
 same_word : (a b : EndWord) → Over a ≡ Over b → a ≡ b
 same_word a b e = cc
@@ -141,17 +144,11 @@ over_fires word e h = cc
 
 -- ---- memory before a reaction
 
-pub ready_from : (n : Parts) (scratch : ℕ) (i : Columns) (until limit date : ℕ) (st : State) (w : World)
-    → ShowsState n scratch i until limit (record st { now = date }) w
-    → ((b : ℕ) → b < length n.specs → get w actives b ≡ Some (pos 0)) → (has_sync n ≡ true → (b : ℕ) → b < length n.specs → get w branches b ≡ Some (pos 0))
-    → ShowsPass n scratch i st.memory.cursor (at_rest st.memory) w w
-ready_from n scratch i until limit date st w s active branch = record {
-  values = s.held;
-  active = record { each = λ b k. active (b - 1) (omega (arith, k.least, k.most)) };
-  branches = record { each = λ b k sync. branch (sync_has n b k sync) (b - 1) (omega (arith, k.least, k.most)) };
-  columns = s.columns;
-  room = s.room;
-  kept = λ x k h. refl;
+pub idle_from : (n : Parts) (w : World) → ((b : ℕ) → b < length n.specs → get w actives b ≡ Some (pos 0))
+    → (has_sync n ≡ true → (b : ℕ) → b < length n.specs → get w branches b ≡ Some (pos 0)) → IsIdle n w
+idle_from n w active branch = record {
+  actives = λ b k. active (b - 1) (omega (arith, k.least, k.most));
+  branches = λ b k sync. branch (sync_has n b k sync) (b - 1) (omega (arith, k.least, k.most));
 }
 
 not_zero : (k : ℕ) → (suc k == 0) ≡ false
@@ -198,8 +195,7 @@ call_exact env k f rest w run is = rw is refl
 -- a text of one call
 pub call_alone : (env : Around) (k : ℕ) (f : Name) (w : World) (run : World → Ran) → env.calls f ≡ Some run → run_block env k (one (call f)) w ≡ run w
 call_alone env k f w run is =
-    call_exact env k f done w run is
-    ∙ (then_same (run w) (run_block env (later k 1) done) (λ v. quietly (going v)) (run_done env (later k 1)) ∙ still_going (run w))
+    call_exact env k f done w run is ∙ nothing_behind env (later k 1) (run w)
 
 -- where the next event is chosen, memory stands between two events
 pub stands_next : (n : Parts) (scratch : ℕ) (i : Columns) (until limit count : ℕ) (st : State) (w w' : World) → ShowsState n scratch i until limit st w
@@ -213,12 +209,16 @@ stands_next n scratch i until limit count st w w' s f h = record {
 
 -- ---- one event
 
-module _ (env : Around) (n : Parts) (scratch : ℕ) (i : Columns) (until limit : ℕ) (late : until ≤ 2 ^ 62) (react : ℕ → World → Ran)
-    (settle clear choose : World → Ran)
-    (calls : HasCalls env n scratch i until limit react settle clear choose) where
+-- Nothing was changed but marks and branches; and where one text follows for all sources, none is left.
+record IsReadied (n : Parts) (own : Bool) (w w' : World) : Type 0 where
+  pub idle : own ≡ false → IsIdle n w'
+  pub rest : LeftAlone (assigns_only is_clearing) w w'
+
+module _ (env : Around) (n : Parts) (scratch : ℕ) (i : Columns) (own : Bool) (until limit : ℕ) (late : until ≤ 2 ^ 62) (react : ℕ → World → Ran)
+    (clear choose : World → Ran)
+    (calls : HasCalls env n scratch i own until limit react clear choose) where
   abbrev coming_text : Block
-  coming_text =
-      joined (end_where (bin Lt (var next_date) (natural 0)) 2) (joined (end_where (bin Gt (var next_date) (var until_name)) 3) (fire_text n))
+  coming_text = end_or (bin Lt (var next_date) (natural 0)) 2 (end_or (bin Gt (var next_date) (var until_name)) 3 (fire_text own n))
 
   -- ---- the run is over
 
@@ -235,14 +235,14 @@ module _ (env : Around) (n : Parts) (scratch : ℕ) (i : Columns) (until limit :
           subst (λ (v : EndWord). Ends (run_block env m coming_text w) v) (same_word Until word h)
           (end_skips (λ r. Ends r Until) env m (bin Lt (var next_date) (natural 0)) 2 _ w
           (lt_is (var next_date) (natural 0) w (pos e.date) (pos 0) is refl ∙ ap (λ (t : Bool). Some (truth t)) (above e.date)) (λ j.
-          end_ends env j (bin Gt (var next_date) (var until_name)) 3 Until (fire_text n) w
+          end_ends env j (bin Gt (var next_date) (var until_name)) 3 Until (fire_text own n) w
           (gt_is (var next_date) (var until_name) w (pos e.date) (pos until) is bound ∙ ap (λ (t : Bool). Some (truth t)) q) refl))
 
   event_over : (k count : ℕ) (st : State) (w : World) (word : EndWord) → in_time until (next st.pending.events) ≡ Over word
-      → Stands n scratch i until limit count st w → IsInOrder n st → Ends (run_block env k (event_text n) w) word
+      → Stands n scratch i until limit count st w → IsInOrder n st → Ends (run_block env k (event_text own n) w) word
   event_over k count st w word is s o = by_ports (nat_lt 0 (port_count n)) refl
     where
-      by_ports : (t : Bool) → nat_lt 0 (port_count n) ≡ t → Ends (run_block env k (event_text n) w) word
+      by_ports : (t : Bool) → nat_lt 0 (port_count n) ≡ t → Ends (run_block env k (event_text own n) w) word
       by_ports true q =
           subst (λ (t : Bool). Ends (run_block env k (if t then coming_text else one (tell (finish (natural 2)))) w) word) (sym q)
           (over_coming k w (next st.pending.events) word is s.coming (s.shows.bounds.time (ltb-true 0 (port_count n) q)))
@@ -258,53 +258,53 @@ module _ (env : Around) (n : Parts) (scratch : ℕ) (i : Columns) (until limit :
   -- what is known where the event was taken and the blocks are cleared
   pub record IsFired (count : ℕ) (st : State) (e : Event) (w : World) : Type 0 where
     pub ports : 1 ≤ port_count n
-    pub ready : IsReady n scratch i until limit e.date (taken st e) w
+    pub ready : IsReady n scratch i own until limit e.date (taken st e) w
     pub fired : get w fired_name 0 ≡ Some (pos count)
     pub coming : Has w next_date 0
 
-  -- what comes behind the source's function
-  settled : (m : ℕ) → 1 ≤ port_count n → (v : World) → run_block env m (followed (call settle_name) (one (call choose_name))) v ≡ then_run (settle v) choose
-  settled m ports v =
-      call_exact env m settle_name (one (call choose_name)) v settle calls.settle_called
-      ∙ then_same (settle v) (run_block env (later m 1) (one (call choose_name))) choose
-      (λ u. call_alone env (later m 1) choose_name u choose (calls.choose_called ports))
-
   reacts_alone : (k : ℕ) (e : Event) (w : World) → 1 ≤ e.source → e.source ≤ port_count n → get w chosen_name 0 ≡ Some (pos (e.source - 1))
-      → (Q : Ran → Type 0) → Q (then_run (then_run (react e.source w) settle) choose)
-      → Q (run_block env k (joined (each_port (λ i. only_where (bin Eq (var chosen_name) (natural (i - 1))) (one (call (source_name i)))) n)
-      (followed (call settle_name) (one (call choose_name)))) w)
+      → (Q : Ran → Type 0) → Q (then_run (react e.source w) choose)
+      → Q (run_block env k (followed (react_step react_deep 0 (port_count n)) (one (call choose_name))) w)
   reacts_alone k e w lo hi is Q h =
       let own : suc (e.source - 1) ≡ e.source = omega (arith, lo) in
       let within : e.source < length (sources_of n) = omega (arith, lo, hi) in
-      joined_runs Q env k (each_port (λ i. only_where (bin Eq (var chosen_name) (natural (i - 1))) (one (call (source_name i)))) n)
-      (followed (call settle_name) (one (call choose_name))) w (λ m.
-      subst Q (sym (ap (λ (r : Ran). then_run r (run_block env m (followed (call settle_name) (one (call choose_name)))))
+      joined_runs Q env k (one (react_step react_deep 0 (port_count n))) (one (call choose_name)) w (λ m.
+      subst Q (sym (ap (λ (r : Ran). then_run r (run_block env m (one (call choose_name))))
       (dispatch_is env (e.source - 1) w is (react e.source)
-      (subst (λ (j : ℕ). env.calls (source_name j) ≡ Some (react e.source)) (sym own) (calls.react_called e.source within)) reacting refl
-      (calls.reaction.leaves e.source within w) n k (omega (arith, lo, hi)))
-      ∙ (then_same (react e.source w) (run_block env m (followed (call settle_name) (one (call choose_name)))) (λ v. then_run (settle v) choose)
-      (settled m (omega (arith, lo, hi)))
-      ∙ sym (then_assoc (react e.source w) settle choose)))) h)
+      (subst (λ (j : ℕ). env.calls (source_name j) ≡ Some (react e.source)) (sym own) (calls.react_called e.source within)) n k (omega (arith, lo, hi))
+      calls.few_ports)
+      ∙ then_same (react e.source w) (run_block env m (one (call choose_name))) choose
+      (λ u. call_alone env m choose_name u choose (calls.choose_called (omega (arith, lo, hi)))))) h)
 
   fire_goes : (Q : Ran → Type 0) (k count : ℕ) (st : State) (e : Event) (w : World) → 1 ≤ port_count n → next st.pending.events ≡ Some e → e.date ≤ until
       → halts n st.active ≡ false → Stands n scratch i until limit count st w → IsInOrder n st
-      → ((w3 : World) → IsFired count st e w3 → Q (then_run (then_run (react e.source w3) settle) choose)) → Q (run_block env k (fire_text n) w)
+      → ((w3 : World) → IsFired count st e w3 → Q (then_run (react e.source w3) choose)) → Q (run_block env k (fire_text own n) w)
   fire_goes Q k count st e w ports is early on s o go =
       take_goes Q env n st.now st.pending e _ k w o.pending is (s.shows.pending ports) chosen_first
       (record { holds = pos st.now; is = s.shows.now ports }) (λ k2 w2 t.
-      call_leads Q env k2 clear_name _ w2 clear (calls.clear_called ports)
-      (calls.clears ports w2 (room_stays is_taking w w2 t.rest n scratch refl s.shows.room)) (λ k3 w3 h.
-      reacts_alone k3 e w3 source.0 source.1 (chosen_is w2 w3 t h) Q (go w3 (fired_is w2 w3 t h))))
+      joined_leads Q env k2 (text_where (not own) (one (call clear_name))) (followed (react_step react_deep 0 (port_count n)) (one (call choose_name))) w2
+      (readied k2 w2 t own refl) (λ k3 w3 h.
+      reacts_alone k3 e w3 source.0 source.1 (chosen_is w2 w3 t h.rest) Q (go w3 (fired_is w2 w3 t h))))
     where
+      -- the blocks are cleared where one text follows for all sources
+      readied : (k2 : ℕ) (w2 : World) → HasTaken (port_count n) st.pending e w w2 → (o : Bool) → own ≡ o
+          → Leads (run_block env k2 (text_where (not o) (one (call clear_name))) w2) (IsReadied n o w2)
+      readied k2 w2 t true q =
+          done_leads env k2 w2 (record { idle = λ f. absurd (true≢false f); rest = alone_all (assigns_only is_clearing) w2 })
+      readied k2 w2 t false q =
+          subst (λ (r : Ran). Leads r (IsReadied n false w2)) (sym (call_alone env k2 clear_name w2 clear (calls.clear_called ports q)))
+          (leads_as (clear w2) (λ w3 h. record { idle = λ f. idle_from n w3 h.active h.branch; rest = h.rest })
+          (calls.clears ports q w2 (room_stays is_taking w w2 t.rest n scratch refl s.shows.room)))
+
       source : (1 ≤ e.source) × (e.source ≤ port_count n)
       source = are_of_ports n st.now st.pending o.pending e (next_first st.pending.events e is)
 
       chosen_first : get w chosen_name 0 ≡ Some (next_port (Some e))
       chosen_first = s.chosen ports ∙ ap (λ (o : Option Event). Some (next_port o)) is
 
-      chosen_is : (w2 w3 : World) → HasTaken (port_count n) st.pending e w w2 → HasCleared n (length n.specs) w2 w3
+      chosen_is : (w2 w3 : World) → HasTaken (port_count n) st.pending e w w2 → LeftAlone (assigns_only is_clearing) w2 w3
           → get w3 chosen_name 0 ≡ Some (pos (e.source - 1))
-      chosen_is w2 w3 t h = h.rest.same chosen_name 0 refl ∙ (t.rest.same chosen_name 0 refl ∙ chosen_first)
+      chosen_is w2 w3 t h = h.same chosen_name 0 refl ∙ (t.rest.same chosen_name 0 refl ∙ chosen_first)
 
       s2 : (w2 : World) → HasTaken (port_count n) st.pending e w w2 → ShowsState n scratch i until limit (record (taken st e) { now = e.date }) w2
       s2 w2 t = record {
@@ -318,18 +318,18 @@ module _ (env : Around) (n : Parts) (scratch : ℕ) (i : Columns) (until limit :
         room = room_stays is_taking w w2 t.rest n scratch refl s.shows.room;
       }
 
-      s3 : (w2 w3 : World) → HasTaken (port_count n) st.pending e w w2 → HasCleared n (length n.specs) w2 w3
+      s3 : (w2 w3 : World) → HasTaken (port_count n) st.pending e w w2 → LeftAlone (assigns_only is_clearing) w2 w3
           → ShowsState n scratch i until limit (record (taken st e) { now = e.date }) w3
       s3 w2 w3 t h =
           state_stays n scratch i until limit (record (taken st e) { now = e.date }) w2 w3
-          (alone_wider is_clearing is_between w2 w3 clearing_less h.rest) (s2 w2 t)
+          (alone_wider is_clearing is_between w2 w3 clearing_less h) (s2 w2 t)
 
-      fired_is : (w2 w3 : World) → HasTaken (port_count n) st.pending e w w2 → HasCleared n (length n.specs) w2 w3 → IsFired count st e w3
+      fired_is : (w2 w3 : World) → HasTaken (port_count n) st.pending e w w2 → IsReadied n own w2 w3 → IsFired count st e w3
       fired_is w2 w3 t h = record {
         ports = ports;
         ready = record {
-          shows = s3 w2 w3 t h;
-          rest = ready_from n scratch i until limit e.date (taken st e) w3 (s3 w2 w3 t h) h.active h.branch;
+          shows = s3 w2 w3 t h.rest;
+          idle = h.idle;
           goes_on = on;
           memory = o.memory;
           counts = o.counts;
@@ -343,14 +343,14 @@ module _ (env : Around) (n : Parts) (scratch : ℕ) (i : Columns) (until limit :
 
   event_fires : (Q : Ran → Type 0) (k count : ℕ) (st : State) (e : Event) (w : World) → in_time until (next st.pending.events) ≡ Fires e
       → halts n st.active ≡ false → Stands n scratch i until limit count st w → IsInOrder n st
-      → ((w3 : World) → IsFired count st e w3 → Q (then_run (then_run (react e.source w3) settle) choose)) → Q (run_block env k (event_text n) w)
+      → ((w3 : World) → IsFired count st e w3 → Q (then_run (react e.source w3) choose)) → Q (run_block env k (event_text own n) w)
   event_fires Q k count st e w is on s o go = by_next (next st.pending.events) refl is
     where
-      by_next : (x : Option Event) → next st.pending.events ≡ x → in_time until x ≡ Fires e → Q (run_block env k (event_text n) w)
+      by_next : (x : Option Event) → next st.pending.events ≡ x → in_time until x ≡ Fires e → Q (run_block env k (event_text own n) w)
       by_next None q h = absurd (over_fires Empty e h)
       by_next (Some f) q h = by_time (nat_lt until f.date) refl h
         where
-          by_time : (t : Bool) → nat_lt until f.date ≡ t → (if t then Over Until else Fires f) ≡ Fires e → Q (run_block env k (event_text n) w)
+          by_time : (t : Bool) → nat_lt until f.date ≡ t → (if t then Over Until else Fires f) ≡ Fires e → Q (run_block env k (event_text own n) w)
           by_time true r h = absurd (over_fires Until e h)
           by_time false r h =
               let same : f ≡ e = same_event f e h in
@@ -362,7 +362,7 @@ module _ (env : Around) (n : Parts) (scratch : ℕ) (i : Columns) (until limit :
               subst (λ (t : Bool). Q (run_block env k (if t then coming_text else one (tell (finish (natural 2)))) w)) (sym (some_ports ports))
               (end_skips Q env k (bin Lt (var next_date) (natural 0)) 2 _ w
               (lt_is (var next_date) (natural 0) w (pos e.date) (pos 0) date refl ∙ ap (λ (t : Bool). Some (truth t)) (above e.date)) (λ j.
-              end_skips Q env j (bin Gt (var next_date) (var until_name)) 3 (fire_text n) w
+              end_skips Q env j (bin Gt (var next_date) (var until_name)) 3 (fire_text own n) w
               (gt_is (var next_date) (var until_name) w (pos e.date) (pos until) date (s.shows.bounds.time ports)
               ∙ ap (λ (t : Bool). Some (truth t)) (ap (λ (v : Event). nat_lt until v.date) (sym same) ∙ r)) (λ l.
               fire_goes Q l count st e w ports found early on s o go)))
@@ -381,44 +381,44 @@ module _ (env : Around) (n : Parts) (scratch : ℕ) (i : Columns) (until limit :
 
   pub turn_over : (k left count : ℕ) (st : State) (w : World) (word : EndWord) → comes_next n until (suc left) st ≡ Over word
       → Stands n scratch i until limit count st w
-      → IsInOrder n st → Ends (run_block env k (turn_text n) w) word
+      → IsInOrder n st → Ends (run_block env k (turn_text own n) w) word
   turn_over k left count st w word is s o = by_halt (halts n st.active) refl is
     where
       by_halt : (t : Bool) → halts n st.active ≡ t → (if t then Over Halt else if suc left == 0 then Over Events else in_time until
           (next st.pending.events)) ≡ Over word
-          → Ends (run_block env k (turn_text n) w) word
+          → Ends (run_block env k (turn_text own n) w) word
       by_halt true q h =
-          subst (λ (v : EndWord). Ends (run_block env k (turn_text n) w) v) (same_word Halt word h)
-          (halt_ends env n st.active w s.shows.halt k (event_text n) q)
+          subst (λ (v : EndWord). Ends (run_block env k (turn_text own n) w) v) (same_word Halt word h)
+          (halt_ends env n st.active w s.shows.halt k (event_text own n) q)
       by_halt false q h =
-          halt_skips env n st.active w s.shows.halt (λ r. Ends r word) k (event_text n) q (λ m.
+          halt_skips env n st.active w s.shows.halt (λ r. Ends r word) k (event_text own n) q (λ m.
           event_over m count st w word (in_time_of left (next st.pending.events) (Over word) h) s o)
 
   pub turn_fires : (Q : Ran → Type 0) (k left count : ℕ) (st : State) (e : Event) (w : World) → comes_next n until (suc left) st ≡ Fires e
       → Stands n scratch i until limit count st w → IsInOrder n st
-      → ((w3 : World) → IsFired count st e w3 → Q (then_run (then_run (react e.source w3) settle) choose)) → Q (run_block env k (turn_text n) w)
+      → ((w3 : World) → IsFired count st e w3 → Q (then_run (react e.source w3) choose)) → Q (run_block env k (turn_text own n) w)
   turn_fires Q k left count st e w is s o go = by_halt (halts n st.active) refl is
     where
       by_halt : (t : Bool) → halts n st.active ≡ t → (if t then Over Halt else if suc left == 0 then Over Events else in_time until
           (next st.pending.events)) ≡ Fires e
-          → Q (run_block env k (turn_text n) w)
+          → Q (run_block env k (turn_text own n) w)
       by_halt true q h = absurd (over_fires Halt e h)
       by_halt false q h =
-          halt_skips env n st.active w s.shows.halt Q k (event_text n) q (λ m.
+          halt_skips env n st.active w s.shows.halt Q k (event_text own n) q (λ m.
           event_fires Q m count st e w (in_time_of left (next st.pending.events) (Fires e) h) q s o go)
 
 -- where the bound on events is reached
 pub behind_over : (env : Around) (n : Parts) (scratch : ℕ) (i : Columns) (until limit : ℕ) (k : ℕ) (st : State) (w : World) (word : EndWord)
     → comes_next n until 0 st ≡ Over word → ShowsState n scratch i until limit st w
-    → Ends (run_block env k (joined (halted_text n) (one (tell (finish (natural 1))))) w) word
+    → Ends (run_block env k (halted_or n (one (tell (finish (natural 1))))) w) word
 behind_over env n scratch i until limit k st w word is s = by_halt (halts n st.active) refl is
   where
     by_halt : (t : Bool) → halts n st.active ≡ t → (if t then Over Halt else Over Events) ≡ Over word
-        → Ends (run_block env k (joined (halted_text n) (one (tell (finish (natural 1))))) w) word
+        → Ends (run_block env k (halted_or n (one (tell (finish (natural 1))))) w) word
     by_halt true q h =
-        subst (λ (v : EndWord). Ends (run_block env k (joined (halted_text n) (one (tell (finish (natural 1))))) w) v) (same_word Halt word h)
+        subst (λ (v : EndWord). Ends (run_block env k (halted_or n (one (tell (finish (natural 1))))) w) v) (same_word Halt word h)
         (halt_ends env n st.active w s.halt k (one (tell (finish (natural 1)))) q)
     by_halt false q h =
-        subst (λ (v : EndWord). Ends (run_block env k (joined (halted_text n) (one (tell (finish (natural 1))))) w) v) (same_word Events word h)
+        subst (λ (v : EndWord). Ends (run_block env k (halted_or n (one (tell (finish (natural 1))))) w) v) (same_word Events word h)
         (halt_skips env n st.active w s.halt (λ r. Ends r Events) k (one (tell (finish (natural 1)))) q (λ m.
         finish_ends env m (natural 1) done w (pos 1) Events refl refl))

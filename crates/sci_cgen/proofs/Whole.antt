@@ -1,8 +1,9 @@
 -- The generated program is a program of the subset: it keeps the bounds and the static rules.
-use Rattle.std.proofs.Common.{◌≡◌, ℕ, zero, suc, ◌+◌, ◌-◌, ◌<◌, ◌≤◌, ◌⊎◌, inl, inr, List, [], ◌∷◌, ◌++◌, length, Option, Some, None, Bool, true, false, not, nat_lt, if◌then◌else◌, refl, sym, ap, ◌∙◌, subst, arith, ℤ, pos, negsuc, true≢false}
+use Rattle.std.proofs.Common.{◌≡◌, ℕ, zero, suc, ◌+◌, ◌-◌, ◌<◌, ◌≤◌, ◌^◌, ◌⊎◌, inl, inr, List, [], ◌∷◌, ◌++◌, length, Option, Some, None, Bool, true, false, not, nat_lt, if◌then◌else◌, refl, sym, ap, ◌∙◌, subst, arith, ℤ, pos, negsuc, true≢false, ltb-true}
 use Rattle.std.proofs.lemmas.Bool.{cases_eq, cond-true}
 use Rattle.std.proofs.lemmas.Bool.Decides.{nat_tests}
 use Rattle.std.specs.List.{list_any}
+use Rattle.std.proofs.lemmas.List.Folds.{list_any-append}
 use Rattle.sci_base.specs.Fit.{int_eq}
 use Rattle.sci_kinds.specs.Table.{first_state, first_held}
 use Rattle.sci_kinds.proofs.Elements.{nat_lt_yes}
@@ -18,22 +19,24 @@ use Rattle.c_ast.specs.declared.Bound.TheVariants as bounds
 use Rattle.c_ast.specs.declared.events.Kind.{Kind}
 use Rattle.c_ast.specs.declared.events.Opened.{Opened}
 use Rattle.c_ast.specs.declared.events.Opened.TheVariants.{Branch, Turn}
-use Rattle.c_ast.specs.Syntax.{bin, var, scalar, cell, set, call, tell, finish, next, Declared, Function}
+use Rattle.c_ast.specs.Syntax.{bin, var, scalar, cell, set, call, tell, finish, Statement, next, Declared, Function}
 use Rattle.c_ast.specs.declared.Op.TheVariants.{Lt, Gt}
-use Rattle.c_ast.specs.Rules.{Routine, same_name, kind_in, kind_of, is_scalar, is_array, is_hit, KeepsRules}
-use Rattle.c_steps.specs.Texts.{number, joined, upto}
+use Rattle.c_ast.specs.Rules.{Routine, same_name, kind_in, kind_of, is_scalar, is_array, is_guarded, is_hit, KeepsRules}
+use Rattle.c_steps.specs.Texts.{number, joined}
 use Rattle.c_steps.proofs.Memory.{name_eq, name_same}
 use Rattle.sci_cgen_blocks.specs.Texts.{values, states, masks, scratch_name}
 use Rattle.sci_cgen_blocks.specs.Keeping.{Scene, ReadsWell, BlockKeeps, CallsWell}
 use Rattle.sci_cgen_blocks.proofs.TextRules.{joined_keep, upto_keeps}
 use Rattle.sci_cgen_blocks.proofs.WholeRules.{declaring, AreNew, IsKnown, AreKnown, AllKeep, calls_well}
 use Rattle.sci_due.specs.Due.{dates, orders, best as chosen_name, scan as scan_name, now as now_name, last as programmed_name, delay as delay_name}
+use Rattle.sci_cgen.specs.declared.parts.Part.TheVariants.{Marked}
 use Rattle.sci_cgen.specs.Names.{actives, branches, limit_name, until_name, fired_name, next_date, halt_name, block_name, source_name, clear_name, settle_name, choose_name, event_name}
-use Rattle.sci_cgen.specs.Program.{natural, one, port_count, places_of, has_sync, has_halt, states_before, array, a_scalar, declared_where, scratch_declared, scratch_count, declarations, functions_upto, functions_where, other_functions, source_function, end_where, halted_text, fire_text, event_text, turn_text, first_text, begin_text, event_function, begun_text, list_begun, held_begun, state_begun, firing_at, programmed_before, firing_begun, source_begun, outset_text, main_text, program}
+use Rattle.sci_cgen.specs.Program.{natural, one, text_where, has_own, port_count, places_of, has_sync, has_halt, states_before, array, a_scalar, declared_where, scratch_declared, scratch_count, declarations, functions_upto, functions_where, other_functions, source_function, end_or, react_step, react_deep, fire_text, event_text, turn_text, first_text, begin_text, event_function, begun_text, list_begun, held_begun, state_begun, firing_at, programmed_before, firing_begun, source_begun, outset_text, main_text, program}
 use Rattle.sci_cgen.specs.Laws.{ProgramIsWhole}
-use Rattle.sci_cgen.proofs.Parted.{value_arrays, active_array, branch_array, due_arrays, limit_scalars, event_scalars, halt_scalar, all_held, first_states, all_begun, until_asked, where_ports, fires_source, starting, running, own, blocks, sources, before}
+use Rattle.sci_cgen.proofs.Parted.{value_arrays, active_array, branch_array, due_arrays, limit_scalars, event_scalars, halt_scalar, all_held, first_states, all_begun, until_asked, where_ports, starting, ending, running, own, blocks, sources, clear_function, choose_function, shared, chooses}
+use Rattle.sci_cgen.proofs.Halves.{in_first, react_last, react_more}
 use Rattle.sci_cgen.proofs.Layers.{program_keeps}
-use Rattle.sci_cgen.proofs.Sizes.{scratch_enough}
+use Rattle.sci_cgen.proofs.Sizes.{loop_enough, scratch_enough}
 use Rattle.sci_cgen.proofs.Bounded.{is_whole}
 use Rattle.sci_cgen.proofs.Declared.{variables_new, sizes_few, first_new, second_new, third_new}
 use Rattle.sci_cgen.proofs.Ruled.{Finds, may_assign, in_functions, where_keeps, block_keeps, settle_keeps, clear_keeps, choose_keeps, source_keeps}
@@ -263,11 +266,15 @@ module _ (n : Parts) (net : IsNet n) (scratch : ℕ) (kinds : Name → Option Ki
         (where_keeps c top (nat_lt 0 (port_count n)) (until_asked n) (λ q.
         (((finds.programmed (some_ports q), (refl, refl)), tt), (((finds.until (some_ports q), (refl, refl)), tt), tt))))))
 
-    halted_keeps : (opens : List Opened) → BlockKeeps c opens (halted_text n)
-    halted_keeps opens =
-        where_keeps c opens (has_halt n) (end_where (var halt_name) 0) (λ q. ((finds.halt q, (tt, tt), tt), tt))
+    ending_keeps : BlockKeeps c top (ending n)
+    ending_keeps = by_halt (has_halt n) refl
+      where
+        by_halt : (t : Bool) → has_halt n ≡ t
+            → BlockKeeps c top (if t then end_or (var halt_name) 0 (one (tell (finish (natural 1)))) else one (tell (finish (natural 1))))
+        by_halt true q = ((finds.halt q, (tt, tt), (tt, tt)), tt)
+        by_halt false q = (tt, tt)
 
-    module _ (settle : IsKnown may_assign 1 routines settle_name) (choose : 1 ≤ port_count n → IsKnown may_assign 1 routines choose_name)
+    module _ (choose : 1 ≤ port_count n → IsKnown may_assign 1 routines choose_name)
         (source : IsKnown may_assign 2 routines (source_name 0)) (event : IsKnown may_assign 3 routines event_name) where
       call_keeps : (opens : List Opened) (d : ℕ) (f : Name) → IsKnown may_assign d routines f → d < 64 → list_any (is_hit may_assign) opens ≡ false
           → CallsWell c opens f
@@ -285,25 +292,22 @@ module _ (n : Parts) (net : IsNet n) (scratch : ℕ) (kinds : Name → Option Ki
       begin_keeps =
           joined_keep c top (outset_text n) (starting n) outset_keeps (
             ((finds.limit, (refl, refl)), tt),
-            (
-              call_keeps top 2 (source_name 0) source (omega arith) refl,
-              (call_keeps top 1 settle_name settle (omega arith) refl, first_keeps),
-            ),
+            (call_keeps top 2 (source_name 0) source (omega arith) refl, first_keeps),
           )
 
       main_text_keeps : BlockKeeps c top (main_text n)
       main_text_keeps =
           joined_keep c top (begin_text n) (running n) begin_keeps (
             (finds.fired, (refl, refl), (finds.limit, refl), (call_keeps turning 3 event_name event (omega arith) refl, tt)),
-            joined_keep c top (halted_text n) (one (tell (finish (natural 1)))) (halted_keeps top) (tt, tt),
+            ending_keeps,
           )
 
 -- ---- one event
 
-module _ (n : Parts) (scratch : ℕ) (kinds : Name → Option Kind) (routines : Name → Option Routine)
+module _ (n : Parts) (own : Bool) (scratch : ℕ) (kinds : Name → Option Kind) (routines : Name → Option Routine)
     (finds : Finds n scratch (in_functions kinds routines 3))
-    (settle : IsKnown may_assign 1 routines settle_name)
-    (others : 1 ≤ port_count n → IsKnown may_assign 1 routines clear_name × IsKnown may_assign 1 routines choose_name)
+    (clear : 1 ≤ port_count n → own ≡ false → IsKnown may_assign 1 routines clear_name)
+    (choose : 1 ≤ port_count n → IsKnown may_assign 1 routines choose_name)
     (source : (i : ℕ) → i < length (sources_of n) → IsKnown may_assign 2 routines (source_name i)) where
   abbrev here : Scene
   here = in_functions kinds routines 3
@@ -311,49 +315,83 @@ module _ (n : Parts) (scratch : ℕ) (kinds : Name → Option Kind) (routines : 
   abbrev body : List Opened
   body = Branch ∷ []
 
+  -- within so many decisions in the function's body
+  abbrev within : ℕ → List Opened
+  within zero = Branch ∷ []
+  within (suc k) = within k ++ Branch ∷ []
+
   routine_keeps : (opens : List Opened) (d : ℕ) (f : Name) → IsKnown may_assign d routines f → d < 3 → list_any (is_hit may_assign) opens ≡ false
       → CallsWell here opens f
   routine_keeps opens d f known deep apart = calls_well here opens may_assign d f known deep (λ x h. h) apart
 
-  fire_keeps : 1 ≤ port_count n → BlockKeeps here body (fire_text n)
-  fire_keeps l = (
-    ((finds.now l, (refl, refl)), (finds.dates l, finds.chosen l)),
+  more_open : (opens : List Opened) → list_any (is_hit may_assign) opens ≡ false → list_any (is_hit may_assign) (opens ++ Branch ∷ []) ≡ false
+  more_open opens apart = list_any-append (is_hit may_assign) opens (Branch ∷ []) ∙ rw apart refl
+
+  abbrev Keep : ℕ → Type 0
+  Keep d = (i c : ℕ) (opens : List Opened) → list_any (is_hit may_assign) opens ≡ false → i < port_count n → i + c ≤ port_count n
+      → BlockKeeps here opens (one (react_step d i c))
+
+  react_keeps : (d : ℕ) → Keep d
+  react_keeps zero i c opens apart l m =
+      subst (λ (s : Statement). BlockKeeps here opens (one s)) (sym (react_last i c))
+      (routine_keeps opens 2 (source_name (suc i)) (source (suc i) (omega (arith, l))) (omega arith) apart, tt)
+  react_keeps (suc d) i c opens apart l m =
+      subst (λ (s : Statement). BlockKeeps here opens (one s)) (sym (react_more d i c)) (by_count (react_keeps d) (nat_lt (2 ^ d) c) refl)
+    where
+      by_count : Keep d → (t : Bool) → nat_lt (2 ^ d) c ≡ t
+          → BlockKeeps here opens (one (if t then in_first i (2 ^ d) (react_step d i (2 ^ d)) (react_step d (i + 2 ^ d) (c - 2 ^ d)) else react_step d i c))
+      by_count go true q =
+          let more = ltb-true (2 ^ d) c q in
+          let inner = more_open opens apart in (
+            (
+              (finds.chosen (omega (arith, l)), tt),
+              go i (2 ^ d) (opens ++ Branch ∷ []) inner l (omega (arith, more, m)),
+              go (i + 2 ^ d) (c - 2 ^ d) (opens ++ Branch ∷ []) inner (omega (arith, more, m)) (omega (arith, more, m)),
+            ),
+            tt,
+          )
+      by_count go false q = go i c opens apart l m
+
+  fire_keeps : (opens : List Opened) → ((x : Name) → is_guarded opens x ≡ false) → list_any (is_hit may_assign) opens ≡ false
+      → 1 ≤ port_count n → BlockKeeps here opens (fire_text own n)
+  fire_keeps opens free apart l = (
+    ((finds.now l, (refl, free now_name)), (finds.dates l, finds.chosen l)),
     (
-      ((finds.dates l, (refl, refl), finds.chosen l), tt),
-      (
-        routine_keeps body 1 clear_name (others l).0 (omega arith) refl,
-        joined_keep here body (upto fires_source (port_count n)) (next (call settle_name) (one (call choose_name)))
-            (upto_keeps here body fires_source (port_count n) (λ k q. (
-              (
-                (finds.chosen l, tt),
-                (routine_keeps (Branch ∷ Branch ∷ []) 2 (source_name (suc k)) (source (suc k) (omega (arith, q))) (omega arith) refl, tt),
-                tt,
-              ),
-              tt,
-            )))
-            (routine_keeps body 1 settle_name settle (omega arith) refl, (routine_keeps body 1 choose_name (others l).1 (omega arith) refl, tt)),
-      ),
+      ((finds.dates l, (refl, free dates), finds.chosen l), tt),
+      joined_keep here opens (text_where (not own) (one (call clear_name))) (next (react_step react_deep 0 (port_count n)) (one (call choose_name)))
+          (cleared own refl) (
+            (react_keeps react_deep 0 (port_count n) opens apart (omega (arith, l)) (omega arith)).0,
+            (routine_keeps opens 1 choose_name (choose l) (omega arith) apart, tt),
+          ),
     ),
   )
+    where
+      cleared : (o : Bool) → own ≡ o → BlockKeeps here opens (text_where (not o) (one (call clear_name)))
+      cleared true q = tt
+      cleared false q = (routine_keeps opens 1 clear_name (clear l q) (omega arith) apart, tt)
 
-  event_keeps : BlockKeeps here body (event_text n)
-  event_keeps = by_ports (nat_lt 0 (port_count n)) some_ports
+  -- k decisions stand around it
+  event_keeps : (k : ℕ) → ((x : Name) → is_guarded (within (suc (suc k))) x ≡ false) → list_any (is_hit may_assign) (within (suc (suc k))) ≡ false
+      → BlockKeeps here (within k) (event_text own n)
+  event_keeps k free apart = by_ports (nat_lt 0 (port_count n)) some_ports
     where
       some_ports : nat_lt 0 (port_count n) ≡ true → 1 ≤ port_count n
       some_ports h = grind (arith, nat_tests)
 
       by_ports : (t : Bool) → (t ≡ true → 1 ≤ port_count n)
-          → BlockKeeps here body (if t then joined (end_where (bin Lt (var next_date) (natural 0)) 2)
-          (joined (end_where (bin Gt (var next_date) (var until_name)) 3) (fire_text n)) else one (tell (finish (natural 2))))
+          → BlockKeeps here (within k) (if t then end_or (bin Lt (var next_date) (natural 0)) 2
+          (end_or (bin Gt (var next_date) (var until_name)) 3 (fire_text own n)) else one (tell (finish (natural 2))))
       by_ports true some =
           let l = some refl in
-          (((finds.next_date, tt), (tt, tt), tt), (((finds.next_date, finds.until l), (tt, tt), tt), fire_keeps l))
+          (((finds.next_date, tt), (tt, tt), (((finds.next_date, finds.until l), (tt, tt), fire_keeps (within (suc (suc k))) free apart l), tt)), tt)
       by_ports false some = (tt, tt)
 
-  turn_keeps : BlockKeeps here body (turn_text n)
-  turn_keeps =
-      joined_keep here body (halted_text n) (event_text n)
-      (where_keeps here body (has_halt n) (end_where (var halt_name) 0) (λ q. ((finds.halt q, (tt, tt), tt), tt))) event_keeps
+  turn_keeps : BlockKeeps here body (turn_text own n)
+  turn_keeps = by_halt (has_halt n) refl
+    where
+      by_halt : (t : Bool) → has_halt n ≡ t → BlockKeeps here body (if t then end_or (var halt_name) 0 (event_text own n) else event_text own n)
+      by_halt true q = ((finds.halt q, (tt, tt), event_keeps 1 (λ x. refl) refl), tt)
+      by_halt false q = event_keeps 0 (λ x. refl) refl
 
 -- ---- the program
 
@@ -370,71 +408,101 @@ module _ (n : Parts) (rows : List (List Entry)) (net : IsNet n) (free : AreLoopF
   some_specs : 1 ≤ port_count n → 1 ≤ length n.specs
   some_specs l = let few = sources_few 1 n.specs (all_typed n net) in omega (arith, l, few)
 
-  first_keep : (routines : Name → Option Routine) → AllKeep (in_functions variables routines 1) (blocks n rows ++ other_functions n)
+  abbrev own_texts : Bool
+  own_texts = has_own n rows
+
+  abbrev others : List Function
+  others = other_functions own_texts n
+
+  abbrev some_where : Bool
+  some_where = nat_lt 0 (port_count n)
+
+  some_ports_there : nat_lt 0 (port_count n) ≡ true → 1 ≤ port_count n
+  some_ports_there h = grind (arith, nat_tests)
+
+  first_keep : (routines : Name → Option Routine) → AllKeep (in_functions variables routines 1) (blocks n rows ++ others)
   first_keep routines =
       let f = finds n rows routines may_assign 1 in
-      keep_both (in_functions variables routines 1) (blocks n rows) (other_functions n)
+      keep_both (in_functions variables routines 1) (blocks n rows) others
       (keep_upto (in_functions variables routines 1) (own n rows) (length n.specs) (λ k l.
       block_keeps n net count variables routines 1 f rows (suc k) (inside k l)
       (λ q. scratch_enough n rows (suc k) (length n.specs) (omega arith) (omega (arith, l)) q)))
-      (settle_keeps n net count variables routines 1 f, by_test (nat_lt 0 (port_count n)) some_ports_first)
+      (keep_both (in_functions variables routines 1) (functions_where (not own_texts) (shared n)) (chooses n) (by_own own_texts)
+      (by_choice some_where some_ports_there))
     where
-      some_ports_first : nat_lt 0 (port_count n) ≡ true → 1 ≤ port_count n
-      some_ports_first h = grind (arith, nat_tests)
+      by_clear : (t : Bool) → (t ≡ true → 1 ≤ port_count n) → AllKeep (in_functions variables routines 1) (functions_where t (clear_function n ∷ []))
+      by_clear true some =
+          let l = some refl in (clear_keeps n net count variables routines 1 (finds n rows routines may_assign 1) l (some_specs l), tt)
+      by_clear false some = tt
 
-      by_test : (t : Bool) → (t ≡ true → 1 ≤ port_count n) → AllKeep (in_functions variables routines 1) (functions_where t (before n))
-      by_test true some =
-          let f = finds n rows routines may_assign 1 in
-          let l = some refl in
-          (clear_keeps n net count variables routines 1 f l (some_specs l), (choose_keeps n net count variables routines 1 f l, tt))
-      by_test false some = tt
+      by_own : (o : Bool) → AllKeep (in_functions variables routines 1) (functions_where (not o) (shared n))
+      by_own true = tt
+      by_own false =
+          (settle_keeps n net count variables routines 1 (finds n rows routines may_assign 1) (loop_enough n rows (length n.specs)) (λ b. Marked), by_clear some_where some_ports_there)
 
-  known_block : (routines : Name → Option Routine) → AreKnown may_assign 1 routines (blocks n rows ++ other_functions n) → (b : ℕ) → IsBlock n b
+      by_choice : (t : Bool) → (t ≡ true → 1 ≤ port_count n) → AllKeep (in_functions variables routines 1) (functions_where t (choose_function n ∷ []))
+      by_choice true some = (choose_keeps n net count variables routines 1 (finds n rows routines may_assign 1) (some refl), tt)
+      by_choice false some = tt
+
+  known_block : (routines : Name → Option Routine) → AreKnown may_assign 1 routines (blocks n rows ++ others) → (b : ℕ) → IsBlock n b
       → IsKnown may_assign 1 routines (block_name b)
   known_block routines known zero is = absurd (omega (arith, is.least))
   known_block routines known (suc k) is =
-      known_upto may_assign 1 routines (own n rows) (length n.specs) k (omega (arith, is.most))
-      (known_both may_assign 1 routines (blocks n rows) (other_functions n) known).0
+      known_upto may_assign 1 routines (own n rows) (length n.specs) k (omega (arith, is.most)) (known_both may_assign 1 routines (blocks n rows) others known).0
 
-  second_keep : (routines : Name → Option Routine) → AreKnown may_assign 1 routines (blocks n rows ++ other_functions n)
+  -- the functions for all sources
+  shared_known : (routines : Name → Option Routine) → AreKnown may_assign 1 routines (blocks n rows ++ others) → own_texts ≡ false
+      → AreKnown may_assign 1 routines (shared n)
+  shared_known routines known q =
+      known_where may_assign 1 routines (not own_texts) (shared n) (ap not q)
+      (known_both may_assign 1 routines (functions_where (not own_texts) (shared n)) (chooses n)
+      (known_both may_assign 1 routines (blocks n rows) others known).1).0
+
+  settle_known : (routines : Name → Option Routine) → AreKnown may_assign 1 routines (blocks n rows ++ others) → own_texts ≡ false
+      → IsKnown may_assign 1 routines settle_name
+  settle_known routines known q = (shared_known routines known q).0
+
+  clear_known : (routines : Name → Option Routine) → AreKnown may_assign 1 routines (blocks n rows ++ others) → 1 ≤ port_count n → own_texts ≡ false
+      → IsKnown may_assign 1 routines clear_name
+  clear_known routines known l q =
+      (known_where may_assign 1 routines some_where (clear_function n ∷ []) (nat_lt_yes 0 (port_count n) l) (shared_known routines known q).1).0
+
+  choose_known : (routines : Name → Option Routine) → AreKnown may_assign 1 routines (blocks n rows ++ others) → 1 ≤ port_count n
+      → IsKnown may_assign 1 routines choose_name
+  choose_known routines known l =
+      (known_where may_assign 1 routines some_where (choose_function n ∷ []) (nat_lt_yes 0 (port_count n) l)
+      (known_both may_assign 1 routines (functions_where (not own_texts) (shared n)) (chooses n)
+      (known_both may_assign 1 routines (blocks n rows) others known).1).1).0
+
+  second_keep : (routines : Name → Option Routine) → AreKnown may_assign 1 routines (blocks n rows ++ others)
       → AllKeep (in_functions variables routines 2) (sources n rows)
   second_keep routines known =
       keep_upto (in_functions variables routines 2) (source_function n rows) (length (sources_of n)) (λ i l.
-      source_keeps n net count variables routines 2 (finds n rows routines may_assign 2) (known_block routines known) (omega arith) rows free schedule i l)
-
-  -- what the function of one event and sci_main call
-  others_known : (routines : Name → Option Routine) → AreKnown may_assign 1 routines (blocks n rows ++ other_functions n)
-      → AreKnown may_assign 1 routines (other_functions n)
-  others_known routines first = (known_both may_assign 1 routines (blocks n rows) (other_functions n) first).1
-
-  before_known : (routines : Name → Option Routine) → AreKnown may_assign 1 routines (blocks n rows ++ other_functions n) → 1 ≤ port_count n
-      → IsKnown may_assign 1 routines clear_name × IsKnown may_assign 1 routines choose_name
-  before_known routines first l =
-      let r = known_where may_assign 1 routines (nat_lt 0 (port_count n)) (before n) (nat_lt_yes 0 (port_count n) l) (others_known routines first).1 in
-      (r.0, r.1.0)
+      source_keeps n net count variables routines 2 (finds n rows routines may_assign 2) (known_block routines known) (omega arith) (loop_enough n rows (length n.specs)) rows free schedule
+      (settle_known routines known) i l)
 
   source_known : (routines : Name → Option Routine) → AreKnown may_assign 2 routines (sources n rows) → (i : ℕ) → i < length (sources_of n)
       → IsKnown may_assign 2 routines (source_name i)
   source_known routines second i l = known_upto may_assign 2 routines (source_function n rows) (length (sources_of n)) i l second
 
-  third_keep : (routines : Name → Option Routine) → AreKnown may_assign 1 routines (blocks n rows ++ other_functions n)
-      → AreKnown may_assign 2 routines (sources n rows) → AllKeep (in_functions variables routines 3) (event_function n ∷ [])
+  third_keep : (routines : Name → Option Routine) → AreKnown may_assign 1 routines (blocks n rows ++ others)
+      → AreKnown may_assign 2 routines (sources n rows) → AllKeep (in_functions variables routines 3) (event_function own_texts n ∷ [])
   third_keep routines first second = (
-    turn_keeps n count variables routines (finds n rows routines may_assign 3) (others_known routines first).0 (before_known routines first)
+    turn_keeps n own_texts count variables routines (finds n rows routines may_assign 3) (clear_known routines first) (choose_known routines first)
         (source_known routines second),
     tt,
   )
 
-  main_keeps : (routines : Name → Option Routine) → AreKnown may_assign 1 routines (blocks n rows ++ other_functions n)
-      → AreKnown may_assign 2 routines (sources n rows) → AreKnown may_assign 3 routines (event_function n ∷ [])
+  main_keeps : (routines : Name → Option Routine) → AreKnown may_assign 1 routines (blocks n rows ++ others)
+      → AreKnown may_assign 2 routines (sources n rows) → AreKnown may_assign 3 routines (event_function own_texts n ∷ [])
       → BlockKeeps (record { kinds = variables; routines = routines; may = λ x. true; depth = 64 }) (Branch ∷ []) (main_text n)
   main_keeps routines first second third =
-      main_text_keeps n net count variables routines (finds n rows routines (λ x. true) 64) (others_known routines first).0
-      (λ l. (before_known routines first l).1) (source_known routines second 0 (omega arith)) third.0
+      main_text_keeps n net count variables routines (finds n rows routines (λ x. true) 64) (choose_known routines first)
+      (source_known routines second 0 (omega arith)) third.0
 
   keeps_rules : KeepsRules (program n rows)
   keeps_rules =
-      program_keeps (declarations n rows) (blocks n rows ++ other_functions n) (sources n rows) (event_function n ∷ []) (main_text n) may_assign
+      program_keeps (declarations n rows) (blocks n rows ++ others) (sources n rows) (event_function own_texts n ∷ []) (main_text n) may_assign
       (variables_new n rows) (sizes_few n net rows) (first_new n rows) (second_new n rows) (third_new n rows) first_keep second_keep third_keep main_keeps
 
 pub program_is_whole : ProgramIsWhole

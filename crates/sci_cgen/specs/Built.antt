@@ -1,16 +1,19 @@
 -- What the builder of a program goes by.
-use Rattle.std.specs.Prelude.{◌≡◌, ℕ, ◌^◌, ◌<◌, Bool, false, List, [], map, length, All}
+use Rattle.std.specs.Prelude.{◌≡◌, ℕ, ◌^◌, ◌<◌, Bool, false, if◌then◌else◌, List, [], map, length, All}
 use Rattle.sci_net.specs.Parts.{Parts, IsBlock, spec_of, numbered}
 use Rattle.sci_reaction.specs.Schedule.{Guard, Entry}
 use Rattle.sci_cgen_blocks.specs.declared.block_layout.Layout.{Layout}
 use Rattle.sci_cgen_blocks.specs.Plain.{plain_places}
-use Rattle.sci_cgen_blocks.specs.Texts.{Places, body_text}
+use Rattle.sci_cgen_blocks.specs.Texts.{Places, fixed, body_text}
 use Rattle.c_ast.specs.Syntax.{Function}
+use Rattle.sci_cgen.specs.declared.parts.Part.{Part}
+use Rattle.sci_cgen.specs.declared.parts.Part.TheVariants.{Absent, Marked}
+use Rattle.sci_cgen.specs.declared.parts.Taking.{Taking}
 use Rattle.sci_cgen.specs.Names.{block_name}
 use Rattle.sci_cgen.specs.Program.{text_where, places_of, is_scheduled}
 
 abbrev pub no_places : Places
-no_places = record { number = 0; ins = []; outs = 0; state = 0; mask = 0 }
+no_places = record { number = 0; ins = []; outs = 0; state = 0; mask = 0; which = fixed 0 }
 
 -- the layout of a block, by its number
 abbrev pub laid_at : List Layout → ℕ → Places
@@ -34,6 +37,10 @@ AreNamed n row = All (IsNamed n) row
 pub record AreMarked (n : Parts) (rows : List (List Entry)) (marks : List Bool) : Type 0 where
   pub one_each : length marks ≡ length n.specs
   pub each : (b : ℕ) → IsBlock n b → numbered false marks b ≡ is_scheduled rows b
+
+-- how a block takes part in a text
+abbrev pub takes : Taking → ℕ → Part
+takes t b = if t.own then numbered Absent t.parts.items b else Marked
 
 -- the function of a block, with a body where the schedule has an entry of it
 abbrev pub marked_function : Parts → Bool → ℕ → Function

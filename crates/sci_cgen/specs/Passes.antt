@@ -72,11 +72,11 @@ abbrev pub cursors : Parts → Memory → (ℕ → Bool) → ℕ → ℕ
 cursors n m active b = if active b then (if is_sensor (spec_of n b).kind then m.cursor b + 1 else m.cursor b) else m.cursor b
 
 -- What a memory shows of a pass in which these entries are done.
-pub record HasPassed (n : Parts) (scratch : ℕ) (i : Columns) (m : Memory) (s : Source) (done : List Entry) (before w : World) : Type 0 where
+pub record HasPassed (n : Parts) (scratch : ℕ) (i : Columns) (asked told : ℕ → Bool) (m : Memory) (s : Source) (done : List Entry) (before w : World) : Type 0 where
   pub found : Progress
   pub front : IsFront n m i s (blocks_of done) found
   pub in_range : AreInRange n found.values
-  pub shows : ShowsPass n scratch i (cursors n m found.applied) found before w
+  pub shows : ShowsPass n scratch i asked told (cursors n m found.applied) found before w
 
 -- the date of an event is shown, where the source isn't start
 abbrev pub IsDated : Source → ℕ → World → Type 0
@@ -84,11 +84,11 @@ IsDated Start date w = Unit {0}
 IsDated (Port q) date w = get w now_name 0 ≡ Some (pos date)
 
 -- Behind these observations a run goes on from the pass's end.
-pub record PassEnds (n : Parts) (scratch : ℕ) (i : Columns) (m : Memory) (s : Source) (row : List Entry) (before : World)
+pub record PassEnds (n : Parts) (scratch : ℕ) (i : Columns) (asked told : ℕ → Bool) (m : Memory) (s : Source) (row : List Entry) (before : World)
     (seen : List Obs) (r : Ran) : Type 0 where
   pub to : World
   pub is : r ≡ record { seen = seen; how = going to }
-  pub holds : HasPassed n scratch i m s row before to
+  pub holds : HasPassed n scratch i asked told m s row before to
 
 -- Behind these observations a run ends by the stop of the pass.
 pub record PassStops (n : Parts) (i : Columns) (m : Memory) (s : Source) (seen : List Obs) (r : Ran) : Type 0 where
@@ -98,5 +98,5 @@ pub record PassStops (n : Parts) (i : Columns) (m : Memory) (s : Source) (seen :
   pub is : r ≡ record { seen = seen ++ Stop word (pos block) (pos 0) ∷ []; how = halted }
 
 -- A run does the pass over a row.
-abbrev pub Passes : Parts → ℕ → Columns → Memory → Source → List Entry → World → List Obs → Ran → Type 0
-Passes n scratch i m s row before seen r = PassEnds n scratch i m s row before seen r ⊎ PassStops n i m s seen r
+abbrev pub Passes : Parts → ℕ → Columns → (asked told : ℕ → Bool) → Memory → Source → List Entry → World → List Obs → Ran → Type 0
+Passes n scratch i asked told m s row before seen r = PassEnds n scratch i asked told m s row before seen r ⊎ PassStops n i m s seen r

@@ -1,5 +1,5 @@
 -- The C program of a net and its schedule.
-use Rattle.std.specs.Prelude.{ℕ, zero, suc, ◌+◌, ◌-◌, ◌^◌, ℤ, pos, negsuc, Bool, true, false, ◌||◌, not, nat_eq, nat_lt, List, [], ◌∷◌, ◌++◌, length, map, max, slice_index_or, if◌then◌else◌, Some, None}
+use Rattle.std.specs.Prelude.{ℕ, zero, suc, ◌+◌, ◌-◌, ◌*◌, ◌^◌, ℤ, pos, negsuc, Bool, true, false, ◌||◌, ◌&&◌, not, nat_eq, nat_lt, nat_le, List, [], ◌∷◌, ◌++◌, length, map, max, slice_index_or, if◌then◌else◌, Some, None}
 use Rattle.std.specs.List.{list_any}
 use Rattle.std.specs.Int.{bit_at}
 use Rattle.sci_base.specs.Fit.{int_eq}
@@ -24,12 +24,15 @@ use Rattle.sci_span.specs.declared.span.Span.{Span}
 use Rattle.c_ast.specs.declared.Name.{Name}
 use Rattle.c_ast.specs.declared.Bound.TheVariants as bounds
 use Rattle.c_ast.specs.declared.Op.TheVariants.{Add, Sub, Mul, Div, Rem, Lt, Gt, Ge, Eq}
-use Rattle.c_ast.specs.Syntax.{Exp, num, var, bin, scalar, cell, until, limit, start, event, value, finish, Statement, set, ask, choice, loop, call, tell, Block, done, next, Declared, Function, Whole}
+use Rattle.c_ast.specs.Syntax.{Exp, num, var, element, bin, scalar, cell, until, limit, start, event, value, finish, Statement, set, ask, choice, loop, call, tell, Block, done, next, Declared, Function, Whole}
 use Rattle.c_steps.specs.Texts.{number, place, joined, upto}
+use Rattle.sci_cgen_blocks.specs.Terms.{is_looped}
 use Rattle.sci_cgen_blocks.specs.Recipes.{scratch_of}
-use Rattle.sci_cgen_blocks.specs.Texts.{Places, values, states, masks, scratch_name, body_text, next_text, delay_expression, branch_expression}
+use Rattle.sci_cgen_blocks.specs.Texts.{Places, fixed, counted_by, values, states, masks, scratch_name, element_place, body_text, next_text, delay_expression, branch_expression}
 use Rattle.sci_due.specs.Due.{dates, orders, best as chosen_name, scan as scan_name, now as now_name, last as programmed_name, delay as delay_name}
 use Rattle.sci_due.specs.Texts.{at_best, choose_text as choose_of, take_text, program_text}
+use Rattle.sci_cgen.specs.declared.parts.Part.{Part}
+use Rattle.sci_cgen.specs.declared.parts.Part.TheVariants.{Absent, Sure, Marked}
 use Rattle.sci_cgen.specs.Names.{actives, branches, limit_name, until_name, fired_name, halt_name, next_date, block_name, source_name, clear_name, settle_name, choose_name, event_name}
 
 -- ---- words
@@ -79,6 +82,7 @@ places_of n b = record {
   outs = start_of n b;
   state = states_before n.specs (b - 1);
   mask = b - 1;
+  which = fixed 0;
 }
 
 -- ---- functions of blocks
@@ -90,10 +94,47 @@ is_scheduled rows b = list_any (λ row. list_any (nat_eq b) (blocks_of row)) row
 abbrev pub block_function : Parts → List (List Entry) → ℕ → Function
 block_function n rows b = record { name = block_name b; body = text_where (is_scheduled rows b) (body_text (spec_of n b) (places_of n b)) }
 
+-- ---- which texts follow a reaction
+
+-- so many entries at most in all rows
+abbrev pub rows_fit : ℕ → List (List Entry) → Bool
+rows_fit left [] = true
+rows_fit left (row ∷ rows) = nat_le (length row) left && rows_fit (left - length row) rows
+
+-- how many of the first k blocks the schedule has
+abbrev pub scheduled_count : List (List Entry) → ℕ → ℕ
+scheduled_count rows zero = 0
+scheduled_count rows (suc k) = scheduled_count rows k + (if is_scheduled rows (suc k) then 1 else 0)
+
+-- Each source has a text of its own for what follows its reaction, where the rows have at most twice as many entries as blocks are in them. Else the texts would
+-- grow: then one function serves all sources.
+abbrev pub has_own : Parts → List (List Entry) → Bool
+has_own n rows = rows_fit (2 * scheduled_count rows (length n.specs)) rows
+
+-- how a block takes part by the entries of a row: not at all, always, or where it is marked
+abbrev pub part_in : List Entry → ℕ → Part
+part_in [] b = Absent
+part_in (e ∷ es) b = if nat_eq e.block b then (if e.always then Sure else Marked) else part_in es b
+
+-- In a text of its own by the row; in the one for all each block takes part where it is marked.
+abbrev pub part_of : Bool → List Entry → ℕ → Part
+part_of true row = part_in row
+part_of false row = λ b. Marked
+
+abbrev pub is_marked : Part → Bool
+is_marked Marked = true
+is_marked _ = false
+
 -- ---- one reaction
 
 abbrev pub is_active : ℕ → Exp
 is_active b = place actives (b - 1)
+
+-- a text for where block b takes part
+abbrev pub where_part : Part → ℕ → Block → Block
+where_part Absent b t = done
+where_part Sure b t = t
+where_part Marked b t = only_where (is_active b) t
 
 abbrev pub mark : ℕ → Block
 mark b = one (set (cell actives (natural (b - 1))) (natural 1))
@@ -125,10 +166,11 @@ abbrev pub call_text : Parts → ℕ → Block
 call_text n b =
     next (call (block_name b)) (text_where (is_sync (spec_of n b).kind) (one (set (cell branches (natural (b - 1))) (branch_expression (spec_of n b) (places_of n b)))))
 
--- Whether the block is active, its mask where its kind reads it, and its values where it is active.
-abbrev pub entry_text : Parts → Entry → Block
-entry_text n e =
-    joined (text_where e.always (mark e.block))
+-- Whether the block is active, its mask where its kind reads it, and its values where it is active. A block that the source always activates is marked where one
+-- text for all sources follows.
+abbrev pub entry_text : Bool → Parts → Entry → Block
+entry_text own n e =
+    joined (text_where (not own && e.always) (mark e.block))
     (joined (text_where (reads_mask (spec_of n e.block).kind) (one (set (cell masks (natural (e.block - 1))) (natural e.mask))))
     (joined (text_where (not e.always || reads_mask (spec_of n e.block).kind) (texts (guard_text n e) e.guards))
     (if e.always then call_text n e.block else only_where (is_active e.block) (call_text n e.block))))
@@ -137,11 +179,15 @@ abbrev pub header_text : Source → Block
 header_text Start = one (tell start)
 header_text (Port q) = one (tell (event (var now_name) (natural q.block) (natural q.port)))
 
-abbrev pub row_text : Parts → Source → List Entry → Block
-row_text n s row = joined (header_text s) (texts (entry_text n) row)
+-- an entry's block isn't active yet, where it needn't be, and has taken no branch
+abbrev pub cleared_text : Parts → Entry → Block
+cleared_text n e =
+    joined (text_where (not e.always) (one (set (cell actives (natural (e.block - 1))) (natural 0))))
+    (text_where (is_sync (spec_of n e.block).kind) (one (set (cell branches (natural (e.block - 1))) (natural 0))))
 
-abbrev pub source_function : Parts → List (List Entry) → ℕ → Function
-source_function n rows i = record { name = source_name i; body = row_text n (source_of n i) (slice_index_or rows i []) }
+-- the reaction of a source, up to its values
+abbrev pub pass_text : Bool → Parts → Source → List Entry → Block
+pass_text own n s row = joined (header_text s) (joined (text_where own (texts (cleared_text n) row)) (texts (entry_text own n) row))
 
 -- ---- before a reaction, and behind its values
 
@@ -157,35 +203,59 @@ clear_text n =
     one (loop scan_name (bounds.Num (pos (length n.specs)))
     (next (set (cell actives (var scan_name)) (natural 0)) (text_where (has_sync n) (one (set (cell branches (var scan_name)) (natural 0))))))
 
--- the values of elements e + 1 to e + m of an output, the first of which lies at place o
+-- the values of m elements of an output from number e on, the first of which lies at place o
 abbrev pub elements_shown : (block port element place : ℕ) → ℕ → Block
 elements_shown b p e o zero = done
 elements_shown b p e o (suc m) = next (tell (value (natural b) (natural p) (natural e) (place values o))) (elements_shown b p (e + 1) (o + 1) m)
 
+-- those of all m elements in a loop whose counter is a scratch number
+abbrev pub looped_shown : (block port place : ℕ) → ℕ → Statement
+looped_shown b p o m =
+    loop (scratch_name 1) (bounds.Num (pos m))
+    (one (tell (value (natural b) (natural p) (element_place (counted_by 1) 1) (element values (element_place (counted_by 1) o)))))
+
+abbrev pub output_shown : (block port place : ℕ) → ℕ → Block
+output_shown b p o m = if is_looped m then one (looped_shown b p o m) else elements_shown b p 1 o m
+
 abbrev pub outputs_shown : (block port place : ℕ) → List Output → Block
 outputs_shown b p o [] = done
-outputs_shown b p o (q ∷ qs) = joined (elements_shown b p 1 o (elements q)) (outputs_shown b (p + 1) (o + elements q) qs)
+outputs_shown b p o (q ∷ qs) = joined (output_shown b p o (elements q)) (outputs_shown b (p + 1) (o + elements q) qs)
 
 -- the values of an active block are observed
-abbrev pub values_shown : Parts → ℕ → Block
-values_shown n b = text_where (nat_lt 0 (length (spec_of n b).outs)) (only_where (is_active b) (outputs_shown b 1 (start_of n b) (spec_of n b).outs))
+abbrev pub values_shown : Parts → (ℕ → Part) → ℕ → Block
+values_shown n part b = text_where (nat_lt 0 (length (spec_of n b).outs)) (where_part (part b) b (outputs_shown b 1 (start_of n b) (spec_of n b).outs))
 
 -- source i is programmed anew after a delay of 0 or more, where its block is active
-abbrev pub delay_text : Parts → ℕ → Source → Block
-delay_text n i Start = done
-delay_text n i (Port q) =
-    only_where (is_active q.block) (program_text (i - 1) (delay_expression (spec_of n q.block) (places_of n q.block)) done)
+abbrev pub delay_text : Parts → (ℕ → Part) → ℕ → Source → Block
+delay_text n part i Start = done
+delay_text n part i (Port q) =
+    where_part (part q.block) q.block (program_text (i - 1) (delay_expression (spec_of n q.block) (places_of n q.block)) done)
 
-abbrev pub state_text : Parts → ℕ → Block
-state_text n b = text_where (has_state (spec_of n b).kind) (only_where (is_active b) (next_text (spec_of n b) (places_of n b)))
+abbrev pub state_text : Parts → (ℕ → Part) → ℕ → Block
+state_text n part b = text_where (has_state (spec_of n b).kind) (where_part (part b) b (next_text (spec_of n b) (places_of n b)))
 
-abbrev pub halt_text : Parts → ℕ → Block
-halt_text n b = text_where (is_halt (spec_of n b).kind) (only_where (is_active b) (one (set (scalar halt_name) (natural 1))))
+abbrev pub halt_text : Parts → (ℕ → Part) → ℕ → Block
+halt_text n part b = text_where (is_halt (spec_of n b).kind) (where_part (part b) b (one (set (scalar halt_name) (natural 1))))
 
 -- what is observed of the active blocks, what they program, their next states, and whether one halts
-abbrev pub settle_text : Parts → Block
-settle_text n =
-    joined (each_block (values_shown n) n) (joined (each_port (λ i. delay_text n i (source_of n i)) n) (joined (each_block (state_text n) n) (each_block (halt_text n) n)))
+abbrev pub settle_text : Parts → (ℕ → Part) → Block
+settle_text n part =
+    joined (each_block (values_shown n part) n) (joined (each_port (λ i. delay_text n part i (source_of n i)) n)
+    (joined (each_block (state_text n part) n) (each_block (halt_text n part) n)))
+
+-- the text for all sources
+abbrev pub shared_text : Parts → Block
+shared_text n = settle_text n (λ b. Marked)
+
+-- what follows the values of a source's reaction
+abbrev pub following_text : Bool → Parts → List Entry → Block
+following_text own n row = if own then settle_text n (part_in row) else one (call settle_name)
+
+abbrev pub row_text : Bool → Parts → Source → List Entry → Block
+row_text own n s row = joined (pass_text own n s row) (following_text own n row)
+
+abbrev pub source_function : Parts → List (List Entry) → ℕ → Function
+source_function n rows i = record { name = source_name i; body = row_text (has_own n rows) n (source_of n i) (slice_index_or rows i []) }
 
 -- ---- which event fires
 
@@ -201,28 +271,39 @@ choose_text n = choose_of (port_count n) date_text
 
 -- ---- the run
 
-abbrev pub end_where : Exp → ℕ → Block
-end_where test word = only_where test (one (tell (finish (natural word))))
+-- The run ends with this word where a test isn't 0, and else this is done: where the end returns, nothing is done behind it.
+abbrev pub end_or : Exp → ℕ → Block → Block
+end_or test word rest = one (choice test (one (tell (finish (natural word)))) rest)
 
-abbrev pub halted_text : Parts → Block
-halted_text n = text_where (has_halt n) (end_where (var halt_name) 0)
+-- the run ends where a HALT_f was active, and else this is done
+abbrev pub halted_or : Parts → Block → Block
+halted_or n rest = if has_halt n then end_or (var halt_name) 0 rest else rest
+
+-- Of c sources from place i on, counted from 0 without start, the chosen one reacts. There are 2^d at most, and as long as there are more than half of that, a
+-- test tells in which half it is.
+unfoldable pub react_step : (d i c : ℕ) → Statement
+react_step zero i c = call (source_name (suc i))
+react_step (suc d) i c =
+    if nat_lt (2 ^ d) c then choice (bin Lt (var chosen_name) (natural (i + 2 ^ d))) (one (react_step d i (2 ^ d))) (one (react_step d (i + 2 ^ d) (c - 2 ^ d)))
+    else react_step d i c
+
+-- a net has 2,048 sources beside start at most
+abbrev pub react_deep : ℕ
+react_deep = 11
 
 -- the chosen event is taken, its source reacts, and the next event is chosen
-abbrev pub fire_text : Parts → Block
-fire_text n =
-    take_text (next (call clear_name)
-    (joined (each_port (λ i. only_where (bin Eq (var chosen_name) (natural (i - 1))) (one (call (source_name i)))) n)
-    (next (call settle_name) (one (call choose_name)))))
+abbrev pub fire_text : Bool → Parts → Block
+fire_text own n = take_text (joined (text_where (not own) (one (call clear_name))) (next (react_step react_deep 0 (port_count n)) (one (call choose_name))))
 
 -- where the run isn't over, its next event fires
-abbrev pub event_text : Parts → Block
-event_text n =
-    if nat_lt 0 (port_count n) then joined (end_where (bin Lt (var next_date) (natural 0)) 2) (joined (end_where (bin Gt (var next_date) (var until_name)) 3) (fire_text n))
+abbrev pub event_text : Bool → Parts → Block
+event_text own n =
+    if nat_lt 0 (port_count n) then end_or (bin Lt (var next_date) (natural 0)) 2 (end_or (bin Gt (var next_date) (var until_name)) 3 (fire_text own n))
     else one (tell (finish (natural 2)))
 
 -- one event, or the end of the run
-abbrev pub turn_text : Parts → Block
-turn_text n = joined (halted_text n) (event_text n)
+abbrev pub turn_text : Bool → Parts → Block
+turn_text own n = halted_or n (event_text own n)
 
 -- a place becomes a number, where it isn't 0 as all are at the beginning
 abbrev pub begun_text : Name → ℕ → ℤ → Block
@@ -272,12 +353,12 @@ first_text n = if nat_lt 0 (port_count n) then one (call choose_name) else one (
 -- what comes before the first event
 abbrev pub begin_text : Parts → Block
 begin_text n =
-    joined (outset_text n) (next (ask (scalar limit_name) limit) (next (call (source_name 0)) (next (call settle_name) (first_text n))))
+    joined (outset_text n) (next (ask (scalar limit_name) limit) (next (call (source_name 0)) (first_text n)))
 
 abbrev pub main_text : Parts → Block
 main_text n =
     joined (begin_text n)
-    (next (loop fired_name (bounds.Var limit_name) (one (call event_name))) (joined (halted_text n) (one (tell (finish (natural 1))))))
+    (next (loop fired_name (bounds.Var limit_name) (one (call event_name))) (halted_or n (one (tell (finish (natural 1))))))
 
 -- ---- the program
 
@@ -290,9 +371,16 @@ declared_where test ds = if test then ds else []
 abbrev pub a_scalar : Name → Declared
 a_scalar x = record { name = x; size = None }
 
--- how many scratch numbers the blocks that the schedule has take
+-- whether the values of an output are observed in a loop
+abbrev pub is_any_looped : List Output → Bool
+is_any_looped qs = list_any (λ q. is_looped (elements q)) qs
+
+abbrev pub has_loop : Parts → Bool
+has_loop n = list_any (λ s. is_any_looped s.outs) n.specs
+
+-- how many scratch numbers such a loop takes, or a block that the schedule has
 abbrev pub scratch_count : Parts → List (List Entry) → ℕ → ℕ
-scratch_count n rows zero = 0
+scratch_count n rows zero = if has_loop n then 1 else 0
 scratch_count n rows (suc k) = max (scratch_count n rows k) (if is_scheduled rows (suc k) then scratch_of (spec_of n (suc k)).kind (spec_of n (suc k)) else 0)
 
 abbrev pub scratch_declared : ℕ → List Declared
@@ -318,22 +406,28 @@ functions_upto f (suc k) = functions_upto f k ++ f k ∷ []
 abbrev pub functions_where : Bool → List Function → List Function
 functions_where test fs = if test then fs else []
 
--- what follows each reaction; and where events fire, what comes before each, and the choice of the next
-abbrev pub other_functions : Parts → List Function
-other_functions n =
-    record { name = settle_name; body = settle_text n }
-    ∷ functions_where (nat_lt 0 (port_count n)) (record { name = clear_name; body = clear_text n } ∷ record { name = choose_name; body = choose_text n } ∷ [])
+-- for all sources what follows a reaction, and where events fire, what comes before each
+abbrev pub shared_functions : Parts → List Function
+shared_functions n =
+    record { name = settle_name; body = shared_text n } ∷ functions_where (nat_lt 0 (port_count n)) (record { name = clear_name; body = clear_text n } ∷ [])
+
+-- these where the sources have no texts of their own; and where events fire, the choice of the next
+abbrev pub other_functions : Bool → Parts → List Function
+other_functions own n =
+    functions_where (not own) (shared_functions n)
+    ++ functions_where (nat_lt 0 (port_count n)) (record { name = choose_name; body = choose_text n } ∷ [])
 
 -- what sci_main and the function of one event call
 abbrev pub called_functions : Parts → List (List Entry) → List Function
 called_functions n rows =
-    functions_upto (λ k. block_function n rows (suc k)) (length n.specs) ++ other_functions n ++ functions_upto (source_function n rows) (length (sources_of n))
+    functions_upto (λ k. block_function n rows (suc k)) (length n.specs) ++ other_functions (has_own n rows) n
+    ++ functions_upto (source_function n rows) (length (sources_of n))
 
-abbrev pub event_function : Parts → Function
-event_function n = record { name = event_name; body = turn_text n }
+abbrev pub event_function : Bool → Parts → Function
+event_function own n = record { name = event_name; body = turn_text own n }
 
 abbrev pub functions : Parts → List (List Entry) → List Function
-functions n rows = called_functions n rows ++ event_function n ∷ []
+functions n rows = called_functions n rows ++ event_function (has_own n rows) n ∷ []
 
 -- the program of a net with its schedule's rows, one for each source
 abbrev pub program : Parts → List (List Entry) → Whole

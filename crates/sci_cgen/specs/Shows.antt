@@ -1,5 +1,6 @@
 -- What the memory of the generated program shows of a net's run: between two reactions, and in the midst of one.
-use Rattle.std.specs.Prelude.{◌≡◌, ℕ, ◌+◌, ◌-◌, ◌<◌, ◌≤◌, ℤ, pos, ◌||◌, List, [], drop, Bool, true, false, Some, if◌then◌else◌}
+use Rattle.std.specs.Prelude.{◌≡◌, ℕ, ◌+◌, ◌-◌, ◌<◌, ◌≤◌, ℤ, pos, ◌||◌, List, [], drop, Bool, true, false, not, nat_eq, Some, if◌then◌else◌}
+use Rattle.std.specs.List.{list_any}
 use Rattle.sci_base.specs.Lists.{at}
 use Rattle.sci_forms.specs.Ports.{total}
 use Rattle.sci_forms.specs.Form.{is_sync}
@@ -8,6 +9,7 @@ use Rattle.sci_net.specs.Parts.{Parts, IsBlock, IsSensor, numbered, spec_of, col
 use Rattle.sci_reaction.specs.Memory.{Columns}
 use Rattle.sci_reaction.specs.Equations.{Signals, input_in, branch_on}
 use Rattle.sci_reaction.specs.Pass.{Progress}
+use Rattle.sci_reaction.specs.Schedule.{Entry, blocks_of}
 use Rattle.sci_run.specs.Activity.{Activity, halts}
 use Rattle.sci_run.specs.Run.{State}
 use Rattle.sci_places.specs.Flat.{start_of}
@@ -18,7 +20,9 @@ use Rattle.sci_cgen_blocks.specs.Texts.{values, states, masks, scratch_name}
 use Rattle.sci_due.specs.Due.{best as chosen_name, scan as scan_name, now as now_name, delay as delay_name}
 use Rattle.sci_due.specs.Laws.{ShowsPending}
 use Rattle.sci_cgen.specs.Names.{actives, branches, limit_name, until_name, halt_name}
-use Rattle.sci_cgen.specs.Program.{places_of, has_sync, has_halt, port_count}
+use Rattle.sci_cgen.specs.declared.parts.Part.{Part}
+use Rattle.sci_cgen.specs.declared.parts.Part.TheVariants.{Absent, Sure, Marked}
+use Rattle.sci_cgen.specs.Program.{places_of, has_sync, has_halt, port_count, part_of, is_marked}
 use Rattle.sci_forms.specs.Form.{reads_mask}
 
 -- the values of all outputs
@@ -33,16 +37,32 @@ pub record ShowsStates (n : Parts) (x : ℕ → List ℤ) (w : World) : Type 0 w
 pub record ShowsColumns (n : Parts) (i : Columns) (cursor : ℕ → ℕ) (w : World) : Type 0 where
   pub each : (b : ℕ) → IsSensor n b → numbered [] w.left (column_of (spec_of n b)) ≡ drop (cursor b) (numbered [] i (column_of (spec_of n b)))
 
+-- of a block that takes part so, whether it is active: one that is marked by its mark
+abbrev pub Acts : Part → Bool → World → ℕ → Type 0
+Acts Absent a w b = a ≡ false
+Acts Sure a w b = a ≡ true
+Acts Marked a w b = get w actives (b - 1) ≡ Some (truth a)
+
 -- which blocks are active
-pub record ShowsActive (n : Parts) (active : Activity) (w : World) : Type 0 where
-  pub each : (b : ℕ) → IsBlock n b → get w actives (b - 1) ≡ Some (truth (active b))
+pub record ShowsActive (n : Parts) (part : ℕ → Part) (active : Activity) (w : World) : Type 0 where
+  pub each : (b : ℕ) → IsBlock n b → Acts (part b) (active b) w b
+
+-- the marks of these blocks
+pub record ShowsMarks (n : Parts) (asked : ℕ → Bool) (active : Activity) (w : World) : Type 0 where
+  pub each : (b : ℕ) → IsBlock n b → asked b ≡ true → get w actives (b - 1) ≡ Some (truth (active b))
 
 -- the branch that a synchronous block has taken in a pass so far, 0 where its entry didn't apply
 abbrev pub branch_so_far : Parts → Progress → ℕ → ℕ
 branch_so_far n g b = if g.applied b then branch_on (spec_of n b) (input_in n g.values b) else 0
 
-pub record ShowsBranches (n : Parts) (g : Progress) (w : World) : Type 0 where
-  pub each : (b : ℕ) → IsBlock n b → is_sync (spec_of n b).kind ≡ true → get w branches (b - 1) ≡ Some (pos (branch_so_far n g b))
+-- of these blocks
+pub record ShowsBranches (n : Parts) (told : ℕ → Bool) (g : Progress) (w : World) : Type 0 where
+  pub each : (b : ℕ) → IsBlock n b → told b ≡ true → is_sync (spec_of n b).kind ≡ true → get w branches (b - 1) ≡ Some (pos (branch_so_far n g b))
+
+-- no block is marked as active, and none has taken a branch
+pub record IsIdle (n : Parts) (w : World) : Type 0 where
+  pub actives : (b : ℕ) → IsBlock n b → get w actives (b - 1) ≡ Some (pos 0)
+  pub branches : (b : ℕ) → IsBlock n b → is_sync (spec_of n b).kind ≡ true → get w branches (b - 1) ≡ Some (pos 0)
 
 -- The places that each reaction writes before it reads them: masks and scratch, branches where there are synchronous blocks, and three scalars where there are sources
 -- beside start. Masks of blocks that don't read theirs are never written, and stay 0.
@@ -72,16 +92,23 @@ pub record ShowsState (n : Parts) (scratch : ℕ) (i : Columns) (until limit : �
   pub bounds : ShowsBounds n until limit w
   pub room : HasRoom n scratch w
 
+-- the blocks whose marks the texts of a source ask about, and those whose branches they do
+abbrev pub is_asked : Bool → List Entry → ℕ → Bool
+is_asked own row b = is_marked (part_of own row b)
+
+abbrev pub is_told : Bool → List Entry → ℕ → Bool
+is_told own row b = not own || list_any (nat_eq b) (blocks_of row)
+
 -- the names that a pass assigns
 abbrev pub is_worked : Name → Bool
 is_worked x = is_scratch x || (same_name values x || (same_name masks x || (same_name actives x || same_name branches x)))
 
 -- In the midst of the pass over a source's row: what it has found, and how far sensors have come; what a reaction leaves alone until its values are known is as it
--- was in the memory before.
-pub record ShowsPass (n : Parts) (scratch : ℕ) (i : Columns) (cursor : ℕ → ℕ) (g : Progress) (before w : World) : Type 0 where
+-- was in the memory before. Marks and branches are those of the blocks that the source's texts ask about.
+pub record ShowsPass (n : Parts) (scratch : ℕ) (i : Columns) (asked told : ℕ → Bool) (cursor : ℕ → ℕ) (g : Progress) (before w : World) : Type 0 where
   pub values : ShowsValues n g.values w
-  pub active : ShowsActive n g.applied w
-  pub branches : ShowsBranches n g w
+  pub marks : ShowsMarks n asked g.applied w
+  pub branches : ShowsBranches n told g w
   pub columns : ShowsColumns n i cursor w
   pub room : HasRoom n scratch w
   pub kept : (x : Name) (k : ℕ) → is_worked x ≡ false → get w x k ≡ get before x k

@@ -1,5 +1,5 @@
 // Where the values of all blocks lie, and which blocks a schedule has.
-ghost use Rattle.std.specs.Prelude.{ℕ, ◌≡◌, ◌-◌, ◌<◌, ◌≤◌, ◌^◌, ◌||◌, false, nat_eq, length, map, IfOk, All};
+ghost use Rattle.std.specs.Prelude.{ℕ, ◌≡◌, ◌-◌, ◌<◌, ◌≤◌, ◌^◌, ◌||◌, [], false, nat_eq, length, map, slice_index_or, IfOk, All};
 ghost use Rattle.std.specs.List.{list_any};
 ghost use Rattle.sci_net.specs.Parts.{IsBlock, numbered};
 ghost use Rattle.sci_reaction.specs.Schedule.{blocks_of};
@@ -66,6 +66,15 @@ pub(crate) fn layouts(alloc: Global, net: &Net) -> Result<Vec<Layout>, NoMemory>
         state += net.spec(block + 1).state_len() as u32;
     }
     Ok(layouts)
+}
+
+/// The row of a source.
+#[tactic(auto, using(crate::proofs::EmitLemmas::row_at))]
+pub(crate) fn row(schedule: &Schedule, source: u32) -> &[Entry]
+    requires { source < length (rows_of schedule.now) }
+    ensures { row_of result.now ≡ slice_index_or (rows_of schedule.now) source [] }
+{
+    schedule.rows[source as usize].as_slice()
 }
 
 /// Marks the blocks of a row's entries.

@@ -1,19 +1,21 @@
 // The declarations of a program, and what decides them.
 ghost use Rattle.std.specs.Prelude.{◌≡◌, ◌+◌, ◌<◌, ◌≤◌, ◌^◌, ◌++◌, ◌∷◌, [], List, false, nat_lt, if◌then◌else◌, map, length, IfOk, OnOk};
 ghost use Rattle.c_ast.specs.View.{declared_of};
-ghost use Rattle.sci_forms.specs.Ports.{total};
+ghost use Rattle.sci_forms.specs.Ports.{total, elements};
 ghost use Rattle.sci_net.specs.Parts.{numbered, spec_of};
 ghost use Rattle.sci_net.specs.Net.{all_elements};
 ghost use Rattle.sci_forms.specs.Form.{is_halt as is_halt_of};
 ghost use Rattle.sci_reaction.specs.Schedule.{Entry as PlainEntry};
 ghost use Rattle.sci_due.specs.Due.{dates as dates_name, orders as orders_name, best as chosen_name, scan as scan_name, now as now_name};
 ghost use Rattle.sci_due.specs.Due.{last as programmed_name, delay as delay_name};
+ghost use Rattle.sci_cgen_blocks.specs.Terms.{is_looped as is_looped_by_count};
 ghost use Rattle.sci_cgen_blocks.specs.Recipes.{scratch_of as scratch_of_kind};
 ghost use Rattle.sci_cgen_blocks.specs.Texts.{values as values_name, states as states_name, masks as masks_name};
 ghost use Rattle.sci_cgen.specs.Names.{actives as actives_name, branches as branches_name, limit_name, fired_name, next_date as next_date_name};
 ghost use Rattle.sci_cgen.specs.Names.{until_name, halt_name};
 ghost use Rattle.sci_cgen.specs.Program.{declarations as declarations_of, has_sync as has_sync_of, has_halt as has_halt_of, port_count as port_count_of};
-ghost use Rattle.sci_cgen.specs.Program.{states_before, array as array_of, a_scalar, declared_where, scratch_count as scratch_count_of, scratch_declared};
+ghost use Rattle.sci_cgen.specs.Program.{states_before, array as array_of, a_scalar, declared_where, is_any_looped as is_any_looped_of, has_loop as has_loop_of};
+ghost use Rattle.sci_cgen.specs.Program.{scratch_count as scratch_count_of, scratch_declared};
 ghost use Rattle.sci_cgen.specs.Built.{AreMarked};
 
 use crate::names::{
@@ -24,7 +26,7 @@ use c_ast::{Decl, Name};
 use sci_base::NoMemory;
 use sci_cgen_blocks::array_names::{masks, scratch, states, values};
 use sci_cgen_blocks::scratch_of;
-use sci_forms::Ports;
+use sci_forms::{Port, Ports};
 use sci_net::Net;
 use std::alloc::Global;
 
@@ -99,7 +101,7 @@ fn state_count(net: &Net) -> u32
 }
 
 /// Whether a block is marked.
-fn is_marked(marks: &[bool], block: u32) -> bool
+pub(crate) fn is_marked(marks: &[bool], block: u32) -> bool
     requires { 1 ≤ block }
     ensures { result ≡ numbered false marks.now block }
 {
@@ -120,11 +122,49 @@ fn scratch_at(net: &Net, marks: &[bool], block: u32) -> u32
     }
 }
 
-/// How many scratch numbers the marked blocks take.
+/// Whether the values of an output are observed in a loop.
+fn is_looped(output: Port) -> bool
+    ensures { result ≡ is_looped_by_count (elements output) }
+{
+    2 < output.elements()
+}
+
+/// Whether those of one of these outputs are.
+fn is_any_looped(outs: &Ports) -> bool
+    ensures { result ≡ is_any_looped_of outs.now }
+{
+    for port in 0..outs.len() {
+        if is_looped(outs.get(port)) {
+            return true;
+        }
+    }
+    false
+}
+
+/// Whether those of an output of the net are.
+fn has_loop(net: &Net) -> bool
+    ensures { result ≡ has_loop_of net.now }
+{
+    for at in 0..net.len() {
+        if is_any_looped(&net.spec(at + 1).outs) {
+            return true;
+        }
+    }
+    false
+}
+
+/// How many scratch numbers such a loop takes.
+fn loop_count(net: &Net) -> u32
+    ensures { result ≡ (if has_loop_of net.now then 1 else 0) }
+{
+    if has_loop(net) { 1 } else { 0 }
+}
+
+/// How many scratch numbers it takes, or a marked block.
 fn scratch_count(net: &Net, marks: &[bool]) -> u32
     ensures { (rows : List (List PlainEntry)) → AreMarked net.now rows marks.now → result ≡ scratch_count_of net.now rows (length net.now.specs) }
 {
-    let mut count = 0;
+    let mut count = loop_count(net);
     for at in 0..net.len() {
         count = count.max(scratch_at(net, marks, at + 1));
     }

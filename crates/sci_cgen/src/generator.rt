@@ -1,24 +1,26 @@
 // The whole program.
-ghost use Rattle.std.specs.Prelude.{◌≡◌, suc, [], false, ◌<◌, ◌++◌, map, length, slice_index_or, All, IfOk, OnOk};
+ghost use Rattle.std.specs.Prelude.{◌≡◌, suc, [], ◌∷◌, false, not, nat_lt, ◌<◌, ◌++◌, map, length, slice_index_or, All, IfOk, OnOk};
 ghost use Rattle.c_ast.specs.View.{function_of, statements_of, whole_of};
 ghost use Rattle.sci_net.specs.Parts.{IsBlock, spec_of};
 ghost use Rattle.sci_net.specs.Sources.{sources_of, source_of};
 ghost use Rattle.sci_sched.specs.Plain.{row_of, rows_of};
 ghost use Rattle.sci_sched.specs.Answer.{IsPlan};
 ghost use Rattle.sci_cgen_blocks.specs.Texts.{body_text};
-ghost use Rattle.sci_cgen.specs.Names.{source_name};
-ghost use Rattle.sci_cgen.specs.Program.{text_where, places_of, functions_upto, source_function as source_function_of, other_functions};
+ghost use Rattle.sci_cgen.specs.Names.{source_name, settle_name, clear_name, choose_name};
+ghost use Rattle.sci_cgen.specs.Program.{text_where, places_of, has_own as has_own_of, functions_upto, functions_where, shared_functions, source_function as source_function_of, other_functions};
 ghost use Rattle.sci_cgen.specs.Program.{row_text as row_text_of, called_functions as called_functions_of, event_function as event_function_of};
+ghost use Rattle.sci_cgen.specs.Program.{port_count as port_count_of, shared_text, clear_text as clear_text_of, choose_text as choose_text_of};
 ghost use Rattle.sci_cgen.specs.Program.{functions as functions_of, program};
 ghost use Rattle.sci_cgen.specs.Built.{AreLaid, AreNamed, AreMarked, marked_function};
 
-use crate::block_layouts::{layouts, scheduled};
+use crate::block_layouts::{layouts, row, scheduled};
 use crate::declared_names::{declarations, port_count};
 use crate::names;
+use crate::parts::{has_own, marked_taking};
 use crate::pieces::layout;
 use crate::row_texts::row_text;
 use crate::run_texts::{choose_text, clear_text, main_text, turn_text};
-use crate::settle_texts::settle_text;
+use crate::settle_texts::push_settle;
 use c_ast::{Func, Program, Stmt};
 use sci_base::NoMemory;
 use sci_cgen_blocks::{Layout, block_body};
@@ -82,25 +84,59 @@ fn push_block_functions(
     Ok(())
 }
 
-/// What follows each reaction; and where events fire, what comes before each, and the choice of the next.
-fn push_other_functions(
-    alloc: Global,
-    funcs: &mut Vec<Func>,
-    net: &Net,
-    layouts: &[Layout],
-) -> Result<(), NoMemory>
-    requires laid { AreLaid net.now layouts.now }
-    ensures { OnOk result (map function_of funcs.new.items ≡ map function_of funcs.old.items ++ other_functions net.now) }
+/// What follows each reaction, in one text for all sources.
+fn settle_function(alloc: Global, net: &Net, layouts: &[Layout]) -> Result<Func, NoMemory>
+    requires { AreLaid net.now layouts.now }
+    ensures { IfOk result (λ f. function_of f ≡ record { name = settle_name; body = shared_text net.now }) }
 {
-    funcs.push(Func {
+    let taking = marked_taking(alloc);
+    let mut body = Vec::new(alloc);
+    push_settle(alloc, &mut body, net, layouts, &taking)?;
+    Ok(Func {
         name: names::settle(),
-        body: settle_text(alloc, net, layouts)?,
-    })?;
+        body,
+    })
+}
+
+/// What comes before each reaction, where events fire.
+fn push_clear_function(alloc: Global, funcs: &mut Vec<Func>, net: &Net) -> Result<(), NoMemory>
+    ensures { OnOk result (map function_of funcs.new.items ≡ map function_of funcs.old.items
+        ++ functions_where (nat_lt 0 (port_count_of net.now)) (record { name = clear_name; body = clear_text_of net.now } ∷ [])) }
+{
     if port_count(net) > 0 {
         funcs.push(Func {
             name: names::clear(),
             body: clear_text(alloc, net)?,
         })?;
+    }
+    Ok(())
+}
+
+/// What follows each reaction, and where events fire, what comes before each: for all sources, where they have no texts of their own.
+fn push_shared_functions(
+    alloc: Global,
+    funcs: &mut Vec<Func>,
+    net: &Net,
+    layouts: &[Layout],
+    own: bool,
+) -> Result<(), NoMemory>
+    requires laid { AreLaid net.now layouts.now }
+    ensures { OnOk result (map function_of funcs.new.items ≡ map function_of funcs.old.items ++ functions_where (not own) (shared_functions net.now)) }
+{
+    if own {
+        return Ok(());
+    }
+    funcs.push(settle_function(alloc, net, layouts)?)?;
+    push_clear_function(alloc, funcs, net)?;
+    Ok(())
+}
+
+/// The choice of the next event, where events fire.
+fn push_choose_function(alloc: Global, funcs: &mut Vec<Func>, net: &Net) -> Result<(), NoMemory>
+    ensures { OnOk result (map function_of funcs.new.items ≡ map function_of funcs.old.items
+        ++ functions_where (nat_lt 0 (port_count_of net.now)) (record { name = choose_name; body = choose_text_of net.now } ∷ [])) }
+{
+    if port_count(net) > 0 {
         funcs.push(Func {
             name: names::choose(),
             body: choose_text(alloc, net)?,
@@ -109,32 +145,40 @@ fn push_other_functions(
     Ok(())
 }
 
+/// The functions for all sources, and the choice of the next event.
+fn push_other_functions(
+    alloc: Global,
+    funcs: &mut Vec<Func>,
+    net: &Net,
+    layouts: &[Layout],
+    own: bool,
+) -> Result<(), NoMemory>
+    requires laid { AreLaid net.now layouts.now }
+    ensures { OnOk result (map function_of funcs.new.items ≡ map function_of funcs.old.items ++ other_functions own net.now) }
+{
+    push_shared_functions(alloc, funcs, net, layouts, own)?;
+    push_choose_function(alloc, funcs, net)?;
+    Ok(())
+}
+
 /// The function of a source.
 fn source_function(
     alloc: Global,
     net: &Net,
     layouts: &[Layout],
+    own: bool,
     source: u32,
     row: &[Entry],
 ) -> Result<Func, NoMemory>
     requires laid { AreLaid net.now layouts.now }
     requires source { source < length (sources_of net.now) }
     requires named { AreNamed net.now (row_of row.now) }
-    ensures { IfOk result (λ f. function_of f ≡ record { name = source_name source; body = row_text_of net.now (source_of net.now source) (row_of row.now) }) }
+    ensures { IfOk result (λ f. function_of f ≡ record { name = source_name source; body = row_text_of own net.now (source_of net.now source) (row_of row.now) }) }
 {
     Ok(Func {
         name: names::source_function(source),
-        body: row_text(alloc, net, layouts, net.source(source), row)?,
+        body: row_text(alloc, net, layouts, own, net.source(source), row)?,
     })
-}
-
-/// The row of a source.
-#[tactic(auto, using(crate::proofs::EmitLemmas::row_at))]
-fn row(schedule: &Schedule, source: u32) -> &[Entry]
-    requires { source < length (rows_of schedule.now) }
-    ensures { row_of result.now ≡ slice_index_or (rows_of schedule.now) source [] }
-{
-    schedule.rows[source as usize].as_slice()
 }
 
 /// The functions of all sources.
@@ -143,9 +187,11 @@ fn push_source_functions(
     funcs: &mut Vec<Func>,
     net: &Net,
     layouts: &[Layout],
+    own: bool,
     schedule: &Schedule,
 ) -> Result<(), NoMemory>
     requires laid { AreLaid net.now layouts.now }
+    requires own { own ≡ has_own_of net.now (rows_of schedule.now) }
     requires named { All (AreNamed net.now) (rows_of schedule.now) }
     requires rows { length (rows_of schedule.now) ≡ length (sources_of net.now) }
     ensures { OnOk result (map function_of funcs.new.items ≡ map function_of funcs.old.items
@@ -153,7 +199,7 @@ fn push_source_functions(
 {
     for source in 0..net.source_count() {
         let row = row(schedule, source);
-        funcs.push(source_function(alloc, net, layouts, source, row)?)?;
+        funcs.push(source_function(alloc, net, layouts, own, source, row)?)?;
     }
     Ok(())
 }
@@ -164,28 +210,30 @@ fn called_functions(
     net: &Net,
     layouts: &[Layout],
     marks: &[bool],
+    own: bool,
     schedule: &Schedule,
 ) -> Result<Vec<Func>, NoMemory>
     requires laid { AreLaid net.now layouts.now }
     requires marked { AreMarked net.now (rows_of schedule.now) marks.now }
+    requires own { own ≡ has_own_of net.now (rows_of schedule.now) }
     requires named { All (AreNamed net.now) (rows_of schedule.now) }
     requires rows { length (rows_of schedule.now) ≡ length (sources_of net.now) }
     ensures { IfOk result (λ v. map function_of v.items ≡ called_functions_of net.now (rows_of schedule.now)) }
 {
     let mut funcs = Vec::new(alloc);
     push_block_functions(alloc, &mut funcs, net, layouts, marks)?;
-    push_other_functions(alloc, &mut funcs, net, layouts)?;
-    push_source_functions(alloc, &mut funcs, net, layouts, schedule)?;
+    push_other_functions(alloc, &mut funcs, net, layouts, own)?;
+    push_source_functions(alloc, &mut funcs, net, layouts, own, schedule)?;
     Ok(funcs)
 }
 
 /// The function of one event.
-fn event_function(alloc: Global, net: &Net) -> Result<Func, NoMemory>
-    ensures { IfOk result (λ f. function_of f ≡ event_function_of net.now) }
+fn event_function(alloc: Global, net: &Net, own: bool) -> Result<Func, NoMemory>
+    ensures { IfOk result (λ f. function_of f ≡ event_function_of own net.now) }
 {
     Ok(Func {
         name: names::event(),
-        body: turn_text(alloc, net)?,
+        body: turn_text(alloc, net, own)?,
     })
 }
 
@@ -203,8 +251,9 @@ fn functions(
     requires rows { length (rows_of schedule.now) ≡ length (sources_of net.now) }
     ensures { IfOk result (λ v. map function_of v.items ≡ functions_of net.now (rows_of schedule.now)) }
 {
-    let mut funcs = called_functions(alloc, net, layouts, marks, schedule)?;
-    funcs.push(event_function(alloc, net)?)?;
+    let own = has_own(net, marks, schedule);
+    let mut funcs = called_functions(alloc, net, layouts, marks, own, schedule)?;
+    funcs.push(event_function(alloc, net, own)?)?;
     Ok(funcs)
 }
 

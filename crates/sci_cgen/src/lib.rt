@@ -7,6 +7,7 @@ mod generator;
 mod laws;
 mod names;
 mod outset_texts;
+mod parts;
 mod pieces;
 mod row_texts;
 mod run_texts;
@@ -14,3 +15,4 @@ mod settle_texts;
 
 pub use generator::emit;
 pub use laws::{block_functions_law, program_law, steps_law, whole_law};
+pub use parts::Part;

@@ -42,6 +42,16 @@ pub(crate) fn push(out: &mut Vec<Stmt>, statement: Stmt) -> Result<(), NoMemory>
     Ok(())
 }
 
+/// Statements more.
+#[tactic(auto, using(crate::proofs::RunLemmas::statements_appended))]
+pub(crate) fn push_all(out: &mut Vec<Stmt>, statements: Vec<Stmt>) -> Result<(), NoMemory>
+    ensures { OnOk result (statements_of out.new.items ≡ joined (statements_of out.old.items) (statements_of statements.items)) }
+{
+    let mut statements = statements;
+    out.append(&mut statements)?;
+    Ok(())
+}
+
 /// Statements for where a test isn't 0.
 pub(crate) fn push_where(
     alloc: Global,

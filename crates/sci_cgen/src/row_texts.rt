@@ -1,5 +1,5 @@
-// The text of a source: its observation, and the entries of its row.
-ghost use Rattle.std.specs.Prelude.{◌≡◌, ◌≤◌, ◌<◌, ◌^◌, ◌-◌, ◌||◌, true, not, nat_eq, length, All, IfOk, OnOk, if◌then◌else◌};
+// The text of a source: its observation, the entries of its row, and what follows them.
+ghost use Rattle.std.specs.Prelude.{◌≡◌, ◌≤◌, ◌<◌, ◌^◌, ◌-◌, ◌||◌, ◌&&◌, true, not, nat_eq, length, All, IfOk, OnOk, if◌then◌else◌};
 ghost use Rattle.std.specs.Int.{bit_at};
 ghost use Rattle.c_ast.specs.Syntax.{bin as operation, set as assign, cell as cell_of};
 ghost use Rattle.c_ast.specs.declared.Op.TheVariants as ops;
@@ -11,15 +11,18 @@ ghost use Rattle.sci_reaction.specs.Schedule.{Guard as PlainGuard};
 ghost use Rattle.sci_sched.specs.Plain.{row_of};
 ghost use Rattle.sci_reaction.specs.Kept.{guard_of, guards_of, entry_of};
 ghost use Rattle.sci_cgen_blocks.specs.Texts.{masks as masks_name, branch_expression};
-ghost use Rattle.sci_cgen.specs.Names.{branches as branches_name};
+ghost use Rattle.sci_cgen.specs.Names.{actives as actives_name, branches as branches_name};
 ghost use Rattle.sci_cgen.specs.Program.{natural as natural_of, one, texts, text_where, only_where as only_where_of, places_of};
 ghost use Rattle.sci_cgen.specs.Program.{is_active, mark, mask_cell, with_bit, with_bits, is_taken};
 ghost use Rattle.sci_forms.specs.Form.{reads_mask};
-ghost use Rattle.sci_cgen.specs.Program.{guard_text, call_text, entry_text, header_text, row_text as row_text_of};
+ghost use Rattle.sci_cgen.specs.Program.{guard_text, call_text, entry_text, cleared_text, header_text, pass_text as pass_text_of};
+ghost use Rattle.sci_cgen.specs.Program.{part_in, settle_text, following_text, row_text as row_text_of};
 ghost use Rattle.sci_cgen.specs.Built.{AreLaid, IsNamed, AreNamed};
 
-use crate::names::{actives, block_function, branches, now};
+use crate::names::{actives, block_function, branches, now, settle};
+use crate::parts::row_taking;
 use crate::pieces::{cell, layout, natural, push, push_where, set_natural};
+use crate::settle_texts::push_settle;
 use c_ast::{Expr, Op, Stmt, Tell};
 use sci_base::NoMemory;
 use sci_cgen_blocks::array_names::masks;
@@ -352,19 +355,27 @@ fn push_values(
     }
 }
 
+/// Whether an entry marks its block whatever is taken, as in the text for all sources.
+fn marks_first(own: bool, entry: &Entry) -> bool
+    ensures { result ≡ (not own && entry.now.always) }
+{
+    !own && entry.always
+}
+
 /// An entry: whether its block is active, its mask, and its values.
 fn push_entry(
     alloc: Global,
     out: &mut Vec<Stmt>,
     net: &Net,
     layouts: &[Layout],
+    own: bool,
     entry: &Entry,
 ) -> Result<(), NoMemory>
     requires laid { AreLaid net.now layouts.now }
     requires named { IsNamed net.now (entry_of entry.now) }
-    ensures { OnOk result (statements_of out.new.items ≡ joined (statements_of out.old.items) (entry_text net.now (entry_of entry.now))) }
+    ensures { OnOk result (statements_of out.new.items ≡ joined (statements_of out.old.items) (entry_text own net.now (entry_of entry.now))) }
 {
-    push_mark(out, entry.always, entry.block)?;
+    push_mark(out, marks_first(own, entry), entry.block)?;
     push_mask(out, net, entry)?;
     push_all_guards(alloc, out, net, entry)?;
     push_values(alloc, out, net, layouts, entry)
@@ -376,16 +387,92 @@ fn push_entries(
     out: &mut Vec<Stmt>,
     net: &Net,
     layouts: &[Layout],
+    own: bool,
     row: &[Entry],
 ) -> Result<(), NoMemory>
     requires laid { AreLaid net.now layouts.now }
     requires named { AreNamed net.now (row_of row.now) }
-    ensures { OnOk result (statements_of out.new.items ≡ joined (statements_of out.old.items) (texts (entry_text net.now) (row_of row.now))) }
+    ensures { OnOk result (statements_of out.new.items ≡ joined (statements_of out.old.items) (texts (entry_text own net.now) (row_of row.now))) }
 {
     for entry in row {
-        push_entry(alloc, out, net, layouts, entry)?;
+        push_entry(alloc, out, net, layouts, own, entry)?;
     }
     Ok(())
+}
+
+/// The statement by which a block isn't active.
+fn unmark(block: u32) -> Stmt
+    requires { 1 ≤ block }
+    ensures { one (statement_of result) ≡ one (assign (cell_of actives_name (natural_of (block - 1))) (natural_of 0)) }
+{
+    set_natural(actives(), block - 1, 0)
+}
+
+/// The same, where a test holds.
+fn push_unmark(out: &mut Vec<Stmt>, test: bool, block: u32) -> Result<(), NoMemory>
+    requires { 1 ≤ block }
+    ensures { OnOk result (statements_of out.new.items ≡ joined (statements_of out.old.items)
+        (text_where test (one (assign (cell_of actives_name (natural_of (block - 1))) (natural_of 0))))) }
+{
+    if test {
+        push(out, unmark(block))
+    } else {
+        Ok(())
+    }
+}
+
+/// The statement by which a block has taken no branch.
+fn branchless(block: u32) -> Stmt
+    requires { 1 ≤ block }
+    ensures { one (statement_of result) ≡ one (assign (cell_of branches_name (natural_of (block - 1))) (natural_of 0)) }
+{
+    set_natural(branches(), block - 1, 0)
+}
+
+/// The same of a block that may be synchronous.
+fn push_branchless(out: &mut Vec<Stmt>, net: &Net, block: u32) -> Result<(), NoMemory>
+    requires { IsBlock net.now block }
+    ensures { OnOk result (statements_of out.new.items ≡ joined (statements_of out.old.items)
+        (text_where (is_sync (spec_of net.now block).kind) (one (assign (cell_of branches_name (natural_of (block - 1))) (natural_of 0))))) }
+{
+    if net.spec(block).kind.is_sync() {
+        push(out, branchless(block))
+    } else {
+        Ok(())
+    }
+}
+
+/// An entry's block isn't active yet, where it needn't be, and has taken no branch.
+fn push_clear(out: &mut Vec<Stmt>, net: &Net, entry: &Entry) -> Result<(), NoMemory>
+    requires { IsNamed net.now (entry_of entry.now) }
+    ensures { OnOk result (statements_of out.new.items ≡ joined (statements_of out.old.items) (cleared_text net.now (entry_of entry.now))) }
+{
+    push_unmark(out, !entry.always, entry.block)?;
+    push_branchless(out, net, entry.block)
+}
+
+/// The same of the blocks of a row.
+fn push_clears(out: &mut Vec<Stmt>, net: &Net, row: &[Entry]) -> Result<(), NoMemory>
+    requires { AreNamed net.now (row_of row.now) }
+    ensures { OnOk result (statements_of out.new.items ≡ joined (statements_of out.old.items) (texts (cleared_text net.now) (row_of row.now))) }
+{
+    for entry in row {
+        push_clear(out, net, entry)?;
+    }
+    Ok(())
+}
+
+/// The same where the source has a text of its own.
+fn push_own_clears(out: &mut Vec<Stmt>, net: &Net, own: bool, row: &[Entry]) -> Result<(), NoMemory>
+    requires { AreNamed net.now (row_of row.now) }
+    ensures { OnOk result (statements_of out.new.items
+        ≡ joined (statements_of out.old.items) (text_where own (texts (cleared_text net.now) (row_of row.now)))) }
+{
+    if own {
+        push_clears(out, net, row)
+    } else {
+        Ok(())
+    }
 }
 
 /// The observation of a source.
@@ -402,20 +489,76 @@ fn header(source: Source) -> Stmt
     }
 }
 
-/// The statements of a source's function.
-pub(crate) fn row_text(
+/// The reaction of a source, up to its values.
+fn pass_text(
     alloc: Global,
     net: &Net,
     layouts: &[Layout],
+    own: bool,
     source: Source,
     row: &[Entry],
 ) -> Result<Vec<Stmt>, NoMemory>
     requires laid { AreLaid net.now layouts.now }
     requires named { AreNamed net.now (row_of row.now) }
-    ensures { IfOk result (λ v. statements_of v.items ≡ row_text_of net.now source (row_of row.now)) }
+    ensures { IfOk result (λ v. statements_of v.items ≡ pass_text_of own net.now source (row_of row.now)) }
 {
     let mut out = Vec::new(alloc);
     push(&mut out, header(source))?;
-    push_entries(alloc, &mut out, net, layouts, row)?;
+    push_own_clears(&mut out, net, own, row)?;
+    push_entries(alloc, &mut out, net, layouts, own, row)?;
+    Ok(out)
+}
+
+/// What follows the values of a source's reaction in a text of its own.
+fn push_own_following(
+    alloc: Global,
+    out: &mut Vec<Stmt>,
+    net: &Net,
+    layouts: &[Layout],
+    row: &[Entry],
+) -> Result<(), NoMemory>
+    requires laid { AreLaid net.now layouts.now }
+    requires named { AreNamed net.now (row_of row.now) }
+    ensures { OnOk result (statements_of out.new.items ≡ joined (statements_of out.old.items) (settle_text net.now (part_in (row_of row.now)))) }
+{
+    let taking = row_taking(alloc, net, row)?;
+    push_settle(alloc, out, net, layouts, &taking)
+}
+
+/// What follows the values of a source's reaction.
+fn push_following(
+    alloc: Global,
+    out: &mut Vec<Stmt>,
+    net: &Net,
+    layouts: &[Layout],
+    own: bool,
+    row: &[Entry],
+) -> Result<(), NoMemory>
+    requires laid { AreLaid net.now layouts.now }
+    requires named { AreNamed net.now (row_of row.now) }
+    ensures { OnOk result (statements_of out.new.items ≡ joined (statements_of out.old.items) (following_text own net.now (row_of row.now))) }
+{
+    if own {
+        push_own_following(alloc, out, net, layouts, row)
+    } else {
+        push(out, Stmt::Call(settle()))
+    }
+}
+
+/// The statements of a source's function.
+pub(crate) fn row_text(
+    alloc: Global,
+    net: &Net,
+    layouts: &[Layout],
+    own: bool,
+    source: Source,
+    row: &[Entry],
+) -> Result<Vec<Stmt>, NoMemory>
+    requires laid { AreLaid net.now layouts.now }
+    requires named { AreNamed net.now (row_of row.now) }
+    ensures { IfOk result (λ v. statements_of v.items ≡ row_text_of own net.now source (row_of row.now)) }
+{
+    let mut out = pass_text(alloc, net, layouts, own, source, row)?;
+    push_following(alloc, &mut out, net, layouts, own, row)?;
     Ok(out)
 }

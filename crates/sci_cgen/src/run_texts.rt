@@ -1,5 +1,5 @@
 // The run: what is cleared, which event fires, and how the run ends.
-ghost use Rattle.std.specs.Prelude.{◌≡◌, ◌-◌, ◌≤◌, pos, negsuc, IfOk, OnOk};
+ghost use Rattle.std.specs.Prelude.{◌≡◌, ◌+◌, ◌-◌, ◌≤◌, ◌^◌, not, pos, negsuc, IfOk, OnOk};
 ghost use Rattle.c_ast.specs.declared.Bound.TheVariants as bounds;
 ghost use Rattle.c_ast.specs.declared.Op.TheVariants as ops;
 ghost use Rattle.c_ast.specs.Syntax.{num, var, neg, bin, scalar, cell as cell_of, set as assign, ask, limit as limit_asked, choice, loop, call, tell};
@@ -9,23 +9,23 @@ ghost use Rattle.c_steps.specs.Texts.{joined, number as number_of};
 ghost use Rattle.sci_due.specs.Due.{best as chosen_name, scan as scan_name, dates as dates_name, now as now_name};
 ghost use Rattle.sci_due.specs.Texts.{at_scan as at_scan_of, at_best as at_best_of, sooner_exp, better_exp};
 ghost use Rattle.sci_cgen.specs.Names.{actives as actives_name, branches as branches_name, until_name, limit_name, fired_name};
-ghost use Rattle.sci_cgen.specs.Names.{next_date as next_date_name, source_name, settle_name, event_name};
-ghost use Rattle.sci_cgen.specs.Program.{natural as natural_of, one, text_where, only_where as where_of, each_port, end_where as end_where_of};
-ghost use Rattle.sci_cgen.specs.Program.{halted_text, fire_text, event_text, turn_text as turn_text_of, first_text, has_sync as has_sync_of};
+ghost use Rattle.sci_cgen.specs.Names.{next_date as next_date_name, source_name, clear_name, event_name};
+ghost use Rattle.sci_cgen.specs.Program.{natural as natural_of, one, text_where, react_step, end_or as end_or_of};
+ghost use Rattle.sci_cgen.specs.Program.{halted_or as halted_or_of, fire_text as fire_text_of, event_text as event_text_of, turn_text as turn_text_of, first_text, has_sync as has_sync_of};
 ghost use Rattle.sci_cgen.specs.Program.{main_text as main_text_of, clear_text as clear_text_of, choose_text as choose_text_of};
 ghost use Rattle.sci_cgen.specs.Built.{AreLaid};
 
 use crate::declared_names::{has_halt, has_sync, port_count};
 use crate::names::{
     actives, branches, choose, chosen, clear, dates, event, fired, halt, limit, next_date, now,
-    orders, scan, settle, source_function, until,
+    orders, scan, source_function, until,
 };
 use crate::outset_texts::push_outset;
-use crate::pieces::{natural, push, push_where};
+use crate::pieces::{natural, push};
 use c_ast::{Ask, Bound, Expr, Name, Op, Stmt, Target, Tell};
 use sci_base::NoMemory;
 use sci_cgen_blocks::Layout;
-use sci_cgen_blocks::writing::{bin, number, only_where, repeated};
+use sci_cgen_blocks::writing::{bin, either, number, only_where, repeated};
 use sci_net::Net;
 use std::alloc::Global;
 
@@ -147,21 +147,22 @@ fn finish(word: u32) -> Stmt
     Stmt::Tell(Tell::End(natural(word)))
 }
 
-/// The run ends with the word of this number where a test isn't 0.
-fn push_end_where(alloc: Global, out: &mut Vec<Stmt>, test: Expr, word: u32) -> Result<(), NoMemory>
-    ensures { OnOk result (statements_of out.new.items ≡ joined (statements_of out.old.items) (end_where_of (exp_of test) word)) }
+/// The run ends with the word of this number where a test isn't 0, and else the statements are done.
+fn end_or(alloc: Global, test: Expr, word: u32, rest: Vec<Stmt>) -> Result<Vec<Stmt>, NoMemory>
+    ensures { IfOk result (λ v. statements_of v.items ≡ end_or_of (exp_of test) word (statements_of rest.items)) }
 {
-    push_where(alloc, out, test, vec![in alloc; finish(word)]?)
+    let end = vec![in alloc; finish(word)]?;
+    Ok(vec![in alloc; either(test, end, rest)]?)
 }
 
-/// The run ends where a HALT_f was active.
-fn push_halted(alloc: Global, out: &mut Vec<Stmt>, net: &Net) -> Result<(), NoMemory>
-    ensures { OnOk result (statements_of out.new.items ≡ joined (statements_of out.old.items) (halted_text net.now)) }
+/// The run ends where a HALT_f was active, and else the statements are done.
+fn halted_or(alloc: Global, net: &Net, rest: Vec<Stmt>) -> Result<Vec<Stmt>, NoMemory>
+    ensures { IfOk result (λ v. statements_of v.items ≡ halted_or_of net.now (statements_of rest.items)) }
 {
     if has_halt(net) {
-        push_end_where(alloc, out, Expr::Var(halt()), 0)
+        end_or(alloc, Expr::Var(halt()), 0, rest)
     } else {
-        Ok(())
+        Ok(rest)
     }
 }
 
@@ -180,41 +181,55 @@ fn freed(alloc: Global) -> Result<Stmt, NoMemory>
     Ok(Stmt::Set(Target::At(dates(), Expr::Var(chosen())), none))
 }
 
-/// A source reacts where it is the chosen one.
-fn push_source(alloc: Global, out: &mut Vec<Stmt>, source: u32) -> Result<(), NoMemory>
-    requires { 1 ≤ source }
-    ensures { OnOk result (statements_of out.new.items ≡ joined (statements_of out.old.items)
-        (where_of (bin ops.Eq (var chosen_name) (natural_of (source - 1))) (one (call (source_name source))))) }
+/// How many sources the first half has, where so many decisions are left.
+fn half(depth: u32) -> u32
+    requires least { 1 ≤ depth }
+    requires most { depth ≤ 11 }
+    ensures { result ≡ 2 ^ (depth - 1) }
 {
-    let test = bin(alloc, Op::Eq, Expr::Var(chosen()), natural(source - 1))?;
-    push_where(
-        alloc,
-        out,
-        test,
-        vec![in alloc; Stmt::Call(source_function(source))]?,
-    )
+    1 << (depth - 1)
 }
 
-/// The chosen source reacts.
-fn push_sources(alloc: Global, out: &mut Vec<Stmt>, net: &Net) -> Result<(), NoMemory>
-    ensures { OnOk result (statements_of out.new.items ≡ joined (statements_of out.old.items)
-        (each_port (λ i. where_of (bin ops.Eq (var chosen_name) (natural_of (i - 1))) (one (call (source_name i)))) net.now)) }
+/// Of `count` sources from number `first` on, counted from 0 without start, the chosen one reacts. Half of them are asked about after half.
+#[tactic(auto, using(crate::proofs::Halves::react_one, crate::proofs::Halves::react_within, crate::proofs::Halves::react_halved))]
+fn react(alloc: Global, depth: u32, first: u32, count: u32) -> Result<Stmt, NoMemory>
+    requires depth { depth ≤ 11 }
+    requires few { first + count ≤ 4096 }
+    ensures { IfOk result (λ s. statement_of s ≡ react_step depth first count) }
 {
-    for at in 0..port_count(net) {
-        push_source(alloc, out, at + 1)?;
+    if depth == 0 {
+        return Ok(Stmt::Call(source_function(first + 1)));
     }
-    Ok(())
+    let half = half(depth);
+    if count <= half {
+        return react(alloc, depth - 1, first, count);
+    }
+    let below = react(alloc, depth - 1, first, half)?;
+    let above = react(alloc, depth - 1, first + half, count - half)?;
+    let test = bin(alloc, Op::Lt, Expr::Var(chosen()), natural(first + half))?;
+    Ok(either(test, vec![in alloc; below]?, vec![in alloc; above]?))
+}
+
+/// What comes before a reaction, where the sources have no texts of their own.
+fn push_before(out: &mut Vec<Stmt>, own: bool) -> Result<(), NoMemory>
+    ensures { OnOk result (statements_of out.new.items ≡ joined (statements_of out.old.items) (text_where (not own) (one (call clear_name)))) }
+{
+    if own {
+        Ok(())
+    } else {
+        push(out, Stmt::Call(clear()))
+    }
 }
 
 /// The chosen event is taken, and its source reacts.
-fn push_fire(alloc: Global, out: &mut Vec<Stmt>, net: &Net) -> Result<(), NoMemory>
-    ensures { OnOk result (statements_of out.new.items ≡ joined (statements_of out.old.items) (fire_text net.now)) }
+fn push_fire(alloc: Global, out: &mut Vec<Stmt>, net: &Net, own: bool) -> Result<(), NoMemory>
+    ensures { OnOk result (statements_of out.new.items ≡ joined (statements_of out.old.items) (fire_text_of own net.now)) }
 {
+    net.well_formed();
     push(out, dated(alloc)?)?;
     push(out, freed(alloc)?)?;
-    push(out, Stmt::Call(clear()))?;
-    push_sources(alloc, out, net)?;
-    push(out, Stmt::Call(settle()))?;
+    push_before(out, own)?;
+    push(out, react(alloc, 11, 0, port_count(net))?)?;
     push(out, Stmt::Call(choose()))?;
     Ok(())
 }
@@ -233,37 +248,44 @@ fn is_late(alloc: Global) -> Result<Expr, NoMemory>
     bin(alloc, Op::Gt, Expr::Var(next_date()), Expr::Var(until()))
 }
 
-/// The next event fires; where none is pending, or none by the bound on time, the run ends.
-fn push_next(alloc: Global, out: &mut Vec<Stmt>, net: &Net) -> Result<(), NoMemory>
-    ensures { OnOk result (statements_of out.new.items ≡ joined (statements_of out.old.items)
-        (joined (end_where_of (bin ops.Lt (var next_date_name) (natural_of 0)) 2)
-        (joined (end_where_of (bin ops.Gt (var next_date_name) (var until_name)) 3) (fire_text net.now)))) }
+/// The chosen event is taken, and its source reacts.
+fn fire_text(alloc: Global, net: &Net, own: bool) -> Result<Vec<Stmt>, NoMemory>
+    ensures { IfOk result (λ v. statements_of v.items ≡ fire_text_of own net.now) }
 {
-    push_end_where(alloc, out, is_none(alloc)?, 2)?;
-    push_end_where(alloc, out, is_late(alloc)?, 3)?;
-    push_fire(alloc, out, net)?;
-    Ok(())
+    let mut out = Vec::new(alloc);
+    push_fire(alloc, &mut out, net, own)?;
+    Ok(out)
+}
+
+/// The next event fires; where none is pending, or none by the bound on time, the run ends.
+fn next_text(alloc: Global, net: &Net, own: bool) -> Result<Vec<Stmt>, NoMemory>
+    ensures { IfOk result (λ v. statements_of v.items ≡ end_or_of (bin ops.Lt (var next_date_name) (natural_of 0)) 2
+        (end_or_of (bin ops.Gt (var next_date_name) (var until_name)) 3 (fire_text_of own net.now))) }
+{
+    let fire = fire_text(alloc, net, own)?;
+    let late = is_late(alloc)?;
+    let in_time = end_or(alloc, late, 3, fire)?;
+    let none = is_none(alloc)?;
+    end_or(alloc, none, 2, in_time)
 }
 
 /// The next event, or the end of a run without sources of events.
-fn push_event(alloc: Global, out: &mut Vec<Stmt>, net: &Net) -> Result<(), NoMemory>
-    ensures { OnOk result (statements_of out.new.items ≡ joined (statements_of out.old.items) (event_text net.now)) }
+fn event_text(alloc: Global, net: &Net, own: bool) -> Result<Vec<Stmt>, NoMemory>
+    ensures { IfOk result (λ v. statements_of v.items ≡ event_text_of own net.now) }
 {
     if 0 < port_count(net) {
-        push_next(alloc, out, net)
+        next_text(alloc, net, own)
     } else {
-        push(out, finish(2))
+        Ok(vec![in alloc; finish(2)]?)
     }
 }
 
 /// The statements of the function of one event.
-pub(crate) fn turn_text(alloc: Global, net: &Net) -> Result<Vec<Stmt>, NoMemory>
-    ensures { IfOk result (λ v. statements_of v.items ≡ turn_text_of net.now) }
+pub(crate) fn turn_text(alloc: Global, net: &Net, own: bool) -> Result<Vec<Stmt>, NoMemory>
+    ensures { IfOk result (λ v. statements_of v.items ≡ turn_text_of own net.now) }
 {
-    let mut out = Vec::new(alloc);
-    push_halted(alloc, &mut out, net)?;
-    push_event(alloc, &mut out, net)?;
-    Ok(out)
+    let event = event_text(alloc, net, own)?;
+    halted_or(alloc, net, event)
 }
 
 /// Statements again and again, while a counter goes from 0 up to the value of a scalar.
@@ -294,24 +316,34 @@ fn push_first(alloc: Global, out: &mut Vec<Stmt>, net: &Net) -> Result<(), NoMem
 /// The bound on events is asked for, start reacts, and the first event is chosen.
 fn push_start(alloc: Global, out: &mut Vec<Stmt>, net: &Net) -> Result<(), NoMemory>
     ensures { OnOk result (statements_of out.new.items ≡ joined (statements_of out.old.items)
-        (next (ask (scalar limit_name) limit_asked) (next (call (source_name 0)) (next (call settle_name) (first_text net.now))))) }
+        (next (ask (scalar limit_name) limit_asked) (next (call (source_name 0)) (first_text net.now)))) }
 {
     push(out, Stmt::Ask(Target::Var(limit()), Ask::Limit))?;
     push(out, Stmt::Call(source_function(0)))?;
-    push(out, Stmt::Call(settle()))?;
     push_first(alloc, out, net)?;
     Ok(())
+}
+
+/// The run ends by the bound on events, or where a HALT_f was active.
+fn push_end(alloc: Global, out: &mut Vec<Stmt>, net: &Net) -> Result<(), NoMemory>
+    ensures { OnOk result (statements_of out.new.items ≡ joined (statements_of out.old.items) (halted_or_of net.now (one (tell (finish_of (natural_of 1)))))) }
+{
+    if has_halt(net) {
+        let halted = vec![in alloc; finish(0)]?;
+        let end = vec![in alloc; finish(1)]?;
+        push(out, either(Expr::Var(halt()), halted, end))
+    } else {
+        push(out, finish(1))
+    }
 }
 
 /// A call for each event; where the bound on events is reached, the run ends.
 fn push_run(alloc: Global, out: &mut Vec<Stmt>, net: &Net) -> Result<(), NoMemory>
     ensures { OnOk result (statements_of out.new.items ≡ joined (statements_of out.old.items)
-        (next (loop fired_name (bounds.Var limit_name) (one (call event_name)))
-        (joined (halted_text net.now) (one (tell (finish_of (natural_of 1))))))) }
+        (next (loop fired_name (bounds.Var limit_name) (one (call event_name))) (halted_or_of net.now (one (tell (finish_of (natural_of 1))))))) }
 {
     push(out, turns(alloc)?)?;
-    push_halted(alloc, out, net)?;
-    push(out, finish(1))?;
+    push_end(alloc, out, net)?;
     Ok(())
 }
 

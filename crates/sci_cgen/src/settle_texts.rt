@@ -12,16 +12,18 @@ ghost use Rattle.c_ast.specs.View.{exp_of, statement_of, statements_of};
 ghost use Rattle.c_steps.specs.Texts.{joined, place as element_at};
 ghost use Rattle.sci_due.specs.Texts.{entry_text as entry_text_of, program_text as program_text_of};
 ghost use Rattle.sci_cgen_blocks.specs.Texts.{values as values_name};
-ghost use Rattle.sci_cgen.specs.Program.{natural as natural_of, is_active as is_active_of, elements_shown, outputs_shown, values_shown, delay_text};
+ghost use Rattle.sci_cgen.specs.Program.{natural as natural_of, is_active as is_active_of, where_part, elements_shown, looped_shown as looped_shown_of};
+ghost use Rattle.sci_cgen.specs.Program.{output_shown, outputs_shown, values_shown, delay_text};
 ghost use Rattle.sci_cgen.specs.Program.{state_text, halt_text, each_block, each_port, settle_text as settle_text_of};
-ghost use Rattle.sci_cgen.specs.Built.{AreLaid};
+ghost use Rattle.sci_cgen.specs.Built.{AreLaid, takes};
 
 use crate::names::{actives, dates, delay, halt, now, orders, programmed};
-use crate::pieces::{cell, layout, natural, push, push_where};
+use crate::parts::{Part, Taking, part_of};
+use crate::pieces::{cell, layout, natural, push, push_all, push_where};
 use c_ast::{Expr, Op, Stmt, Target, Tell};
 use sci_base::NoMemory;
-use sci_cgen_blocks::array_names::values;
-use sci_cgen_blocks::writing::{bin, element, only_where};
+use sci_cgen_blocks::array_names::{scratch, values};
+use sci_cgen_blocks::writing::{bin, counted_place, element, indexed, only_where, repeated};
 use sci_cgen_blocks::{Layout, block_delay, block_next};
 use sci_forms::Ports;
 use sci_net::{Feed, Net, Source};
@@ -33,6 +35,24 @@ fn is_active(alloc: Global, block: u32) -> Result<Expr, NoMemory>
     ensures { IfOk result (λ e. exp_of e ≡ is_active_of block) }
 {
     element(alloc, actives(), u64::from(block - 1))
+}
+
+/// Statements for where a block takes part.
+fn push_part(
+    alloc: Global,
+    out: &mut Vec<Stmt>,
+    taking: &Taking,
+    block: u32,
+    body: Vec<Stmt>,
+) -> Result<(), NoMemory>
+    requires { 1 ≤ block }
+    ensures { OnOk result (statements_of out.new.items ≡ joined (statements_of out.old.items) (where_part (takes taking.now block) block (statements_of body.items))) }
+{
+    match part_of(taking, block) {
+        Part::Absent => Ok(()),
+        Part::Sure => push_all(out, body),
+        Part::Marked => push_where(alloc, out, is_active(alloc, block)?, body),
+    }
 }
 
 /// The value at a place is observed as that of an element of an output.
@@ -49,7 +69,7 @@ fn value_shown(
     Ok(Stmt::Tell(Tell::Val(natural(block), natural(port), natural(number), value)))
 }
 
-/// The values of an output's elements, the first of which lies at `start`.
+/// The values of an output's elements, the first of which lies at `start`, one after the other.
 fn push_elements(
     alloc: Global,
     out: &mut Vec<Stmt>,
@@ -67,6 +87,42 @@ fn push_elements(
     Ok(())
 }
 
+/// The values of an output's elements, the first of which lies at `start`, in a loop.
+fn looped_shown(
+    alloc: Global,
+    block: u32,
+    port: u32,
+    start: u32,
+    count: u32,
+) -> Result<Stmt, NoMemory>
+    ensures { IfOk result (λ s. statement_of s ≡ looped_shown_of block port start count) }
+{
+    let number = counted_place(alloc, 1, 1)?;
+    let value = indexed(alloc, values(), counted_place(alloc, 1, start)?)?;
+    let shown = Stmt::Tell(Tell::Val(natural(block), natural(port), number, value));
+    let body = vec![in alloc; shown]?;
+    Ok(repeated(scratch(1), count, body))
+}
+
+/// The values of an output's elements, the first of which lies at `start`: in a loop, where there are three or more.
+fn push_output(
+    alloc: Global,
+    out: &mut Vec<Stmt>,
+    block: u32,
+    port: u32,
+    start: u32,
+    count: u32,
+) -> Result<(), NoMemory>
+    requires { start + count ≤ 2 ^ 20 }
+    ensures { OnOk result (statements_of out.new.items ≡ joined (statements_of out.old.items) (output_shown block port start count)) }
+{
+    if 2 < count {
+        push(out, looped_shown(alloc, block, port, start, count)?)
+    } else {
+        push_elements(alloc, out, block, port, start, count)
+    }
+}
+
 /// The values of a block's outputs, the first of which lies at `start`.
 fn push_outputs(
     alloc: Global,
@@ -82,23 +138,24 @@ fn push_outputs(
     let mut place = start;
     for port in 0..outs.len() {
         let count = outs.get(port).elements() as u32;
-        push_elements(alloc, out, block, port as u32 + 1, place, count)?;
+        push_output(alloc, out, block, port as u32 + 1, place, count)?;
         place += count;
     }
     Ok(())
 }
 
-/// The values of a block are observed, where it is active.
+/// The values of a block are observed, where it takes part.
 fn push_values(
     alloc: Global,
     out: &mut Vec<Stmt>,
     net: &Net,
     layouts: &[Layout],
+    taking: &Taking,
     block: u32,
 ) -> Result<(), NoMemory>
     requires laid { AreLaid net.now layouts.now }
     requires block { IsBlock net.now block }
-    ensures { OnOk result (statements_of out.new.items ≡ joined (statements_of out.old.items) (values_shown net.now block)) }
+    ensures { OnOk result (statements_of out.new.items ≡ joined (statements_of out.old.items) (values_shown net.now (takes taking.now) block)) }
 {
     net.well_formed();
     let outs = &net.spec(block).outs;
@@ -107,21 +164,22 @@ fn push_values(
     }
     let mut shown = Vec::new(alloc);
     push_outputs(alloc, &mut shown, block, layout(layouts, block).outs, outs)?;
-    push_where(alloc, out, is_active(alloc, block)?, shown)
+    push_part(alloc, out, taking, block, shown)
 }
 
-/// The values of all active blocks are observed.
+/// The values of all blocks that take part are observed.
 fn push_all_values(
     alloc: Global,
     out: &mut Vec<Stmt>,
     net: &Net,
     layouts: &[Layout],
+    taking: &Taking,
 ) -> Result<(), NoMemory>
     requires laid { AreLaid net.now layouts.now }
-    ensures { OnOk result (statements_of out.new.items ≡ joined (statements_of out.old.items) (each_block (values_shown net.now) net.now)) }
+    ensures { OnOk result (statements_of out.new.items ≡ joined (statements_of out.old.items) (each_block (values_shown net.now (takes taking.now)) net.now)) }
 {
     for at in 0..net.len() {
-        push_values(alloc, out, net, layouts, at + 1)?;
+        push_values(alloc, out, net, layouts, taking, at + 1)?;
     }
     Ok(())
 }
@@ -151,74 +209,78 @@ fn program_text(alloc: Global, at: u32, ticks: Expr) -> Result<Vec<Stmt>, NoMemo
     ]?)
 }
 
-/// A source that is an activation output is programmed with its delay, where the output's block is active.
+/// A source that is an activation output is programmed with its delay, where the output's block takes part.
 fn push_port_delay(
     alloc: Global,
     out: &mut Vec<Stmt>,
     net: &Net,
     layouts: &[Layout],
+    taking: &Taking,
     source: u32,
     q: Feed,
 ) -> Result<(), NoMemory>
     requires laid { AreLaid net.now layouts.now }
     requires least { 1 ≤ source }
     requires port { IsSource net.now (sources.Port q) }
-    ensures { OnOk result (statements_of out.new.items ≡ joined (statements_of out.old.items) (delay_text net.now source (sources.Port q))) }
+    ensures { OnOk result (statements_of out.new.items ≡ joined (statements_of out.old.items) (delay_text net.now (takes taking.now) source (sources.Port q))) }
 {
     net.well_formed();
     let spec = net.spec(q.block);
     let ticks = block_delay(alloc, spec, layout(layouts, q.block), q.port)?;
     let programs = program_text(alloc, source - 1, ticks)?;
-    push_where(alloc, out, is_active(alloc, q.block)?, programs)
+    push_part(alloc, out, taking, q.block, programs)
 }
 
-/// A source is programmed with its delay, where its block is active.
+/// A source is programmed with its delay, where its block takes part.
 fn push_delay(
     alloc: Global,
     out: &mut Vec<Stmt>,
     net: &Net,
     layouts: &[Layout],
+    taking: &Taking,
     source: u32,
 ) -> Result<(), NoMemory>
     requires laid { AreLaid net.now layouts.now }
     requires least { 1 ≤ source }
     requires most { source < length (sources_of net.now) }
-    ensures { OnOk result (statements_of out.new.items ≡ joined (statements_of out.old.items) (delay_text net.now source (source_of net.now source))) }
+    ensures { OnOk result (statements_of out.new.items ≡ joined (statements_of out.old.items) (delay_text net.now (takes taking.now) source (source_of net.now source))) }
 {
     match net.source(source) {
         Source::Start => Ok(()),
-        Source::Port(q) => push_port_delay(alloc, out, net, layouts, source, q),
+        Source::Port(q) => push_port_delay(alloc, out, net, layouts, taking, source, q),
     }
 }
 
-/// All sources of active blocks are programmed.
+/// All sources of blocks that take part are programmed.
 fn push_delays(
     alloc: Global,
     out: &mut Vec<Stmt>,
     net: &Net,
     layouts: &[Layout],
+    taking: &Taking,
 ) -> Result<(), NoMemory>
     requires laid { AreLaid net.now layouts.now }
     ensures { OnOk result (statements_of out.new.items ≡ joined (statements_of out.old.items)
-        (each_port (λ i. delay_text net.now i (source_of net.now i)) net.now)) }
+        (each_port (λ i. delay_text net.now (takes taking.now) i (source_of net.now i)) net.now)) }
 {
     for at in 0..net.source_count() - 1 {
-        push_delay(alloc, out, net, layouts, at + 1)?;
+        push_delay(alloc, out, net, layouts, taking, at + 1)?;
     }
     Ok(())
 }
 
-/// The state of a block steps, where it has one and is active.
+/// The state of a block steps, where it has one and takes part.
 fn push_state(
     alloc: Global,
     out: &mut Vec<Stmt>,
     net: &Net,
     layouts: &[Layout],
+    taking: &Taking,
     block: u32,
 ) -> Result<(), NoMemory>
     requires laid { AreLaid net.now layouts.now }
     requires block { IsBlock net.now block }
-    ensures { OnOk result (statements_of out.new.items ≡ joined (statements_of out.old.items) (state_text net.now block)) }
+    ensures { OnOk result (statements_of out.new.items ≡ joined (statements_of out.old.items) (state_text net.now (takes taking.now) block)) }
 {
     net.well_formed();
     let spec = net.spec(block);
@@ -226,60 +288,72 @@ fn push_state(
         return Ok(());
     }
     let steps = block_next(alloc, spec, layout(layouts, block))?;
-    push_where(alloc, out, is_active(alloc, block)?, steps)
+    push_part(alloc, out, taking, block, steps)
 }
 
-/// The states of all active blocks step.
+/// The states of all blocks that take part step.
 fn push_states(
     alloc: Global,
     out: &mut Vec<Stmt>,
     net: &Net,
     layouts: &[Layout],
+    taking: &Taking,
 ) -> Result<(), NoMemory>
     requires laid { AreLaid net.now layouts.now }
-    ensures { OnOk result (statements_of out.new.items ≡ joined (statements_of out.old.items) (each_block (state_text net.now) net.now)) }
+    ensures { OnOk result (statements_of out.new.items ≡ joined (statements_of out.old.items) (each_block (state_text net.now (takes taking.now)) net.now)) }
 {
     for at in 0..net.len() {
-        push_state(alloc, out, net, layouts, at + 1)?;
+        push_state(alloc, out, net, layouts, taking, at + 1)?;
     }
     Ok(())
 }
 
-/// The run is to end, where the block is a HALT_f that is active.
-fn push_halt(alloc: Global, out: &mut Vec<Stmt>, net: &Net, block: u32) -> Result<(), NoMemory>
+/// The run is to end, where the block is a HALT_f that takes part.
+fn push_halt(
+    alloc: Global,
+    out: &mut Vec<Stmt>,
+    net: &Net,
+    taking: &Taking,
+    block: u32,
+) -> Result<(), NoMemory>
     requires { IsBlock net.now block }
-    ensures { OnOk result (statements_of out.new.items ≡ joined (statements_of out.old.items) (halt_text net.now block)) }
+    ensures { OnOk result (statements_of out.new.items ≡ joined (statements_of out.old.items) (halt_text net.now (takes taking.now) block)) }
 {
     if !net.spec(block).kind.is_halt() {
         return Ok(());
     }
     let halts = vec![in alloc; Stmt::Set(Target::Var(halt()), natural(1))]?;
-    push_where(alloc, out, is_active(alloc, block)?, halts)
+    push_part(alloc, out, taking, block, halts)
 }
 
-/// The run is to end, where a HALT_f is active.
-fn push_halts(alloc: Global, out: &mut Vec<Stmt>, net: &Net) -> Result<(), NoMemory>
-    ensures { OnOk result (statements_of out.new.items ≡ joined (statements_of out.old.items) (each_block (halt_text net.now) net.now)) }
+/// The run is to end, where a HALT_f takes part.
+fn push_halts(
+    alloc: Global,
+    out: &mut Vec<Stmt>,
+    net: &Net,
+    taking: &Taking,
+) -> Result<(), NoMemory>
+    ensures { OnOk result (statements_of out.new.items ≡ joined (statements_of out.old.items) (each_block (halt_text net.now (takes taking.now)) net.now)) }
 {
     for at in 0..net.len() {
-        push_halt(alloc, out, net, at + 1)?;
+        push_halt(alloc, out, net, taking, at + 1)?;
     }
     Ok(())
 }
 
-/// The statements of the function that follows a reaction's values.
-pub(crate) fn settle_text(
+/// What follows a reaction's values.
+pub(crate) fn push_settle(
     alloc: Global,
+    out: &mut Vec<Stmt>,
     net: &Net,
     layouts: &[Layout],
-) -> Result<Vec<Stmt>, NoMemory>
+    taking: &Taking,
+) -> Result<(), NoMemory>
     requires laid { AreLaid net.now layouts.now }
-    ensures { IfOk result (λ v. statements_of v.items ≡ settle_text_of net.now) }
+    ensures { OnOk result (statements_of out.new.items ≡ joined (statements_of out.old.items) (settle_text_of net.now (takes taking.now))) }
 {
-    let mut out = Vec::new(alloc);
-    push_all_values(alloc, &mut out, net, layouts)?;
-    push_delays(alloc, &mut out, net, layouts)?;
-    push_states(alloc, &mut out, net, layouts)?;
-    push_halts(alloc, &mut out, net)?;
-    Ok(out)
+    push_all_values(alloc, out, net, layouts, taking)?;
+    push_delays(alloc, out, net, layouts, taking)?;
+    push_states(alloc, out, net, layouts, taking)?;
+    push_halts(alloc, out, net, taking)
 }

@@ -1,5 +1,5 @@
 -- What the texts of a block may do.
-use Rattle.std.proofs.Common.{◌≡◌, ℕ, Bool, true, false, ◌||◌, ◌⊎◌, inl, inr, refl, sym, subst, List, [], ◌∷◌}
+use Rattle.std.proofs.Common.{◌≡◌, ℕ, suc, Bool, true, false, if◌then◌else◌, ◌||◌, ◌⊎◌, inl, inr, refl, sym, subst, List, [], ◌∷◌}
 use Rattle.std.specs.Prelude.{◌≢◌}
 use Rattle.std.proofs.lemmas.Bool.{and_from}
 use Rattle.sci_forms.specs.declared.Kind.{Kind}
@@ -10,11 +10,11 @@ use Rattle.sci_forms.specs.Words.{state_len_of}
 use Rattle.c_ast.specs.Syntax.{Block}
 use Rattle.c_mean.specs.Meaning.{same_name}
 use Rattle.c_steps.specs.Places.{is_scratch}
-use Rattle.c_steps.specs.Texts.{May, statement_within, block_within}
+use Rattle.c_steps.specs.Texts.{May, upto, statement_within, block_within}
 use Rattle.c_steps.proofs.Texts.{upto_within}
-use Rattle.sci_cgen_blocks.specs.Terms.{Work, assign, assign_if, Step, change, stop_if, repeat, Recipe, Way, each, decide}
+use Rattle.sci_cgen_blocks.specs.Terms.{Work, assign, assign_if, Step, change, stop_if, repeat, Recipe, Way, each, all, decide, is_looped}
 use Rattle.sci_cgen_blocks.specs.Recipes.{way_of}
-use Rattle.sci_cgen_blocks.specs.Texts.{Places, values, work_statement, works_text, step_statement, steps_text, recipe_text, way_text, values_text, body_text, next_text}
+use Rattle.sci_cgen_blocks.specs.Texts.{fixed, counted_by, Places, written, values, work_statement, works_text, step_statement, steps_text, recipe_text, looped_text, way_text, values_text, body_text, next_text}
 use Rattle.sci_cgen_blocks.proofs.Bodies.{values_are}
 use Rattle.sci_cgen_blocks.proofs.Sensing.{is_kind}
 use Rattle.sci_cgen_blocks.specs.Meant.{takes_input, body_may, next_may}
@@ -41,12 +41,22 @@ module _ (takes : Bool) (p : Places) where
   steps_within [] rest h = h
   steps_within (x ∷ xs) rest h = and_from _ _ (step_within x) (steps_within xs rest h)
 
-  recipe_within : (e : ℕ) (x : Recipe) → block_within (may_values takes) (recipe_text p e x) ≡ true
-  recipe_within e x = steps_within x.steps _ refl
+  recipe_within : (x : Recipe) → block_within (may_values takes) (recipe_text p x) ≡ true
+  recipe_within x = steps_within x.steps _ refl
 
-  way_within : (n : ℕ) (y : Way) → block_within (may_values takes) (way_text p n y) ≡ true
-  way_within n (each f) = upto_within (may_values takes) (λ e. recipe_text p e (f e)) n (λ e h. recipe_within e (f e))
-  way_within n (decide c a b) = and_from _ _ (and_from _ _ (way_within n a) (way_within n b)) refl
+module _ (takes : Bool) (p : Places) (n : ℕ) where
+  each_within : (f : ℕ → Recipe) → block_within (may_values takes) (upto (λ e. recipe_text (written p (fixed e)) (f e)) n) ≡ true
+  each_within f = upto_within (may_values takes) (λ e. recipe_text (written p (fixed e)) (f e)) n (λ e h. recipe_within takes (written p (fixed e)) (f e))
+
+  way_within : (y : Way) → block_within (may_values takes) (way_text p n y) ≡ true
+  way_within (each f) = each_within f
+  way_within (all j x) = by_size (is_looped n)
+    where
+      by_size : (b : Bool) → block_within (may_values takes)
+          (if b then looped_text p n (suc j) x else upto (λ e. recipe_text (written p (fixed e)) x) n) ≡ true
+      by_size true = and_from _ _ (recipe_within takes (written p (counted_by (suc j))) x) refl
+      by_size false = each_within (λ e. x)
+  way_within (decide c a b) = and_from _ _ (and_from _ _ (way_within a) (way_within b)) refl
 
 values_within : (c : Kind) (s : Spec) (p : Places) → (c ≡ Sensor) ⊎ (c ≢ Sensor) → block_within (may_values (takes_input c)) (values_text c s p) ≡ true
 values_within c s p (inl e) = subst (λ (c : Kind). block_within (may_values (takes_input c)) (values_text c s p) ≡ true) (sym e) refl

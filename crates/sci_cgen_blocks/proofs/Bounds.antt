@@ -1,5 +1,5 @@
 -- The texts of a block are within the bounds of the subset.
-use Rattle.std.proofs.Common.{◌≡◌, ℕ, zero, suc, ◌+◌, ◌<◌, ◌≤◌, ◌^◌, true, refl, sym, ap, ◌∙◌, subst, arith, inl, inr, ◌⊎◌, pos, negsuc, List, [], ◌∷◌, Bool, false, if◌then◌else◌}
+use Rattle.std.proofs.Common.{◌≡◌, ℕ, zero, suc, ◌+◌, ◌<◌, ◌≤◌, ◌^◌, true, refl, sym, ap, ◌∙◌, subst, arith, inl, inr, ◌⊎◌, pos, negsuc, List, [], ◌∷◌, Bool, false, ◌&&◌, if◌then◌else◌, ltb-true}
 use Rattle.std.specs.Prelude.{◌≢◌}
 use Rattle.std.proofs.lemmas.Int.{ints}
 use Rattle.sci_forms.specs.declared.Kind.{Kind}
@@ -17,10 +17,10 @@ use Rattle.sci_forms.specs.Typed.{typed}
 use Rattle.c_ast.specs.Syntax.{Exp, num, var, element, neg, not, bin, Block, done, next}
 use Rattle.c_ast.specs.Bounds.{Fits, IsExp, StatementFits, BlockFits, IsName}
 use Rattle.c_steps.specs.Texts.{joined, upto}
-use Rattle.sci_cgen_blocks.specs.Terms.{Term, constant, input, state, mask, scratch, both, Work, assign, assign_if, Step, change, stop_if, repeat, Recipe, Way, each, decide, Readable, TermFits, WorkFits, WorksFit, StepFits, StepsFit, RecipeFits, WayFits}
-use Rattle.sci_cgen_blocks.specs.Recipes.{way_of, next_term, delay_term, branch_term, scratch_of, fed, from_value, inputs}
+use Rattle.sci_cgen_blocks.specs.Terms.{Term, constant, input, along, state, state_along, mask, scratch, both, Work, assign, assign_if, Step, change, stop_if, repeat, Recipe, Way, each, all, decide, is_looped, Readable, TermFits, WorkFits, WorksFit, StepFits, StepsFit, RecipeFits, WayFits}
+use Rattle.sci_cgen_blocks.specs.Recipes.{way_of, next_term, delay_term, branch_term, worked_of, is_alike, scratch_of, fed, from_value, inputs}
 use Rattle.sci_cgen_blocks.specs.Laws.{CellReadsLaw, NextReadsLaw}
-use Rattle.sci_cgen_blocks.specs.Texts.{Places, scratch_name, input_place, expression, work_statement, works_text, step_statement, steps_text, recipe_text, way_text, sensor_text, body_text, next_text, delay_expression, branch_expression}
+use Rattle.sci_cgen_blocks.specs.Texts.{Which, fixed, counted_by, Places, written, scratch_name, input_start, input_place, element_place, expression, work_statement, works_text, step_statement, steps_text, recipe_text, looped_text, way_text, sensor_text, body_text, next_text, delay_expression, branch_expression}
 use Rattle.sci_cgen_blocks.specs.Meant.{AreInBounds}
 use Rattle.sci_cgen_blocks.proofs.Effects.{delay_term_law, branch_term_law}
 use Rattle.sci_cgen_blocks.proofs.Bodies.{values_are}
@@ -39,6 +39,11 @@ fits_more (suc d) (suc d') (neg e) f l = fits_more d d' e f (omega (arith, l))
 fits_more (suc d) (suc d') (not e) f l = fits_more d d' e f (omega (arith, l))
 fits_more (suc d) (suc d') (bin op a b) f l = (fits_more d d' a f.0 (omega (arith, l)), fits_more d d' b f.1 (omega (arith, l)))
 
+-- the element that is written for is there, or it is counted by a scratch number that can be spelled
+abbrev IsNumbered : Which → ℕ → Type 0
+IsNumbered (fixed i) e = i ≡ e
+IsNumbered (counted_by c) e = c < 2 ^ 32
+
 -- what may be read lies at places that can be spelled
 record HasBounds (p : Places) (r : Readable) : Type 0 where
   pub input : (k e : ℕ) → r.input k e → input_place p k e < 2 ^ 63
@@ -46,6 +51,7 @@ record HasBounds (p : Places) (r : Readable) : Type 0 where
   pub mask : p.mask < 2 ^ 63
   pub number : p.number < 2 ^ 63
   pub scratch : r.scratch < 2 ^ 32
+  pub which : IsNumbered p.which r.element
 
 is_number : (n : ℕ) → n < 2 ^ 63 → (d : ℕ) → Fits (suc d) (num (pos n))
 is_number n h d = h
@@ -53,23 +59,33 @@ is_number n h d = h
 scratch_is_name : (p : Places) (r : Readable) (n : ℕ) → HasBounds p r → n ≤ r.scratch → IsName (scratch_name n)
 scratch_is_name p r n h l = (refl, omega (arith, l, h.scratch))
 
-expression_fits : (p : Places) (r : Readable) → HasBounds p r → (d : ℕ) (t : Term) → TermFits r d t → Fits (suc d) (expression p t)
+place_fits : (q : Which) (e o d : ℕ) → IsNumbered q e → o + e < 2 ^ 63 → Fits (suc (suc d)) (element_place q o)
+place_fits (fixed i) e o d h l = omega (arith, h, l)
+place_fits (counted_by c) e o d h l = ((refl, h), omega (arith, l))
+
+expression_fits : (p : Places) (r : Readable) → HasBounds p r → (d : ℕ) (t : Term) → TermFits r d t → Fits (suc (suc d)) (expression p t)
 expression_fits p r h zero t f = absurd f
 expression_fits p r h (suc d) (constant (pos n)) f = omega (arith, ints, f.1)
 expression_fits p r h (suc d) (constant (negsuc n)) f = omega (arith, ints, f.0)
 expression_fits p r h (suc d) (input k e) f = ((refl, omega arith), h.input k e f)
+expression_fits p r h (suc d) (along k) f = ((refl, omega arith), place_fits p.which r.element (input_start p k) d h.which (h.input k r.element f))
 expression_fits p r h (suc d) (state i) f = ((refl, omega arith), h.state i f)
+expression_fits p r h (suc d) state_along f = ((refl, omega arith), place_fits p.which r.element p.state d h.which (h.state r.element f))
 expression_fits p r h (suc d) mask f = ((refl, omega arith), h.mask)
 expression_fits p r h (suc d) (scratch n) f = scratch_is_name p r n h f.1
 expression_fits p r h (suc d) (both op a b) f = (expression_fits p r h d a f.0, expression_fits p r h d b f.1)
 
 is_exp : (p : Places) (r : Readable) → HasBounds p r → (t : Term) → TermFits r 32 t → IsExp (expression p t)
 unfolding IsExp
-is_exp p r h t f = fits_more 33 64 (expression p t) (expression_fits p r h 32 t f) (omega arith)
+is_exp p r h t f = fits_more 34 64 (expression p t) (expression_fits p r h 32 t f) (omega arith)
 
 number_is_exp : (n : ℕ) → n < 2 ^ 63 → IsExp (num (pos n))
 unfolding IsExp
 number_is_exp n h = h
+
+place_is_exp : (q : Which) (e o : ℕ) → IsNumbered q e → o + e < 2 ^ 63 → IsExp (element_place q o)
+unfolding IsExp
+place_is_exp q e o h l = place_fits q e o 62 h l
 
 first_is_exp : IsExp (var (scratch_name 1))
 unfolding IsExp
@@ -97,9 +113,9 @@ module _ (p : Places) (r : Readable) (h : HasBounds p r) where
   steps_fit d [] rest f q = q
   steps_fit d (x ∷ xs) rest f q = (step_fits d x f.0, steps_fit d xs rest f.1 q)
 
-  recipe_fits : (d e : ℕ) (x : Recipe) → RecipeFits r x → p.outs + e < 2 ^ 63 → BlockFits (suc (suc (suc d))) (recipe_text p e x)
-  recipe_fits d e x f q =
-      steps_fit d x.steps _ f.0 ((((refl, omega arith), number_is_exp (p.outs + e) q), is_exp p r h x.value f.1), tt)
+  recipe_fits : (d : ℕ) (x : Recipe) → RecipeFits r x → p.outs + r.element < 2 ^ 63 → BlockFits (suc (suc (suc d))) (recipe_text p x)
+  recipe_fits d x f q =
+      steps_fit d x.steps _ f.0 ((((refl, omega arith), place_is_exp p.which r.element p.outs h.which q), is_exp p r h x.value f.1), tt)
 
 pub joined_fits : (d : ℕ) (a b : Block) → BlockFits d a → BlockFits d b → BlockFits d (joined a b)
 joined_fits d done b p q = q
@@ -109,60 +125,115 @@ pub upto_fits : (d : ℕ) (f : ℕ → Block) (n : ℕ) → ((e : ℕ) → e < n
 upto_fits d f zero go = tt
 upto_fits d f (suc n) go = joined_fits d (upto f n) (f n) (upto_fits d f n (λ e h. go e (omega (arith, h)))) (go n (omega arith))
 
--- decisions nest as deep as they are one in the other
-module _ (p : Places) (r : Readable) (h : HasBounds p r) (n : ℕ) (places : p.outs + n ≤ 2 ^ 63) where
-  way_fits : (y : Way) (k d : ℕ) → WayFits r n y k → BlockFits (k + suc (suc (suc d))) (way_text p n y)
+-- what may be read with so many scratch numbers, where this element is worked out
+abbrev pub works_on : Readable → ℕ → ℕ → Readable
+works_on r j e = record r { scratch = j; element = e }
+
+numbered_bounds : (p : Places) (r : Readable) (q : Which) (j e : ℕ) → HasBounds (written p (fixed 0)) r → j ≤ r.scratch → IsNumbered q e
+    → HasBounds (written p q) (works_on r j e)
+numbered_bounds p r q j e h few is = record {
+  input = h.input;
+  state = h.state;
+  mask = h.mask;
+  number = h.number;
+  scratch = omega (arith, few, h.scratch);
+  which = is;
+}
+
+-- a loop has elements
+pub some_looped : (n : ℕ) → is_looped n ≡ true → 0 < n
+some_looped n h = let more : 2 < n = ltb-true 2 n h in omega (arith, more)
+
+-- decisions nest as deep as they are one in the other, and a loop stands in the innermost
+module _ (p : Places) (r : Readable) (h : HasBounds (written p (fixed 0)) r) (n : ℕ) (places : p.outs + n ≤ 2 ^ 63) (count : n < 2 ^ 63) where
+  each_fits : (f : ℕ → Recipe) (j d : ℕ) → j ≤ r.scratch → ((e : ℕ) → e < n → RecipeFits (works_on r j e) (f e))
+      → BlockFits (suc (suc (suc d))) (upto (λ e. recipe_text (written p (fixed e)) (f e)) n)
+  each_fits f j d few fits =
+      upto_fits (suc (suc (suc d))) _ n (λ e l.
+      recipe_fits (written p (fixed e)) (works_on r j e) (numbered_bounds p r (fixed e) j e h few refl) d (f e) (fits e l) (omega (arith, l, places)))
+
+  -- one element of the loop stands for all
+  looped_fits : (x : Recipe) (j d : ℕ) → suc j ≤ r.scratch → 0 < n → RecipeFits (works_on r j 0) x → BlockFits (suc (suc (suc (suc d)))) (looped_text p n (suc j) x)
+  looped_fits x j d few some fits =
+      let small : suc j < 2 ^ 32 = omega (arith, few, h.scratch) in (
+        (
+          (refl, small),
+          count,
+          recipe_fits (written p (counted_by (suc j))) (works_on r j 0) (numbered_bounds p r (counted_by (suc j)) j 0 h (omega (arith, few)) small) d x fits
+              (omega (arith, some, places)),
+        ),
+        tt,
+      )
+
+  way_fits : (y : Way) (k d : ℕ) → WayFits r n y k → BlockFits (k + suc (suc (suc (suc d)))) (way_text p n y)
   way_fits (each f) k d fits =
-      let deep : suc (suc (suc (k + d))) ≡ k + suc (suc (suc d)) = omega arith in
-      subst (λ (i : ℕ). BlockFits i (way_text p n (each f))) deep
-      (upto_fits (suc (suc (suc (k + d)))) _ n (λ e l. recipe_fits p r h (k + d) e (f e) (fits e l) (omega (arith, l, places))))
+      let deep : suc (suc (suc (suc (k + d)))) ≡ k + suc (suc (suc (suc d))) = omega arith in
+      subst (λ (i : ℕ). BlockFits i (way_text p n (each f))) deep (each_fits f r.scratch (suc (k + d)) (omega arith) fits)
+  way_fits (all j x) k d fits =
+      let deep : suc (suc (suc (suc (k + d)))) ≡ k + suc (suc (suc (suc d))) = omega arith in
+      subst (λ (i : ℕ). BlockFits i (way_text p n (all j x))) deep (by_size (is_looped n) refl fits.1)
+    where
+      by_size : (b : Bool) → is_looped n ≡ b → (b ≡ true → suc j ≤ r.scratch)
+          → BlockFits (suc (suc (suc (suc (k + d))))) (if b then looped_text p n (suc j) x else upto (λ e. recipe_text (written p (fixed e)) x) n)
+      by_size true is room = let some : 0 < n = some_looped n is in looped_fits x j (k + d) (room refl) some (fits.2 0 some)
+      by_size false is room = each_fits (λ e. x) j (suc (k + d)) fits.0 fits.2
   way_fits (decide c a b) zero d fits = absurd fits
   way_fits (decide c a b) (suc k) d fits =
-      let deep : suc (k + suc (suc (suc d))) ≡ suc k + suc (suc (suc d)) = omega arith in
+      let deep : suc (k + suc (suc (suc (suc d)))) ≡ suc k + suc (suc (suc (suc d))) = omega arith in
       subst (λ (i : ℕ). BlockFits i (way_text p n (decide c a b))) deep
-      ((is_exp p r h c fits.0, way_fits a k d fits.1, way_fits b k d fits.2), tt)
+      ((is_exp (written p (fixed 0)) r h c fits.0, way_fits a k d fits.1, way_fits b k d fits.2), tt)
 
 -- ---- blocks
 
-scratch_few : (c : Kind) (s : Spec) → scratch_of c s ≤ 4
-scratch_few LogicalOp s = by_test _
+pub worked_few : (c : Kind) (s : Spec) → worked_of c s ≤ 4
+worked_few LogicalOp s = by_test _
   where
     by_test : (b : Bool) → (if b then 1 else 4) ≤ 4
     by_test true = omega arith
     by_test false = omega arith
-scratch_few Shift s = by_test _
+worked_few Shift s = by_test _
   where
     by_test : (b : Bool) → (if b then 0 else 1) ≤ 4
     by_test true = omega arith
     by_test false = omega arith
-scratch_few _ s = omega arith
+worked_few _ s = omega arith
+
+pub scratch_few : (c : Kind) (s : Spec) → scratch_of c s ≤ 5
+scratch_few c s = by_test (is_alike c s && is_looped (total s.outs)) (worked_few c s)
+  where
+    by_test : (b : Bool) → worked_of c s ≤ 4 → (if b then suc (worked_of c s) else worked_of c s) ≤ 5
+    by_test true h = omega (arith, h)
+    by_test false h = omega (arith, h)
 
 module _ (s : Spec) (p : Places) (places : AreInBounds s p) where
-  fed_bounds : HasBounds p (fed s)
+  fed_bounds : HasBounds (written p (fixed 0)) (fed s)
   fed_bounds = record {
     input = λ k e f. places.ins k e f.0;
     state = λ i f. omega (arith, f, places.state);
     mask = places.mask;
     number = places.number;
     scratch = omega (arith, scratch_few s.kind s);
+    which = refl;
   }
 
-  from_bounds : (n : ℕ) → HasBounds p (from_value s n)
+  from_bounds : (n : ℕ) → HasBounds (written p (fixed 0)) (from_value s n)
   from_bounds n = record {
     input = λ k e f. places.ins k e f;
     state = λ i f. omega (arith, f.1, places.state);
     mask = places.mask;
     number = places.number;
     scratch = omega arith;
+    which = refl;
   }
 
-  input_bounds : HasBounds p (inputs s)
+  input_bounds : HasBounds (written p (fixed 0)) (inputs s)
   input_bounds = record {
     input = λ k e f. places.ins k e f;
     state = λ i f. absurd f;
     mask = places.mask;
     number = places.number;
     scratch = omega arith;
+    which = refl;
   }
 
   sensor_fits : (d c : ℕ) → c < 2 ^ 63 → p.outs < 2 ^ 63 → BlockFits (suc (suc d)) (sensor_text p (pos c))
@@ -182,17 +253,17 @@ module _ (s : Spec) (p : Places) (places : AreInBounds s p) where
   next_fits reads is_typed d = upto_fits (suc d) _ (state_len_of s.kind s) (λ i l. (
     (
       ((refl, omega arith), number_is_exp (p.state + i) (omega (arith, l, places.state))),
-      is_exp p (from_value s i) (from_bounds i) (next_term s.kind s i) (reads s is_typed i l),
+      is_exp (written p (fixed 0)) (from_value s i) (from_bounds i) (next_term s.kind s i) (reads s is_typed i l),
     ),
     tt,
   ))
 
-  pub values_fit : CellReadsLaw → typed s ≡ true → s.kind ≢ Sensor → (d : ℕ) → BlockFits (11 + d) (body_text s p)
+  pub values_fit : CellReadsLaw → typed s ≡ true → s.kind ≢ Sensor → (d : ℕ) → BlockFits (12 + d) (body_text s p)
   values_fit reads is_typed other d =
-      let deep : 8 + suc (suc (suc d)) ≡ 11 + d = omega arith in
-      subst (BlockFits (11 + d)) (sym (values_are s.kind s p other))
+      let deep : 8 + suc (suc (suc (suc d))) ≡ 12 + d = omega arith in
+      subst (BlockFits (12 + d)) (sym (values_are s.kind s p other))
       (subst (λ (i : ℕ). BlockFits i (way_text p (total s.outs) (way_of s.kind s))) deep
-      (way_fits p (fed s) fed_bounds (total s.outs) places.outs (way_of s.kind s) 8 d (reads s is_typed other)))
+      (way_fits p (fed s) fed_bounds (total s.outs) places.outs places.count (way_of s.kind s) 8 d (reads s is_typed other)))
 
   pub senses_fit : typed s ≡ true → s.kind ≡ Sensor → (d : ℕ) → BlockFits (suc (suc d)) (body_text s p)
   senses_fit is_typed kind d =
@@ -201,20 +272,20 @@ module _ (s : Spec) (p : Places) (places : AreInBounds s p) where
       subst (BlockFits (suc (suc d))) (sym (sensor_values s.kind s p kind ∙ ap (sensor_text p) c.1.0))
       (sensor_fits d (suc c.0) (omega (arith, c.1.1)) (omega (arith, one, places.outs)))
 
-  -- The text of the values is nested at most eleven deep.
-  pub body_fits : CellReadsLaw → typed s ≡ true → (d : ℕ) → BlockFits (11 + d) (body_text s p)
+  -- The text of the values is nested at most twelve deep.
+  pub body_fits : CellReadsLaw → typed s ≡ true → (d : ℕ) → BlockFits (12 + d) (body_text s p)
   body_fits reads is_typed d = by_kind (is_kind s.kind)
     where
-      by_kind : ((s.kind ≡ Sensor) ⊎ (s.kind ≢ Sensor)) → BlockFits (11 + d) (body_text s p)
+      by_kind : ((s.kind ≡ Sensor) ⊎ (s.kind ≢ Sensor)) → BlockFits (12 + d) (body_text s p)
       by_kind (inl e) =
-          let deep : suc (suc (9 + d)) ≡ 11 + d = omega arith in subst (λ (i : ℕ). BlockFits i (body_text s p)) deep (senses_fit is_typed e (9 + d))
+          let deep : suc (suc (10 + d)) ≡ 12 + d = omega arith in subst (λ (i : ℕ). BlockFits i (body_text s p)) deep (senses_fit is_typed e (10 + d))
       by_kind (inr n) = values_fit reads is_typed n d
 
   pub delay_fits : TermFits (inputs s) 32 (delay_term s.kind s) → IsExp (delay_expression s p)
-  delay_fits f = is_exp p (inputs s) input_bounds (delay_term s.kind s) f
+  delay_fits f = is_exp (written p (fixed 0)) (inputs s) input_bounds (delay_term s.kind s) f
 
   pub branch_fits : TermFits (inputs s) 32 (branch_term s.kind s) → IsExp (branch_expression s p)
-  branch_fits f = is_exp p (inputs s) input_bounds (branch_term s.kind s) f
+  branch_fits f = is_exp (written p (fixed 0)) (inputs s) input_bounds (branch_term s.kind s) f
 
 -- inputs that are all 0
 some_inputs : (ps : List Port) → Fills ps (listed (λ e. pos 0) (total ps))

@@ -15,13 +15,13 @@ use Rattle.sci_kinds.proofs.TypedLemmas.{Tests, scalar_one, before_one, three_to
 use Rattle.sci_forms.specs.declared.ports.Port.{Port}
 use Rattle.c_ast.specs.declared.Op.TheVariants.{Lt, Le, Gt, Ge, Eq, Ne}
 use Rattle.c_mean.specs.Meaning.{operate, truth}
-use Rattle.sci_cgen_blocks.specs.Terms.{Given, Term, value, constant, input, both, Scratch, Gives, WayGives, Readable, IsSpelled, RecipeFits, WayFits}
+use Rattle.sci_cgen_blocks.specs.Terms.{Given, Term, value, constant, input, along, both, Scratch, Gives, WayGives, Readable, IsSpelled, RecipeFits, WayFits}
 use Rattle.sci_cgen_blocks.specs.Recipes.{given, recipe_of, way_of, copied, relation, switches}
 use Rattle.sci_cgen_blocks.proofs.Operators.{lt_is, le_is, gt_is, ge_is, eq_is, ne_is}
 use Rattle.sci_cgen_blocks.proofs.Working.{done_gives}
 use Rattle.sci_cgen_blocks.proofs.Deciding.{by_truth}
 use Rattle.sci_cgen_blocks.proofs.Reading.{Reads, both_reads, number_reads, input_reads}
-use Rattle.sci_cgen_blocks.proofs.Inputs.{given_first, given_input, in_size, fed_of, IsFed, element_read}
+use Rattle.sci_cgen_blocks.proofs.Inputs.{given_for, given_first, given_input, in_size, fed_of, fed_for, copied_reads, IsFed, element_read}
 
 -- ---- RELATIONALOP
 
@@ -38,16 +38,16 @@ relation_is e f false false false false true = gt_is e f
 relation_is e f false false false false false = ge_is e f
 
 module _ (s : Spec) (x : List ℤ) (m : ℕ) (u : List ℤ) (e : ℕ) (t : Scratch) where
-  pub relational_op_gives : Asks RelationalOp s → Gives (given s x m u) (recipe_of RelationalOp s e) t (cell_of RelationalOp s x m u e)
+  pub relational_op_gives : Asks RelationalOp s → Gives (given_for s x m u e) (recipe_of RelationalOp s) t (cell_of RelationalOp s x m u e)
   relational_op_gives a =
       let op = param s 0 in
       let first = ap Some (given_input s x m u (in_type s) (size s) a.0.ins_alike 0 e (omega arith)) in
       let second = ap Some (given_input s x m u (in_type s) (size s) a.0.ins_alike 1 e (omega (arith, a.1))) in
-      (done_gives {v = both (relation op) (input 0 e) (input 1 e)}
+      (done_gives {v = both (relation op) (along 0) (along 1)}
       (relation_is first second (int_eq op (pos 0)) (int_eq op (pos 1)) (int_eq op (pos 2)) (int_eq op (pos 3)) (int_eq op (pos 4)))).gives
 
 module _ (s : Spec) (e : ℕ) (l : e < total s.outs) where
-  pub relational_op_reads : Asks RelationalOp s → IsFed RelationalOp s → RecipeFits (fed_of RelationalOp s) (recipe_of RelationalOp s e)
+  pub relational_op_reads : Asks RelationalOp s → IsFed RelationalOp s → RecipeFits (fed_for RelationalOp s e) (recipe_of RelationalOp s)
   relational_op_reads a f =
       let here = in_size s a.0.outs_alike a.0.one e l in
       let read = λ (k : ℕ) (h : k < 2). element_read RelationalOp s (in_type s) a.0.ins_alike f k e (omega (arith, h, a.1)) refl here in
@@ -121,6 +121,8 @@ module _ (s : Spec) where
       let test : Reads (fed_of Switch2 s) 32 (switches (param s 0) (param s 1) (input 1 0)) =
       switches_read (input 1 0) (param s 1) (input_reads second) number (int_eq (param s 0) (pos 0)) (int_eq (param s 0) (pos 1)) in (
         test.fits,
-        λ e l. (tt, ((omega (arith, i.three), omega (arith, here e l, i.first)), f 0 (omega (arith, i.three)) refl)),
-        λ e l. (tt, ((omega (arith, i.three), omega (arith, here e l, i.third)), f 2 (omega (arith, i.three)) refl)),
+        copied_reads Switch2 s 7 0 refl refl
+            (λ e l. ((omega (arith, i.three), omega (arith, here e l, i.first)), f 0 (omega (arith, i.three)) refl)),
+        copied_reads Switch2 s 7 2 refl refl
+            (λ e l. ((omega (arith, i.three), omega (arith, here e l, i.third)), f 2 (omega (arith, i.three)) refl)),
       )

@@ -1,5 +1,5 @@
 -- What a block is given, and what it may read.
-use Rattle.std.proofs.Common.{◌≡◌, ℕ, zero, suc, ◌+◌, ◌*◌, ◌<◌, ◌≤◌, ◌≤ℤ◌, Bool, true, false, ◌||◌, refl, sym, ap, arith, ℤ, pos, negsuc, List, [], ◌∷◌, length, subst}
+use Rattle.std.proofs.Common.{◌≡◌, ℕ, zero, suc, ◌+◌, ◌*◌, ◌<◌, ◌≤◌, ◌≤ℤ◌, Bool, true, false, ◌||◌, ◌&&◌, if◌then◌else◌, refl, sym, ap, arith, ℤ, pos, negsuc, List, [], ◌∷◌, length, subst, true≢false}
 use Rattle.std.specs.Prelude.{nat_eq, not}
 use Rattle.std.proofs.lemmas.Int.{ints}
 use Rattle.sci_base.specs.declared.Ty.{Ty}
@@ -18,10 +18,14 @@ use Rattle.sci_forms.proofs.TestLemmas.{both_true, all_to_at}
 use Rattle.sci_kinds.specs.Table.{input}
 use Rattle.sci_kinds.proofs.Elements.{total_one}
 use Rattle.sci_kinds.proofs.TypedLemmas.{tests}
-use Rattle.sci_cgen_blocks.specs.Terms.{Readable, IsSpelled}
-use Rattle.sci_cgen_blocks.specs.Recipes.{given, IsElement, scratch_of}
+use Rattle.sci_cgen_blocks.specs.Terms.{Given, Readable, IsSpelled, all, is_looped, RecipeFits, WayFits}
+use Rattle.sci_cgen_blocks.specs.Recipes.{given, IsElement, recipe_of, worked_of, copied, is_alike, scratch_of}
 
 -- ---- values
+
+-- what is given where this element is worked out
+abbrev pub given_for : Spec → List ℤ → ℕ → List ℤ → ℕ → Given
+given_for s x m u e = record (given s x m u) { element = e }
 
 -- inputs of one size lie one after the other
 pub before_alike : (ps : List Port) (t : Ty) (n : ℕ) → IsAlike ps t n → (k : ℕ) → k ≤ length ps → before ps k ≡ k * n
@@ -65,7 +69,39 @@ spelled_in t u r = let b = small t u r in (omega (arith, ints, b.0), omega (arit
 
 -- what a block of kind k may read for its values
 abbrev pub fed_of : Kind → Spec → Readable
-fed_of k s = record { input = λ i e. IsElement s i e × (truth_at s.feed i ≡ true); state = λ i. i < state_len_of k s; scratch = scratch_of k s }
+fed_of k s = record { input = λ i e. IsElement s i e × (truth_at s.feed i ≡ true); state = λ i. i < state_len_of k s; scratch = scratch_of k s; element = 0 }
+
+-- and where its recipe works out this element
+abbrev pub fed_for : Kind → Spec → ℕ → Readable
+fed_for k s e = record (fed_of k s) { scratch = worked_of k s; element = e }
+
+-- what may be read for a part of the outputs
+abbrev pub fed_part : Kind → Spec → ℕ → Readable
+fed_part k s e = record (fed_of k s) { element = e }
+
+-- a kind that does the same to all elements has scratch for its recipe, and where there is a loop for the counter
+enough_scratch : (k : Kind) (s : Spec) → is_alike k s ≡ true
+    → (worked_of k s ≤ scratch_of k s) × (is_looped (total s.outs) ≡ true → suc (worked_of k s) ≤ scratch_of k s)
+enough_scratch k s h = by_tests (is_alike k s) (is_looped (total s.outs)) h
+  where
+    by_tests : (a b : Bool) → a ≡ true
+        → (worked_of k s ≤ (if a && b then suc (worked_of k s) else worked_of k s))
+        × (b ≡ true → suc (worked_of k s) ≤ (if a && b then suc (worked_of k s) else worked_of k s))
+    by_tests true true h = (omega arith, λ q. omega arith)
+    by_tests true false h = (omega arith, λ q. absurd (true≢false (sym q)))
+    by_tests false b h = absurd (true≢false (sym h))
+
+-- where the recipe of each element reads what it may, so does the way
+pub way_reads : (k : Kind) (s : Spec) (d : ℕ) → is_alike k s ≡ true → ((e : ℕ) → e < total s.outs → RecipeFits (fed_for k s e) (recipe_of k s))
+    → WayFits (fed_of k s) (total s.outs) (all (worked_of k s) (recipe_of k s)) d
+way_reads k s d h fits = let c = enough_scratch k s h in (c.0, c.1, fits)
+
+-- a kind that takes no scratch copies an input that may be read
+pub copied_reads : (k : Kind) (s : Spec) (d i : ℕ) → is_alike k s ≡ true → worked_of k s ≡ 0 → ((e : ℕ) → e < total s.outs → (fed_of k s).input i e)
+    → WayFits (fed_of k s) (total s.outs) (copied i) d
+copied_reads k s d i h none reads =
+    let c = enough_scratch k s h in
+    (omega arith, λ q. subst (λ (n : ℕ). suc n ≤ scratch_of k s) none (c.1 q), λ e l. (tt, reads e l))
 
 -- each input has feedthrough that has it by the kind
 abbrev pub IsFed : Kind → Spec → Type 0

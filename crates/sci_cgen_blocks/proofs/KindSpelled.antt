@@ -1,8 +1,7 @@
 -- All numbers in the terms of a typed block are spelled, and its places are small.
-use Rattle.std.proofs.Common.{arith, ◌≡◌, ◌≢◌, ◌<◌, ◌≤◌, ◌^◌, ℕ, inl, inr, pos, true, length, refl, sym, ap, ◌∙◌, subst}
+use Rattle.std.proofs.Common.{arith, ◌≡◌, ◌≢◌, ◌<◌, ◌≤◌, ◌^◌, ℕ, inl, inr, pos, Bool, true, false, if◌then◌else◌, length, refl, sym, ap, ◌∙◌, subst}
 use Rattle.std.proofs.lemmas.Int.{ints}
 use Rattle.std.proofs.lemmas.Bool.{cases_lt}
-use Rattle.c_steps.specs.Texts.{upto}
 use Rattle.sci_forms.specs.declared.Kind.{Kind}
 use Rattle.sci_forms.specs.declared.Kind.TheVariants.{Sensor, Switch2, Select, Logic, EvtDly, EvtVarDly, IfThEl, ESelect}
 use Rattle.sci_forms.specs.declared.spec.Spec.{Spec}
@@ -11,26 +10,43 @@ use Rattle.sci_forms.specs.Typed.{typed}
 use Rattle.sci_forms.specs.Words.{param, state_len_of}
 use Rattle.sci_kinds.specs.Asks.{Asks}
 use Rattle.sci_kinds.proofs.LawProofs.{asks}
-use Rattle.sci_cgen_blocks.specs.Terms.{IsSpelled, Way, input, each, WayFits}
-use Rattle.sci_cgen_blocks.specs.Recipes.{recipe_of, switches, way_of, next_term, delay_term, branch_term, fed, from_value}
-use Rattle.sci_cgen_blocks.specs.Texts.{Places, values_text, way_text, recipe_text}
+use Rattle.sci_cgen_blocks.specs.Terms.{IsSpelled, Way, input, each, all, WayFits}
+use Rattle.sci_cgen_blocks.specs.Recipes.{plain, recipe_of, worked_of, part_of, is_alike, scratch_of, switches, way_of, next_term, delay_term, branch_term, fed, from_value}
+use Rattle.sci_cgen_blocks.specs.Texts.{Places, values_text, way_text}
 use Rattle.sci_cgen_blocks.specs.Plain.{AreSpelled, IsRecipeSpelled, AreFew}
 use Rattle.sci_cgen_blocks.proofs.Bodies.{values_are}
+use Rattle.sci_cgen_blocks.proofs.Bounds.{works_on}
 use Rattle.sci_cgen_blocks.proofs.KindLaws.{cell_reads_law}
 use Rattle.sci_cgen_blocks.proofs.NextStates.{next_reads_law}
 use Rattle.sci_cgen_blocks.proofs.KindParts.{fits_spelled, recipe_spelled}
 
-pub way_of_other : (k : Kind) (s : Spec) → k ≢ Switch2 → k ≢ Select → k ≢ Logic → way_of k s ≡ each (recipe_of k s)
-way_of_other Switch2 s h i j = absurd (h refl)
-way_of_other Select s h i j = absurd (i refl)
-way_of_other Logic s h i j = absurd (j refl)
-way_of_other _ s h i j = refl
+pub way_of_alike : (k : Kind) (s : Spec) → k ≢ Switch2 → k ≢ Select → k ≢ Logic → is_alike k s ≡ true → way_of k s ≡ all (worked_of k s) (recipe_of k s)
+way_of_alike Switch2 s h i j e = absurd (h refl)
+way_of_alike Select s h i j e = absurd (i refl)
+way_of_alike Logic s h i j e = absurd (j refl)
+way_of_alike k s h i j e = ap (λ (b : Bool). if b then all (worked_of k s) (recipe_of k s) else each (λ e. plain (part_of k s e))) e
 
-pub cell_spelled : (s : Spec) → typed s ≡ true → s.kind ≢ Sensor → way_of s.kind s ≡ each (recipe_of s.kind s) → (e : ℕ) → e < total s.outs
-    → IsRecipeSpelled (recipe_of s.kind s e)
-cell_spelled s h n single e l =
-    recipe_spelled (fed s) (recipe_of s.kind s e)
-    (subst (λ (y : Way). WayFits (fed s) (total s.outs) y 8) single (cell_reads_law s h n) e l)
+pub way_of_parts : (k : Kind) (s : Spec) → k ≢ Switch2 → k ≢ Select → k ≢ Logic → is_alike k s ≡ false → way_of k s ≡ each (λ e. plain (part_of k s e))
+way_of_parts Switch2 s h i j e = absurd (h refl)
+way_of_parts Select s h i j e = absurd (i refl)
+way_of_parts Logic s h i j e = absurd (j refl)
+way_of_parts k s h i j e = ap (λ (b : Bool). if b then all (worked_of k s) (recipe_of k s) else each (λ e. plain (part_of k s e))) e
+
+-- of one recipe for all elements, where there is one
+pub recipe_spelled_all : (s : Spec) → typed s ≡ true → s.kind ≢ Sensor → way_of s.kind s ≡ all (worked_of s.kind s) (recipe_of s.kind s) → 0 < total s.outs
+    → IsRecipeSpelled (recipe_of s.kind s)
+recipe_spelled_all s h n single some =
+    let fits : WayFits (fed s) (total s.outs) (all (worked_of s.kind s) (recipe_of s.kind s)) 8 =
+    subst (λ (y : Way). WayFits (fed s) (total s.outs) y 8) single (cell_reads_law s h n) in
+    recipe_spelled (works_on (fed s) (worked_of s.kind s) 0) (recipe_of s.kind s) (fits.2 0 some)
+
+-- of a term for each
+pub part_spelled : (s : Spec) → typed s ≡ true → s.kind ≢ Sensor → way_of s.kind s ≡ each (λ e. plain (part_of s.kind s e)) → (e : ℕ) → e < total s.outs
+    → AreSpelled (part_of s.kind s e)
+part_spelled s h n separate e l =
+    let fits : WayFits (fed s) (total s.outs) (each (λ e. plain (part_of s.kind s e))) 8 =
+    subst (λ (y : Way). WayFits (fed s) (total s.outs) y 8) separate (cell_reads_law s h n) in
+    fits_spelled (works_on (fed s) (scratch_of s.kind s) e) 32 (part_of s.kind s e) (fits e l).1
 
 -- the test of a switch
 pub switch_spelled : (s : Spec) → typed s ≡ true → s.kind ≡ Switch2 → AreSpelled (switches (param s 0) (param s 1) (input 1 0))
@@ -74,11 +90,15 @@ branch_by_kind _ s a = natural_spelled 1 (omega arith)
 pub branch_spelled : (s : Spec) → typed s ≡ true → AreSpelled (branch_term s.kind s)
 branch_spelled s h = branch_by_kind s.kind s (asks s h)
 
--- ---- texts element by element
+-- ---- texts of all elements
 
-pub values_of_other : (k : Kind) (s : Spec) (p : Places) → k ≢ Sensor → way_of k s ≡ each (recipe_of k s)
-    → values_text k s p ≡ upto (λ e. recipe_text p e (recipe_of k s e)) (total s.outs)
-values_of_other k s p n single = values_are k s p n ∙ ap (way_text p (total s.outs)) single
+pub values_of_alike : (k : Kind) (s : Spec) (p : Places) → k ≢ Sensor → way_of k s ≡ all (worked_of k s) (recipe_of k s)
+    → values_text k s p ≡ way_text p (total s.outs) (all (worked_of k s) (recipe_of k s))
+values_of_alike k s p n single = values_are k s p n ∙ ap (way_text p (total s.outs)) single
+
+pub values_of_parts : (k : Kind) (s : Spec) (p : Places) → k ≢ Sensor → way_of k s ≡ each (λ e. plain (part_of k s e))
+    → values_text k s p ≡ way_text p (total s.outs) (each (λ e. plain (part_of k s e)))
+values_of_parts k s p n separate = values_are k s p n ∙ ap (way_text p (total s.outs)) separate
 
 -- an input's elements have places, so they are few
 pub few_elements : (s : Spec) (p : Places) → AreFew s p → (k : ℕ) → k < length s.ins → elements (port_at s.ins k) ≤ 2 ^ 20

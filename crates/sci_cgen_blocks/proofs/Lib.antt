@@ -22,6 +22,7 @@ pub mod KindLaws
 pub mod Shown
 pub mod Steps
 pub mod Elements
+pub mod Looped
 pub mod Bodies
 pub mod Sensing
 pub mod NextTexts

@@ -20,13 +20,13 @@ use Rattle.sci_kinds.proofs.Elements.{input_in_range}
 use Rattle.sci_kinds.specs.Table.{cell_of, input as input_of, count_to, logical as logical_of, logical_bits as bits_of, truth as truth_of, number}
 use Rattle.c_ast.specs.declared.Op.TheVariants.{Add, Mul, Rem, Eq, Ne, Gt}
 use Rattle.c_mean.specs.Meaning.{truth, ◌>>=◌}
-use Rattle.sci_cgen_blocks.specs.Terms.{Given, Term, input, scratch, both, value, Scratch, with_scratch, Work, assign, do_work, do_works, do_steps, worked, worked_by, then_steps, do_turns, Gives, Readable, IsScratch, WorksFit, StepsFit, Spares, RecipeFits}
-use Rattle.sci_cgen_blocks.specs.Recipes.{recipe_of, given, natural, result, set, wrapped, logical_truths, logical_bits, highest_bit, logical, truth as truth_term, counted, changed}
+use Rattle.sci_cgen_blocks.specs.Terms.{Given, Term, along, scratch, both, value, Scratch, with_scratch, Work, assign, do_work, do_works, do_steps, worked, worked_by, then_steps, do_turns, Gives, Readable, IsScratch, WorksFit, StepsFit, Spares, RecipeFits}
+use Rattle.sci_cgen_blocks.specs.Recipes.{recipe_of, natural, result, set, wrapped, logical_truths, logical_bits, highest_bit, logical, truth as truth_term, counted, changed}
 use Rattle.sci_cgen_blocks.proofs.Operators.{eq_is, ne_is, gt_is, mul_is}
 use Rattle.sci_cgen_blocks.proofs.Working.{Reaches, step_goes, assign_goes, spelled}
 use Rattle.sci_cgen_blocks.proofs.Patterns.{plus, times, over, left_over, pattern_below, pattern_is, width_at_most, pow_at_most, number_gives}
-use Rattle.sci_cgen_blocks.proofs.Reading.{Reads, both_reads, natural_reads, input_reads, scratch_reads, pattern_reads, wrapped_reads}
-use Rattle.sci_cgen_blocks.proofs.Inputs.{given_input, in_size, fed_of, IsFed, element_read}
+use Rattle.sci_cgen_blocks.proofs.Reading.{Reads, both_reads, natural_reads, along_reads, scratch_reads, pattern_reads, wrapped_reads}
+use Rattle.sci_cgen_blocks.proofs.Inputs.{given_for, given_input, in_size, fed_for, IsFed, element_read}
 use Rattle.sci_cgen_blocks.proofs.PatternKinds.{moved_within}
 use Rattle.sci_cgen_blocks.proofs.MovedBits.{half_pos, moved_up, upper_bits, upper_below, all_bits}
 
@@ -132,14 +132,14 @@ truth_digit : (b : Bool) → truth (not b) ≡ pos (if b then 0 else 1)
 truth_digit true = refl
 truth_digit false = refl
 
-module _ (g : Given) (e n : ℕ) (small : n ≤ 64) (v : ℕ → ℤ) (is : (k : ℕ) → k < n → g.input k e ≡ v k) (op : ℤ) where
-  truths_reach : (s : Scratch) → Reaches g (set (natural 0) ∷ changed (counted (λ k. truth_term (input k e)) 0 n)) (logical op n) s
+module _ (g : Given) (n : ℕ) (small : n ≤ 64) (v : ℕ → ℤ) (is : (k : ℕ) → k < n → g.input k g.element ≡ v k) (op : ℤ) where
+  truths_reach : (s : Scratch) → Reaches g (set (natural 0) ∷ changed (counted (λ k. truth_term (along k)) 0 n)) (logical op n) s
       (Value (truth (logical_of op n (count_to v n))))
   truths_reach s =
-      assign_goes {z = pos 0} refl (changed_reaches g (counted (λ k. truth_term (input k e)) 0 n) (logical op n) (with_scratch 1 (pos 0) s) _
+      assign_goes {z = pos 0} refl (changed_reaches g (counted (λ k. truth_term (along k)) 0 n) (logical op n) (with_scratch 1 (pos 0) s) _
       (subst (λ (ws : List Work). Does g ws (with_scratch 1 (pos 0) s) (λ s'. value g s' (logical op n) ≡ Some (truth (logical_of op n (count_to v n)))))
-      (append-nil (counted (λ k. truth_term (input k e)) 0 n))
-      (counted_does g (λ k. truth_term (input k e)) v n small [] (with_scratch 1 (pos 0) s)
+      (append-nil (counted (λ k. truth_term (along k)) 0 n))
+      (counted_does g (λ k. truth_term (along k)) v n small [] (with_scratch 1 (pos 0) s)
       (λ s'. value g s' (logical op n) ≡ Some (truth (logical_of op n (count_to v n))))
       (λ k l s' o. ne_is (ap Some (is k l)) refl ∙ ap Some (truth_digit (int_eq (v k) (pos 0)))) n 0 (omega arith) (with_scratch 1 (pos 0) s) refl
       (λ i q. refl)
@@ -177,7 +177,7 @@ turn_then : {g : Given} {n k : ℕ} {ws : List Work} {s : Scratch} {P Q : Scratc
     → ((s' : Scratch) → P s' → Turns g n k ws (with_scratch n (s' n +ℤ pos 1) s') Q) → Turns g n (suc k) ws s Q
 turn_then {n} {k} d go = let t = go d.behind d.holds in record { behind = t.behind; is = rw (d.is, t.is) refl; holds = t.holds }
 
-module _ (g : Given) (e n : ℕ) (small : n ≤ 64) (ty : Ty) (v : ℕ → ℤ) (is : (k : ℕ) → k < n → g.input k e ≡ v k) (fits : (k : ℕ) → k < n → InRange ty (v k))
+module _ (g : Given) (n : ℕ) (small : n ≤ 64) (ty : Ty) (v : ℕ → ℤ) (is : (k : ℕ) → k < n → g.input k g.element ≡ v k) (fits : (k : ℕ) → k < n → InRange ty (v k))
     (op : ℤ) where
   -- the operation at bit b
   abbrev at_bit : ℕ → Bool
@@ -192,7 +192,7 @@ module _ (g : Given) (e n : ℕ) (small : n ≤ 64) (ty : Ty) (v : ℕ → ℤ) 
     power : s 3 ≡ pos (2 ^ b)
 
   abbrev digit : ℕ → Term
-  digit k = highest_bit ty (both Mul (input k e) (scratch 3))
+  digit k = highest_bit ty (both Mul (along k) (scratch 3))
 
   abbrev work : List Work
   work =
@@ -206,7 +206,7 @@ module _ (g : Given) (e n : ℕ) (small : n ≤ 64) (ty : Ty) (v : ℕ → ℤ) 
       let top = width_at_most ty in
       let most = span_at_most ty in
       let within = (moved_within ty (v i) b (fits i l) (omega (arith, w, top))).0 in
-      let moved : value g s (both Mul (input i e) (scratch 3)) ≡ Some (v i *ℤ pos (2 ^ b)) = mul_is (ap Some (is i l)) (ap Some h) within in
+      let moved : value g s (both Mul (along i) (scratch 3)) ≡ Some (v i *ℤ pos (2 ^ b)) = mul_is (ap Some (is i l)) (ap Some h) within in
       let below = pattern_below ty (v i *ℤ pos (2 ^ b)) in
       over (pattern_is moved ty within) (span ty / 2) (half_pos ty) (omega (arith, below, most))
       ∙ ap (λ (x : ℕ). Some (pos x)) (moved_up ty (v i) k b w)
@@ -238,7 +238,7 @@ module _ (g : Given) (e n : ℕ) (small : n ≤ 64) (ty : Ty) (v : ℕ → ℤ) 
   turns_do (suc k) b s l a =
       turn_then (turn_does k b s l a) (λ s' c. turns_do k (suc b) _ (omega (arith, l)) (record { bits = c.bits; power = c.power }))
 
-  bits_reach : (s : Scratch) → Reaches g (logical_bits ty op n e).steps (logical_bits ty op n e).value s (number ty (bits_of ty op n v))
+  bits_reach : (s : Scratch) → Reaches g (logical_bits ty op n).steps (logical_bits ty op n).value s (number ty (bits_of ty op n v))
   bits_reach s =
       let t = turns_do (width ty) 0 (with_scratch 4 (pos 0) (with_scratch 3 (pos 1) (with_scratch 2 (pos 0) s))) (omega arith)
       (record { bits = refl; power = refl }) in
@@ -252,24 +252,24 @@ module _ (g : Given) (e n : ℕ) (small : n ≤ 64) (ty : Ty) (v : ℕ → ℤ) 
 -- ---- the kind
 
 pub logical_op_gives : (s : Spec) (x : List ℤ) (m : ℕ) (u : List ℤ) (e : ℕ) → e < total s.outs → (t : Scratch) → Asks LogicalOp s → Fills s.ins u
-    → Gives (given s x m u) (recipe_of LogicalOp s e) t (cell_of LogicalOp s x m u e)
+    → Gives (given_for s x m u e) (recipe_of LogicalOp s) t (cell_of LogicalOp s x m u e)
 logical_op_gives s x m u e l t a f = by_way (int_eq (param s 1) (pos 0))
   where
     v : ℕ → ℤ
     v k = input_of (size s) u k e
 
-    is : (k : ℕ) → k < length s.ins → (given s x m u).input k e ≡ v k
+    is : (k : ℕ) → k < length s.ins → (given_for s x m u e).input k e ≡ v k
     is k q = given_input s x m u (out_type s) (size s) a.0.ins_alike k e (omega (arith, q))
 
     fits : (k : ℕ) → k < length s.ins → InRange (out_type s) (v k)
     fits k q = input_in_range s.ins (out_type s) (size s) u a.0.ins_alike f k e q (in_size s a.0.outs_alike a.0.one e l)
 
-    by_way : (b : Bool) → Gives (given s x m u)
-        (if b then logical_truths (param s 0) (length s.ins) e else logical_bits (out_type s) (param s 0) (length s.ins) e) t
+    by_way : (b : Bool) → Gives (given_for s x m u e)
+        (if b then logical_truths (param s 0) (length s.ins) else logical_bits (out_type s) (param s 0) (length s.ins)) t
         (if b then Value (truth_of (logical_of (param s 0) (length s.ins) (count_to v (length s.ins)))) else number (out_type s)
         (bits_of (out_type s) (param s 0) (length s.ins) v))
-    by_way true = (truths_reach (given s x m u) e (length s.ins) a.2 v is (param s 0) t).gives
-    by_way false = (bits_reach (given s x m u) e (length s.ins) a.2 (out_type s) v is fits (param s 0) t).gives
+    by_way true = (truths_reach (given_for s x m u e) (length s.ins) a.2 v is (param s 0) t).gives
+    by_way false = (bits_reach (given_for s x m u e) (length s.ins) a.2 (out_type s) v is fits (param s 0) t).gives
 
 -- ---- what it reads
 
@@ -312,21 +312,21 @@ counted_spares : (f : ℕ → Term) (j k : ℕ) → Spares 4 (counted f k j)
 counted_spares f zero k = tt
 counted_spares f (suc j) k = (refl, counted_spares f j (suc k))
 
-module _ (r : Readable) (op : ℤ) (n e : ℕ) (few : n ≤ 64) (input_at : (k : ℕ) → k < n → r.input k e) where
-  truths_read : 1 ≤ r.scratch → RecipeFits r (logical_truths op n e)
+module _ (r : Readable) (op : ℤ) (n : ℕ) (few : n ≤ 64) (input_at : (k : ℕ) → k < n → r.input k r.element) where
+  truths_read : 1 ≤ r.scratch → RecipeFits r (logical_truths op n)
   truths_read o =
       let one : IsScratch r 1 = (omega arith, o) in
-      let count : StepsFit r (changed (counted (λ k. truth_term (input k e)) 0 n)) =
-      changed_fit r (counted (λ k. truth_term (input k e)) 0 n)
-      (counted_fit r (λ k. truth_term (input k e)) o n 0
-      (λ i l. both_reads (input_reads (input_at i (omega (arith, l)))) (natural_reads (omega arith)))) in
+      let count : StepsFit r (changed (counted (λ k. truth_term (along k)) 0 n)) =
+      changed_fit r (counted (λ k. truth_term (along k)) 0 n)
+      (counted_fit r (λ k. truth_term (along k)) o n 0
+      (λ i l. both_reads (along_reads (input_at i (omega (arith, l)))) (natural_reads (omega arith)))) in
       let last : Reads r 32 (logical op n) = logical_reads op n o few in
       (((one, spelled 0 (omega arith)), count), last.fits)
 
-  bits_read : (ty : Ty) → 4 ≤ r.scratch → RecipeFits r (logical_bits ty op n e)
+  bits_read : (ty : Ty) → 4 ≤ r.scratch → RecipeFits r (logical_bits ty op n)
   bits_read ty o =
       let nth : (i : ℕ) → 1 ≤ i → i ≤ 4 → IsScratch r i = λ i l h. (l, omega (arith, h, o)) in
-      let digit : ℕ → Term = λ k. highest_bit ty (both Mul (input k e) (scratch 3)) in
+      let digit : ℕ → Term = λ k. highest_bit ty (both Mul (along k) (scratch 3)) in
       let width_most = width_at_most ty in
       let doubled : (i : ℕ) → 1 ≤ i → i ≤ 4 → Reads r 31 (both Mul (scratch i) (natural 2)) =
       λ i l h. both_reads (scratch_reads l (omega (arith, h, o))) (natural_reads (omega arith)) in
@@ -337,7 +337,7 @@ module _ (r : Readable) (op : ℤ) (n e : ℕ) (few : n ≤ 64) (input_at : (k :
       ((nth 2 (omega arith) (omega arith), joined.fits), ((nth 3 (omega arith) (omega arith), power.fits), tt)) in
       let most = span_at_most ty in
       let digits : WorksFit r (counted digit 0 n) = counted_fit r digit (omega (arith, o)) n 0
-      (λ i l. both_reads (pattern_reads ty (both_reads (input_reads (input_at i (omega (arith, l)))) (scratch_reads (omega arith) (omega (arith, o)))))
+      (λ i l. both_reads (pattern_reads ty (both_reads (along_reads (input_at i (omega (arith, l)))) (scratch_reads (omega arith) (omega (arith, o)))))
       (natural_reads (omega (arith, most)))) in
       let value_fits : Reads r 32 (wrapped ty (scratch 2)) = wrapped_reads ty (scratch_reads (omega arith) (omega (arith, o))) in (
         (
@@ -359,13 +359,13 @@ module _ (r : Readable) (op : ℤ) (n e : ℕ) (few : n ≤ 64) (input_at : (k :
       )
 
 pub logical_op_reads : (s : Spec) (e : ℕ) → e < total s.outs → Asks LogicalOp s → IsFed LogicalOp s
-    → RecipeFits (fed_of LogicalOp s) (recipe_of LogicalOp s e)
+    → RecipeFits (fed_for LogicalOp s e) (recipe_of LogicalOp s)
 logical_op_reads s e l a f = by_way (int_eq (param s 1) (pos 0)) refl
   where
-    input_at : (k : ℕ) → k < length s.ins → (fed_of LogicalOp s).input k e
+    input_at : (k : ℕ) → k < length s.ins → (fed_for LogicalOp s e).input k e
     input_at k q = element_read LogicalOp s (out_type s) a.0.ins_alike f k e q refl (in_size s a.0.outs_alike a.0.one e l)
 
     by_way : (b : Bool) → int_eq (param s 1) (pos 0) ≡ b
-        → RecipeFits (fed_of LogicalOp s) (if b then logical_truths (param s 0) (length s.ins) e else logical_bits (out_type s) (param s 0) (length s.ins) e)
-    by_way true p = truths_read (fed_of LogicalOp s) (param s 0) (length s.ins) e a.2 input_at (rw p (omega arith))
-    by_way false p = bits_read (fed_of LogicalOp s) (param s 0) (length s.ins) e a.2 input_at (out_type s) (rw p (omega arith))
+        → RecipeFits (fed_for LogicalOp s e) (if b then logical_truths (param s 0) (length s.ins) else logical_bits (out_type s) (param s 0) (length s.ins))
+    by_way true p = truths_read (fed_for LogicalOp s e) (param s 0) (length s.ins) a.2 input_at (rw p (omega arith))
+    by_way false p = bits_read (fed_for LogicalOp s e) (param s 0) (length s.ins) a.2 input_at (out_type s) (rw p (omega arith))

@@ -65,7 +65,7 @@ next_law s x m u h st c f i l t = next_is s x m u t s.kind refl (asks s h) st c 
 -- ---- what they read
 
 abbrev from_value_of : Kind → Spec → ℕ → Readable
-from_value_of k s i = record { input = IsElement s; state = λ j. (i ≤ j) × (j < state_len_of k s); scratch = 0 }
+from_value_of k s i = record { input = IsElement s; state = λ j. (i ≤ j) × (j < state_len_of k s); scratch = 0; element = 0 }
 
 next_reads : (k : Kind) (s : Spec) → Asks k s → (i : ℕ) → i < state_len_of k s → TermFits (from_value_of k s i) 32 (next_term k s i)
 next_reads Dollar s a i h = let n = a.0.ins_alike.sizes 0 (omega (arith, a.1)) in (omega (arith, a.1), omega (arith, h, n))

@@ -18,7 +18,7 @@ use Rattle.c_steps.proofs.Memory.{put_there, put_apart, keeps_all, keeps_then, k
 use Rattle.c_steps.proofs.Steps.{joined_leads, cell_runs, done_leads, leads_as}
 use Rattle.sci_cgen_blocks.specs.Recipes.{next_term, delay_term, branch_term, given, from_value, inputs}
 use Rattle.sci_cgen_blocks.specs.Laws.{IsCount, NextLaw, NextReadsLaw, DelayTermLaw, BranchTermLaw}
-use Rattle.sci_cgen_blocks.specs.Texts.{Places, values, states, masks, input_place, expression, next_text, delay_expression, branch_expression}
+use Rattle.sci_cgen_blocks.specs.Texts.{fixed, Places, written, values, states, masks, input_place, expression, next_text, delay_expression, branch_expression}
 use Rattle.sci_cgen_blocks.specs.Meant.{Holds, IsAny, NextIs}
 use Rattle.sci_cgen_blocks.proofs.Shown.{ShowsGiven, expression_is}
 use Rattle.sci_cgen_blocks.proofs.Bodies.{scratch_in}
@@ -32,22 +32,24 @@ record IsPart (s : Spec) (p : Places) (x : List ℤ) (m : ℕ) (u : List ℤ) (w
   pub old : (i : ℕ) → n ≤ i → i < state_len_of s.kind s → get w' states (p.state + i) ≡ Some (at x i)
 
 module _ (env : Around) (s : Spec) (p : Places) (x : List ℤ) (m : ℕ) (u : List ℤ) (w : World) (holds : Holds s p IsAny x m u w) where
-  shows_from : (n : ℕ) (w' : World) → IsPart s p x m u w n w' → ShowsGiven p (from_value s n) (given s x m u) (scratch_in w') w'
+  shows_from : (n : ℕ) (w' : World) → IsPart s p x m u w n w' → ShowsGiven (written p (fixed 0)) (from_value s n) (given s x m u) (scratch_in w') w'
   shows_from n w' h = record {
     input = λ k e f. h.keeps.same values (input_place p k e) (record { kept = refl; apart = λ q. absurd (true≢false (sym q)) }) ∙ holds.ins k e f.0 f.1 tt;
     state = λ j f. h.old j f.0 f.1;
     mask = h.keeps.same masks p.mask (record { kept = refl; apart = λ q. absurd (true≢false (sym q)) }) ∙ holds.mask;
     scratch = λ k l r. absurd (omega (arith, l, r));
+    which = refl;
+    same = refl;
   }
 
   abbrev value_at : ℕ → ℤ
   value_at n = next_of s.kind s x m u n
 
   one_value : (n : ℕ) → n < state_len_of s.kind s → (k : ℕ) (w' : World) → IsPart s p x m u w n w'
-      → value_of (expression p (next_term s.kind s n)) w' ≡ Some (next_of s.kind s x m u n)
-      → Leads (run_block env k (next (set (cell states (num (pos (p.state + n)))) (expression p (next_term s.kind s n))) done) w') (IsPart s p x m u w (suc n))
+      → value_of (expression (written p (fixed 0)) (next_term s.kind s n)) w' ≡ Some (next_of s.kind s x m u n)
+      → Leads (run_block env k (next (set (cell states (num (pos (p.state + n)))) (expression (written p (fixed 0)) (next_term s.kind s n))) done) w') (IsPart s p x m u w (suc n))
   one_value n l k w' h is =
-      cell_runs (λ q. Leads q (IsPart s p x m u w (suc n))) env k states (p.state + n) (expression p (next_term s.kind s n)) done w' (value_at n) is
+      cell_runs (λ q. Leads q (IsPart s p x m u w (suc n))) env k states (p.state + n) (expression (written p (fixed 0)) (next_term s.kind s n)) done w' (value_at n) is
       (record { holds = at x n; is = h.old n (omega arith) l })
       (λ k' w'' q. done_leads env k' w'' (record {
         keeps = keeps_then h.keeps
@@ -61,7 +63,7 @@ module _ (env : Around) (s : Spec) (p : Places) (x : List ℤ) (m : ℕ) (u : Li
       }))
 
   abbrev text : ℕ → Block
-  text i = next (set (cell states (num (pos (p.state + i)))) (expression p (next_term s.kind s i))) done
+  text i = next (set (cell states (num (pos (p.state + i)))) (expression (written p (fixed 0)) (next_term s.kind s i))) done
 
   -- The text of the next state leaves it at the places of the state.
   pub next_is : NextLaw → NextReadsLaw → typed s ≡ true → IsState s x → IsCount s x → Fills s.ins u → (k : ℕ)
@@ -78,27 +80,29 @@ module _ (env : Around) (s : Spec) (p : Places) (x : List ℤ) (m : ℕ) (u : Li
       partly (suc n) l k =
           joined_leads (λ q. Leads q (IsPart s p x m u w (suc n))) env k (upto text n) (text n) w (partly n (omega (arith, l)) k)
           (λ k' w' h. one_value n (omega (arith, l)) k' w' h
-          (expression_is p (from_value s n) (given s x m u) (scratch_in w') w' (shows_from n w' h) 32 (next_term s.kind s n)
+          (expression_is (written p (fixed 0)) (from_value s n) (given s x m u) (scratch_in w') w' (shows_from n w' h) 32 (next_term s.kind s n)
           (reads s is_typed n (omega (arith, l)))
           ∙ gives s x m u is_typed st count fills n (omega (arith, l)) (scratch_in w')))
 
 -- ---- delays and branches
 
 module _ (s : Spec) (p : Places) (x : List ℤ) (m : ℕ) (u : List ℤ) (w : World) (holds : Holds s p IsAny x m u w) where
-  shows_inputs : ShowsGiven p (inputs s) (given s x m u) (scratch_in w) w
+  shows_inputs : ShowsGiven (written p (fixed 0)) (inputs s) (given s x m u) (scratch_in w) w
   shows_inputs = record {
     input = λ k e f. holds.ins k e f.0 f.1 tt;
     state = λ j f. absurd f;
     mask = holds.mask;
     scratch = λ k l r. absurd (omega (arith, l, r));
+    which = refl;
+    same = refl;
   }
 
   pub delay_is : DelayTermLaw → typed s ≡ true → has_delay s.kind ≡ true → Fills s.ins u → (q : ℕ) → value_of (delay_expression s p) w ≡ Some (delay s q u)
   delay_is law is_typed has fills q =
       let l = law s x m q u is_typed has fills (scratch_in w) in
-      expression_is p (inputs s) (given s x m u) (scratch_in w) w shows_inputs 32 (delay_term s.kind s) l.1 ∙ l.0
+      expression_is (written p (fixed 0)) (inputs s) (given s x m u) (scratch_in w) w shows_inputs 32 (delay_term s.kind s) l.1 ∙ l.0
 
   pub branch_is : BranchTermLaw → typed s ≡ true → is_sync s.kind ≡ true → Fills s.ins u → value_of (branch_expression s p) w ≡ Some (pos (branch s u))
   branch_is law is_typed sync fills =
       let l = law s x m u is_typed sync fills (scratch_in w) in
-      expression_is p (inputs s) (given s x m u) (scratch_in w) w shows_inputs 32 (branch_term s.kind s) l.1 ∙ l.0
+      expression_is (written p (fixed 0)) (inputs s) (given s x m u) (scratch_in w) w shows_inputs 32 (branch_term s.kind s) l.1 ∙ l.0

@@ -24,13 +24,13 @@ use Rattle.c_ast.specs.declared.Op.TheVariants.{Add, Mul, Div, Rem}
 use Rattle.sci_kinds.specs.Asks.{Asks, IsAlikeSpec}
 use Rattle.sci_kinds.proofs.Ranges.{elem}
 use Rattle.c_steps.specs.Laws.{Within}
-use Rattle.sci_cgen_blocks.specs.Terms.{Given, Term, both, value, input, Scratch, Gives, RecipeFits, IsSpelled, IsScratch}
-use Rattle.sci_cgen_blocks.specs.Recipes.{given, result, recipe_of, wrapped, pattern as pattern_term, with_bit, without_bit, bits, floor_quotient, shifted, turned, plain, natural}
+use Rattle.sci_cgen_blocks.specs.Terms.{Given, Term, both, value, along, Scratch, Gives, RecipeFits, IsSpelled, IsScratch}
+use Rattle.sci_cgen_blocks.specs.Recipes.{result, recipe_of, wrapped, pattern as pattern_term, with_bit, without_bit, bits, floor_quotient, shifted, turned, plain, natural}
 use Rattle.sci_cgen_blocks.proofs.Operators.{sub_is, mul_is, div_by}
 use Rattle.sci_cgen_blocks.proofs.Fitting.{modulo_is, wrapped_is, fit_wrap}
 use Rattle.sci_cgen_blocks.proofs.Working.{Reaches, assign_goes, done_gives, span_spelled}
-use Rattle.sci_cgen_blocks.proofs.Reading.{Reads, both_reads, number_reads, natural_reads, input_reads, scratch_reads, pow_spelled, modulo_reads, pattern_reads, wrapped_reads, bit_reads}
-use Rattle.sci_cgen_blocks.proofs.Inputs.{given_first, in_size, small, fed_of, IsFed, element_read}
+use Rattle.sci_cgen_blocks.proofs.Reading.{Reads, both_reads, number_reads, natural_reads, along_reads, scratch_reads, pow_spelled, modulo_reads, pattern_reads, wrapped_reads, bit_reads}
+use Rattle.sci_cgen_blocks.proofs.Inputs.{given_for, given_first, in_size, small, fed_for, IsFed, element_read}
 use Rattle.sci_cgen_blocks.proofs.Patterns.{plus, times, minus, over, left_over, rem_natural, pattern_below, pattern_is, number_gives, width_at_most, pow_at_most, bit_is, set_sum, part_below, clear_difference, floor_is}
 
 pub within_type : (t : Ty) (z : ℤ) → InRange t z → Within z
@@ -191,10 +191,10 @@ module _ (s : Spec) (x : List ℤ) (m : ℕ) (u : List ℤ) (e : ℕ) (t : Scrat
   only : IsAlikeSpec s → length s.ins ≡ 1 → InRange (out_type s) (at u e)
   only a n = elem s u e a n f (in_size s a.outs_alike a.one e l)
 
-  is : value (given s x m u) t (input 0 e) ≡ Some (at u e)
+  is : value (given_for s x m u e) t (along 0) ≡ Some (at u e)
   is = ap Some (given_first s x m u e)
 
-  pub shift_gives : Asks Shift s → Gives (given s x m u) (recipe_of Shift s e) t (cell_of Shift s x m u e)
+  pub shift_gives : Asks Shift s → Gives (given_for s x m u e) (recipe_of Shift s) t (cell_of Shift s x m u e)
   shift_gives a = by_case (int_eq (param s 1) (pos 0))
     where
       places : ℕ
@@ -206,34 +206,34 @@ module _ (s : Spec) (x : List ℤ) (m : ℕ) (u : List ℤ) (e : ℕ) (t : Scrat
           let below = rem_natural (param s 0) (width (out_type s)) (omega (arith, a.3)) in
           omega (arith, top, below)
 
-      by_case : (b : Bool) → Gives (given s x m u) (if b then shifted (out_type s) (param s 0) (input 0 e) else turned (out_type s) places (input 0 e)) t
+      by_case : (b : Bool) → Gives (given_for s x m u e) (if b then shifted (out_type s) (param s 0) (along 0) else turned (out_type s) places (along 0)) t
           (if b then shifted_cell (out_type s) (param s 0) (at u e) else turned_cell (out_type s) (param s 0) (at u e))
       by_case true =
           let top = width_at_most (out_type s) in
-          (shifted_gives (given s x m u) (out_type s) (input 0 e) t (at u e) is (only a.0 a.1) (param s 0) (omega (arith, a.3, top))).gives
-      by_case false = (turned_gives (given s x m u) (out_type s) (input 0 e) t (at u e) is (only a.0 a.1) places few).gives
+          (shifted_gives (given_for s x m u e) (out_type s) (along 0) t (at u e) is (only a.0 a.1) (param s 0) (omega (arith, a.3, top))).gives
+      by_case false = (turned_gives (given_for s x m u e) (out_type s) (along 0) t (at u e) is (only a.0 a.1) places few).gives
 
-  pub bit_set_gives : Asks BitSet s → Gives (given s x m u) (recipe_of BitSet s e) t (cell_of BitSet s x m u e)
+  pub bit_set_gives : Asks BitSet s → Gives (given_for s x m u e) (recipe_of BitSet s) t (cell_of BitSet s x m u e)
   bit_set_gives a =
       let top = width_at_most (out_type s) in
-      (with_bit_gives (given s x m u) (out_type s) (input 0 e) t (at u e) is (only a.0 a.1) (unsigned_abs (param s 0)) (omega (arith, a.3, top))).gives
+      (with_bit_gives (given_for s x m u e) (out_type s) (along 0) t (at u e) is (only a.0 a.1) (unsigned_abs (param s 0)) (omega (arith, a.3, top))).gives
 
-  pub bit_clear_gives : Asks BitClear s → Gives (given s x m u) (recipe_of BitClear s e) t (cell_of BitClear s x m u e)
+  pub bit_clear_gives : Asks BitClear s → Gives (given_for s x m u e) (recipe_of BitClear s) t (cell_of BitClear s x m u e)
   bit_clear_gives a =
       let top = width_at_most (out_type s) in
-      (without_bit_gives (given s x m u) (out_type s) (input 0 e) t (at u e) is (only a.0 a.1) (unsigned_abs (param s 0)) (omega (arith, a.3, top))).gives
+      (without_bit_gives (given_for s x m u e) (out_type s) (along 0) t (at u e) is (only a.0 a.1) (unsigned_abs (param s 0)) (omega (arith, a.3, top))).gives
 
-  pub extract_bits_gives : Asks ExtractBits s → Gives (given s x m u) (recipe_of ExtractBits s e) t (cell_of ExtractBits s x m u e)
+  pub extract_bits_gives : Asks ExtractBits s → Gives (given_for s x m u e) (recipe_of ExtractBits s) t (cell_of ExtractBits s x m u e)
   extract_bits_gives a =
-      (bits_gives (given s x m u) (out_type s) (input 0 e) t (at u e) is (only a.0 a.1) (unsigned_abs (param s 0)) (unsigned_abs (param s 1))).gives
+      (bits_gives (given_for s x m u e) (out_type s) (along 0) t (at u e) is (only a.0 a.1) (unsigned_abs (param s 0)) (unsigned_abs (param s 1))).gives
 
 -- ---- what they read
 
 module _ (s : Spec) (e : ℕ) (l : e < total s.outs) where
-  read_only : {d : ℕ} (k : Kind) → IsFed k s → IsAlikeSpec s → length s.ins ≡ 1 → feeds k 1 ≡ true → Reads (fed_of k s) (suc d) (input 0 e)
-  read_only k f a n d = input_reads (element_read k s (out_type s) a.ins_alike f 0 e (omega (arith, n)) d (in_size s a.outs_alike a.one e l))
+  read_only : {d : ℕ} (k : Kind) → IsFed k s → IsAlikeSpec s → length s.ins ≡ 1 → feeds k 1 ≡ true → Reads (fed_for k s e) (suc d) (along 0)
+  read_only k f a n d = along_reads (element_read k s (out_type s) a.ins_alike f 0 e (omega (arith, n)) d (in_size s a.outs_alike a.one e l))
 
-  pub shift_reads : Asks Shift s → IsFed Shift s → RecipeFits (fed_of Shift s) (recipe_of Shift s e)
+  pub shift_reads : Asks Shift s → IsFed Shift s → RecipeFits (fed_for Shift s e) (recipe_of Shift s)
   shift_reads a f = by_case (int_eq (param s 1) (pos 0)) refl
     where
       top : width (out_type s) ≤ 32
@@ -248,26 +248,26 @@ module _ (s : Spec) (e : ℕ) (l : e < total s.outs) where
       few : places ≤ 32
       few = let below = rem_natural (param s 0) (width (out_type s)) (omega (arith, a.3)) in omega (arith, top, below)
 
-      read : {d : ℕ} → Reads (fed_of Shift s) (suc d) (input 0 e)
+      read : {d : ℕ} → Reads (fed_for Shift s e) (suc d) (along 0)
       read = read_only Shift f a.0 a.1 refl
 
-      floor_reads : Reads (fed_of Shift s) 32 (floor_quotient (input 0 e) (2 ^ unsigned_abs (param s 0)))
+      floor_reads : Reads (fed_for Shift s e) 32 (floor_quotient (along 0) (2 ^ unsigned_abs (param s 0)))
       floor_reads = both_reads (both_reads read (modulo_reads power read)) (number_reads power)
 
-      moved_reads : Reads (fed_of Shift s) 32 (wrapped (out_type s) (both Mul (input 0 e) (natural (2 ^ unsigned_abs (param s 0)))))
+      moved_reads : Reads (fed_for Shift s e) 32 (wrapped (out_type s) (both Mul (along 0) (natural (2 ^ unsigned_abs (param s 0)))))
       moved_reads = wrapped_reads (out_type s) (both_reads read (number_reads power))
 
-      shifted_reads : (b : Bool) → RecipeFits (fed_of Shift s)
-          (if b then plain (floor_quotient (input 0 e) (2 ^ unsigned_abs (param s 0)))
-          else plain (wrapped (out_type s) (both Mul (input 0 e) (natural (2 ^ unsigned_abs (param s 0))))))
+      shifted_reads : (b : Bool) → RecipeFits (fed_for Shift s e)
+          (if b then plain (floor_quotient (along 0) (2 ^ unsigned_abs (param s 0)))
+          else plain (wrapped (out_type s) (both Mul (along 0) (natural (2 ^ unsigned_abs (param s 0))))))
       shifted_reads true = (tt, floor_reads.fits)
       shifted_reads false = (tt, moved_reads.fits)
 
-      product_reads : Reads (fed_of Shift s) 32 (both Mul (pattern_term (out_type s) (input 0 e)) (natural (2 ^ places)))
+      product_reads : Reads (fed_for Shift s e) 32 (both Mul (pattern_term (out_type s) (along 0)) (natural (2 ^ places)))
       product_reads = both_reads (pattern_reads (out_type s) read) (number_reads (pow_spelled places few))
 
-      joined_reads : IsScratch (fed_of Shift s) 1
-          → Reads (fed_of Shift s) 32 (wrapped (out_type s) (both Add (both Rem result (natural (span (out_type s))))
+      joined_reads : IsScratch (fed_for Shift s e) 1
+          → Reads (fed_for Shift s e) 32 (wrapped (out_type s) (both Add (both Rem result (natural (span (out_type s))))
           (both Div result (natural (span (out_type s))))))
       joined_reads one =
           let n = span_spelled (out_type s) in
@@ -275,13 +275,13 @@ module _ (s : Spec) (e : ℕ) (l : e < total s.outs) where
           wrapped_reads (out_type s) (both_reads (both_reads part (number_reads n)) (both_reads part (number_reads n)))
 
       by_case : (b : Bool) → int_eq (param s 1) (pos 0) ≡ b
-          → RecipeFits (fed_of Shift s) (if b then shifted (out_type s) (param s 0) (input 0 e) else turned (out_type s) places (input 0 e))
+          → RecipeFits (fed_for Shift s e) (if b then shifted (out_type s) (param s 0) (along 0) else turned (out_type s) places (along 0))
       by_case true q = shifted_reads (int_lt (param s 0) (pos 0))
       by_case false q =
-          let one : IsScratch (fed_of Shift s) 1 = (omega arith, rw q (omega arith)) in
+          let one : IsScratch (fed_for Shift s e) 1 = (omega arith, rw q (omega arith)) in
           (((one, product_reads.fits), tt), (joined_reads one).fits)
 
-  pub bit_set_reads : Asks BitSet s → IsFed BitSet s → RecipeFits (fed_of BitSet s) (recipe_of BitSet s e)
+  pub bit_set_reads : Asks BitSet s → IsFed BitSet s → RecipeFits (fed_for BitSet s e) (recipe_of BitSet s)
   bit_set_reads a f = (tt, wrapped_set.fits)
     where
       k : ℕ
@@ -290,15 +290,15 @@ module _ (s : Spec) (e : ℕ) (l : e < total s.outs) where
       low_bit : k ≤ 32
       low_bit = let top = width_at_most (out_type s) in omega (arith, a.3, top)
 
-      read : {d : ℕ} → Reads (fed_of BitSet s) (suc d) (input 0 e)
+      read : {d : ℕ} → Reads (fed_for BitSet s e) (suc d) (along 0)
       read = read_only BitSet f a.0 a.1 refl
 
-      wrapped_set : Reads (fed_of BitSet s) 32 (with_bit (out_type s) k (input 0 e)).value
+      wrapped_set : Reads (fed_for BitSet s e) 32 (with_bit (out_type s) k (along 0)).value
       wrapped_set = wrapped_reads (out_type s) (both_reads (pattern_reads (out_type s) read)
           (both_reads (both_reads (natural_reads (omega arith)) (bit_reads k low_bit (pattern_reads (out_type s) read)))
           (number_reads (pow_spelled k low_bit))))
 
-  pub bit_clear_reads : Asks BitClear s → IsFed BitClear s → RecipeFits (fed_of BitClear s) (recipe_of BitClear s e)
+  pub bit_clear_reads : Asks BitClear s → IsFed BitClear s → RecipeFits (fed_for BitClear s e) (recipe_of BitClear s)
   bit_clear_reads a f = (tt, wrapped_clear.fits)
     where
       k : ℕ
@@ -307,14 +307,14 @@ module _ (s : Spec) (e : ℕ) (l : e < total s.outs) where
       low_bit : k ≤ 32
       low_bit = let top = width_at_most (out_type s) in omega (arith, a.3, top)
 
-      read : {d : ℕ} → Reads (fed_of BitClear s) (suc d) (input 0 e)
+      read : {d : ℕ} → Reads (fed_for BitClear s e) (suc d) (along 0)
       read = read_only BitClear f a.0 a.1 refl
 
-      wrapped_clear : Reads (fed_of BitClear s) 32 (without_bit (out_type s) k (input 0 e)).value
+      wrapped_clear : Reads (fed_for BitClear s e) 32 (without_bit (out_type s) k (along 0)).value
       wrapped_clear = wrapped_reads (out_type s) (both_reads (pattern_reads (out_type s) read)
           (both_reads (bit_reads k low_bit (pattern_reads (out_type s) read)) (number_reads (pow_spelled k low_bit))))
 
-  pub extract_bits_reads : Asks ExtractBits s → IsFed ExtractBits s → RecipeFits (fed_of ExtractBits s) (recipe_of ExtractBits s e)
+  pub extract_bits_reads : Asks ExtractBits s → IsFed ExtractBits s → RecipeFits (fed_for ExtractBits s e) (recipe_of ExtractBits s)
   extract_bits_reads a f = (tt, wrapped_bits.fits)
     where
       i : ℕ
@@ -326,10 +326,10 @@ module _ (s : Spec) (e : ℕ) (l : e < total s.outs) where
       top : width (out_type s) ≤ 32
       top = width_at_most (out_type s)
 
-      read : {d : ℕ} → Reads (fed_of ExtractBits s) (suc d) (input 0 e)
+      read : {d : ℕ} → Reads (fed_for ExtractBits s e) (suc d) (along 0)
       read = read_only ExtractBits f a.0 a.1 refl
 
-      wrapped_bits : Reads (fed_of ExtractBits s) 32 (bits (out_type s) i j (input 0 e)).value
+      wrapped_bits : Reads (fed_for ExtractBits s e) 32 (bits (out_type s) i j (along 0)).value
       wrapped_bits = wrapped_reads (out_type s) (both_reads
           (both_reads (pattern_reads (out_type s) read) (number_reads (pow_spelled i (omega (arith, a.3, a.4, top)))))
           (number_reads (pow_spelled ((j - i) + 1) (omega (arith, a.3, a.4, top)))))

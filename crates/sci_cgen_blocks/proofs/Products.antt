@@ -24,13 +24,13 @@ use Rattle.c_ast.specs.declared.Op.TheVariants.{Add, Mul, Div, Rem, Eq}
 use Rattle.c_mean.specs.Meaning.{operate, is_zero, truth}
 use Rattle.c_steps.specs.Laws.{Within}
 use Rattle.c_steps.proofs.Values.{not_zero}
-use Rattle.sci_cgen_blocks.specs.Terms.{Given, Term, constant, input, both, value, Scratch, stop_if, Gives, Readable, TermFits, RecipeFits, IsScratch}
-use Rattle.sci_cgen_blocks.specs.Recipes.{natural, result, set, fit_steps, halves_product, product_fits, product_is_large, large_product, product, quotient, recipe_of, given}
+use Rattle.sci_cgen_blocks.specs.Terms.{Given, Term, constant, along, both, value, Scratch, stop_if, Gives, Readable, TermFits, RecipeFits, IsScratch}
+use Rattle.sci_cgen_blocks.specs.Recipes.{natural, result, set, fit_steps, halves_product, product_fits, product_is_large, large_product, product, quotient, recipe_of}
 use Rattle.sci_cgen_blocks.proofs.Operators.{add_is, mul_is, div_is, div_by, rem_by, le_is, gt_is, eq_is, ne_is, and_is, or_is}
 use Rattle.sci_cgen_blocks.proofs.Fitting.{fit_wrap, lt_no}
 use Rattle.sci_cgen_blocks.proofs.Working.{Reaches, assign_goes, assign_if_goes, test_goes, overflow_stops, zero_stops, done_gives, near, fit_gives, spelled, TermReads, weight, reads_fit, fit_reads}
 use Rattle.sci_cgen_blocks.proofs.Patterns.{natural_within}
-use Rattle.sci_cgen_blocks.proofs.Inputs.{given_input, given_first, in_size, small, spelled_in, fed_of, IsFed, element_read}
+use Rattle.sci_cgen_blocks.proofs.Inputs.{given_for, given_input, given_first, in_size, small, spelled_in, fed_for, IsFed, element_read}
 
 -- ---- bounds
 
@@ -241,12 +241,12 @@ module _ (g : Given) (a b : Term) where
 -- ---- the kinds
 
 module _ (s : Spec) (x : List ℤ) (m : ℕ) (u : List ℤ) (e : ℕ) (h : e < total s.outs) (t : Scratch) where
-  pub gain_gives : Asks GainBlk s → Fills s.ins u → Gives (given s x m u) (recipe_of GainBlk s e) t (cell_of GainBlk s x m u e)
-  gain_gives a f = product_gives (given s x m u) (constant (param s 1)) (input 0 e) (out_type s) (mode_of (param s 0)) (param s 1) (at u e) a.3
+  pub gain_gives : Asks GainBlk s → Fills s.ins u → Gives (given_for s x m u e) (recipe_of GainBlk s) t (cell_of GainBlk s x m u e)
+  gain_gives a f = product_gives (given_for s x m u e) (constant (param s 1)) (along 0) (out_type s) (mode_of (param s 0)) (param s 1) (at u e) a.3
       (first_input_in_range s.ins (out_type s) (size s) u a.0.ins_alike f e (omega (arith, a.1)) (in_size s a.0.outs_alike a.0.one e h))
       (λ _. refl) (λ _. ap Some (given_first s x m u e)) t
 
-  pub product_block_gives : Asks Product s → Fills s.ins u → Gives (given s x m u) (recipe_of Product s e) t (cell_of Product s x m u e)
+  pub product_block_gives : Asks Product s → Fills s.ins u → Gives (given_for s x m u e) (recipe_of Product s) t (cell_of Product s x m u e)
   product_block_gives a f = by_sign (int_eq (param s 1) (pos 1))
     where
       v : ℕ → ℤ
@@ -255,18 +255,18 @@ module _ (s : Spec) (x : List ℤ) (m : ℕ) (u : List ℤ) (e : ℕ) (h : e < t
       in_type : (k : ℕ) → k < length s.ins → InRange (out_type s) (v k)
       in_type k l = input_in_range s.ins (out_type s) (size s) u a.0.ins_alike f k e l (in_size s a.0.outs_alike a.0.one e h)
 
-      is : (k : ℕ) → k < length s.ins → Some ((given s x m u).input k e) ≡ Some (v k)
+      is : (k : ℕ) → k < length s.ins → Some ((given_for s x m u e).input k e) ≡ Some (v k)
       is k l = ap Some (given_input s x m u (out_type s) (size s) a.0.ins_alike k e (omega (arith, l)))
 
-      by_sign : (c : Bool) → Gives (given s x m u)
-          (if c then product (out_type s) (mode_of (param s 0)) (input 0 e) (input 1 e) else quotient (out_type s) (mode_of (param s 0)) (input 0 e)
-          (input 1 e)) t
+      by_sign : (c : Bool) → Gives (given_for s x m u e)
+          (if c then product (out_type s) (mode_of (param s 0)) (along 0) (along 1) else quotient (out_type s) (mode_of (param s 0)) (along 0)
+          (along 1)) t
           (if c then fitted (fit (out_type s) (mode_of (param s 0)) (v 0 *ℤ v 1)) else quotient_cell (out_type s) (mode_of (param s 0)) (v 0) (v 1))
       by_sign true =
-          product_gives (given s x m u) (input 0 e) (input 1 e) (out_type s) (mode_of (param s 0)) (v 0) (v 1) (in_type 0 (omega (arith, a.1)))
+          product_gives (given_for s x m u e) (along 0) (along 1) (out_type s) (mode_of (param s 0)) (v 0) (v 1) (in_type 0 (omega (arith, a.1)))
           (in_type 1 (omega (arith, a.1)))
           (λ _. is 0 (omega (arith, a.1))) (λ _. is 1 (omega (arith, a.1))) t
-      by_sign false = quotient_gives (given s x m u) (input 0 e) (input 1 e) (out_type s) (mode_of (param s 0)) (v 0) (v 1) (in_type 0 (omega (arith, a.1)))
+      by_sign false = quotient_gives (given_for s x m u e) (along 0) (along 1) (out_type s) (mode_of (param s 0)) (v 0) (v 1) (in_type 0 (omega (arith, a.1)))
           t (is 0 (omega (arith, a.1))) (is 1 (omega (arith, a.1)))
 
 -- ---- what they read
@@ -311,29 +311,29 @@ module _ (r : Readable) (h : 1 ≤ r.scratch) (a b : Term) (la : TermReads r a) 
       let divided : TermFits r 32 (both Div a b) = reads_fit r 32 (both Div a b) (la, lb) (omega (arith, wa, wb)) in
       (((test, omega arith), ((one, divided), fit_reads r t m h)), one)
 
-pub gain_reads : (s : Spec) (e : ℕ) → e < total s.outs → Asks GainBlk s → IsFed GainBlk s → RecipeFits (fed_of GainBlk s) (recipe_of GainBlk s e)
+pub gain_reads : (s : Spec) (e : ℕ) → e < total s.outs → Asks GainBlk s → IsFed GainBlk s → RecipeFits (fed_for GainBlk s e) (recipe_of GainBlk s)
 gain_reads s e h a f =
-    let this : (fed_of GainBlk s).input 0 e = element_read GainBlk s (out_type s) a.0.ins_alike f 0 e (omega (arith, a.1)) refl
+    let this : (fed_for GainBlk s e).input 0 e = element_read GainBlk s (out_type s) a.0.ins_alike f 0 e (omega (arith, a.1)) refl
     (in_size s a.0.outs_alike a.0.one e h) in
-    product_reads (fed_of GainBlk s) (omega arith) (constant (param s 1)) (input 0 e) (spelled_in (out_type s) (param s 1) a.3) this (omega arith)
+    product_reads (fed_for GainBlk s e) (omega arith) (constant (param s 1)) (along 0) (spelled_in (out_type s) (param s 1) a.3) this (omega arith)
     (omega arith) (out_type s) (mode_of (param s 0))
 
-pub product_block_reads : (s : Spec) (e : ℕ) → e < total s.outs → Asks Product s → IsFed Product s → RecipeFits (fed_of Product s) (recipe_of Product s e)
+pub product_block_reads : (s : Spec) (e : ℕ) → e < total s.outs → Asks Product s → IsFed Product s → RecipeFits (fed_for Product s e) (recipe_of Product s)
 product_block_reads s e h a f = by_sign (int_eq (param s 1) (pos 1))
   where
     n : e < size s
     n = in_size s a.0.outs_alike a.0.one e h
 
-    first : (fed_of Product s).input 0 e
+    first : (fed_for Product s e).input 0 e
     first = element_read Product s (out_type s) a.0.ins_alike f 0 e (omega (arith, a.1)) refl n
 
-    second : (fed_of Product s).input 1 e
+    second : (fed_for Product s e).input 1 e
     second = element_read Product s (out_type s) a.0.ins_alike f 1 e (omega (arith, a.1)) refl n
 
-    by_sign : (c : Bool) → RecipeFits (fed_of Product s)
-        (if c then product (out_type s) (mode_of (param s 0)) (input 0 e) (input 1 e) else quotient (out_type s) (mode_of (param s 0)) (input 0 e)
-        (input 1 e))
+    by_sign : (c : Bool) → RecipeFits (fed_for Product s e)
+        (if c then product (out_type s) (mode_of (param s 0)) (along 0) (along 1) else quotient (out_type s) (mode_of (param s 0)) (along 0)
+        (along 1))
     by_sign true =
-        product_reads (fed_of Product s) (omega arith) (input 0 e) (input 1 e) first second (omega arith) (omega arith) (out_type s) (mode_of (param s 0))
+        product_reads (fed_for Product s e) (omega arith) (along 0) (along 1) first second (omega arith) (omega arith) (out_type s) (mode_of (param s 0))
     by_sign false =
-        quotient_reads (fed_of Product s) (omega arith) (input 0 e) (input 1 e) first second (omega arith) (omega arith) (out_type s) (mode_of (param s 0))
+        quotient_reads (fed_for Product s e) (omega arith) (along 0) (along 1) first second (omega arith) (omega arith) (out_type s) (mode_of (param s 0))

@@ -3,7 +3,7 @@ use Rattle.std.proofs.Common.{◌≡◌, ℕ, suc, ◌^◌, ◌≤◌, arith, �
 use Rattle.std.proofs.lemmas.Bool.{cases_lt}
 use Rattle.c_ast.specs.declared.Op.{Op}
 use Rattle.sci_base.specs.declared.Ty.{Ty}
-use Rattle.sci_cgen_blocks.specs.Terms.{Term, constant, input, state, mask, scratch, both, Readable, TermFits, IsSpelled}
+use Rattle.sci_cgen_blocks.specs.Terms.{Term, constant, input, along, state, state_along, mask, scratch, both, Readable, TermFits, IsSpelled}
 use Rattle.sci_cgen_blocks.specs.Recipes.{modulo, wrapped, pattern, bit}
 use Rattle.sci_cgen_blocks.proofs.Working.{spelled, low_spelled, span_spelled}
 use Rattle.sci_cgen_blocks.proofs.Patterns.{pow_at_most}
@@ -24,8 +24,14 @@ natural_reads {n} h = record { fits = spelled n h }
 pub input_reads : {r : Readable} {d k e : ℕ} → r.input k e → Reads r (suc d) (input k e)
 input_reads h = record { fits = h }
 
+pub along_reads : {r : Readable} {d k : ℕ} → r.input k r.element → Reads r (suc d) (along k)
+along_reads h = record { fits = h }
+
 pub state_reads : {r : Readable} {d i : ℕ} → r.state i → Reads r (suc d) (state i)
 state_reads h = record { fits = h }
+
+pub state_along_reads : {r : Readable} {d : ℕ} → r.state r.element → Reads r (suc d) state_along
+state_along_reads h = record { fits = h }
 
 pub mask_reads : {r : Readable} {d : ℕ} → Reads r (suc d) mask
 mask_reads = record { fits = tt }

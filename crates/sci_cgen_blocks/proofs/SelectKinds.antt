@@ -19,7 +19,7 @@ use Rattle.sci_cgen_blocks.specs.Recipes.{given, way_of, bit, copied, first_acti
 use Rattle.sci_cgen_blocks.proofs.Deciding.{by_truth}
 use Rattle.sci_cgen_blocks.proofs.Patterns.{bit_is, pow_at_most}
 use Rattle.sci_cgen_blocks.proofs.Reading.{Reads, mask_reads, bit_reads}
-use Rattle.sci_cgen_blocks.proofs.Inputs.{given_input, in_size, fed_of, IsFed, element_read}
+use Rattle.sci_cgen_blocks.proofs.Inputs.{given_input, in_size, fed_of, copied_reads, IsFed, element_read}
 
 -- ---- the least bit
 
@@ -94,7 +94,8 @@ module _ (s : Spec) (x : List ℤ) (m : ℕ) (u : List ℤ) where
 
 module _ (s : Spec) (a : Asks Select s) (f : IsFed Select s) where
   copied_fits : (k d : ℕ) → k < length s.ins → WayFits (fed_of Select s) (total s.outs) (copied k) d
-  copied_fits k d h = λ e l. (tt, element_read Select s (out_type s) a.0.ins_alike f k e h refl (in_size s a.0.outs_alike a.0.one e l))
+  copied_fits k d h =
+      copied_reads Select s d k refl refl (λ e l. element_read Select s (out_type s) a.0.ins_alike f k e h refl (in_size s a.0.outs_alike a.0.one e l))
 
   first_fits : (n k d : ℕ) → k + n < length s.ins → n ≤ d → WayFits (fed_of Select s) (total s.outs) (first_activated k n) d
   first_fits zero k d h l = copied_fits k d (omega (arith, h))

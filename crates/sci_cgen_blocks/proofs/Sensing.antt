@@ -1,5 +1,5 @@
 -- The text of a SENSOR.
-use Rattle.std.proofs.Common.{◌≡◌, ℕ, zero, suc, ◌<◌, ◌⊎◌, inl, inr, ◌≤ℤ◌, Option, Some, None, true, refl, sym, ap, ◌∙◌, subst, arith, ℤ, pos, negsuc, List, [], ◌∷◌, length, slice_get, slice_set, true≢false}
+use Rattle.std.proofs.Common.{◌≡◌, ℕ, zero, suc, ◌<◌, ◌≤◌, ◌⊎◌, inl, inr, ◌≤ℤ◌, Option, Some, None, Bool, true, false, if◌then◌else◌, refl, sym, ap, ◌∙◌, subst, arith, ℤ, pos, negsuc, List, [], ◌∷◌, length, slice_get, slice_set, true≢false}
 use Rattle.std.specs.Prelude.{◌≢◌, unwrap_or}
 use Rattle.std.proofs.lemmas.Int.{ints}
 use Rattle.std.proofs.lemmas.Option.{unwrap_or-slice_get}
@@ -21,6 +21,8 @@ use Rattle.c_steps.specs.Places.{get, Has, Puts, Takes, KeepsPlaces, is_scratch}
 use Rattle.c_steps.specs.Runs.{Stops}
 use Rattle.c_steps.proofs.Memory.{put_there, has_puts, keeps_spare, keeps_cell, keeps_places, places_then}
 use Rattle.c_steps.proofs.Steps.{more_runs, input_runs, if_runs, else_runs, done_runs, done_leads, then_stops, stop_stops}
+use Rattle.sci_cgen_blocks.specs.Terms.{is_looped}
+use Rattle.sci_cgen_blocks.specs.Recipes.{scratch_of}
 use Rattle.sci_cgen_blocks.specs.Texts.{Places, values, scratch_name, stop_text, sensor_text, values_text, body_text}
 use Rattle.sci_cgen_blocks.specs.Meant.{TakesFirst, Senses, takes_input}
 
@@ -78,6 +80,14 @@ module _ (env : Around) (p : Places) (c : ℕ) (w : World) (room : Has w values 
       by_column None e = asks (λ r. Stops r Input p.number) None e ends
       by_column (Some []) e = asks (λ r. Stops r Input p.number) (Some []) e ends
       by_column (Some (v ∷ vs)) e = asks (TakesFirst p c (v ∷ vs) w) (Some (v ∷ vs)) e (λ k' w' q. takes k' w' v vs e q)
+
+-- It takes one scratch number at least.
+pub sensor_takes : (c : Kind) (s : Spec) → c ≡ Sensor → 1 ≤ scratch_of c s
+sensor_takes c s e = subst (λ (k : Kind). 1 ≤ scratch_of k s) (sym e) (by_test (is_looped (total s.outs)))
+  where
+    by_test : (b : Bool) → 1 ≤ (if b then 2 else 1)
+    by_test true = omega arith
+    by_test false = omega arith
 
 pub sensor_values : (c : Kind) (s : Spec) (p : Places) → c ≡ Sensor → values_text c s p ≡ sensor_text p (param s 0)
 sensor_values c s p e = rw e refl

@@ -17,12 +17,12 @@ use Rattle.c_ast.specs.declared.Op.TheVariants.{Sub, Mul, Eq, Gt}
 use Rattle.c_mean.specs.Meaning.{operate, truth}
 use Rattle.c_steps.specs.Laws.{Within}
 use Rattle.c_steps.proofs.Values.{same_ints}
-use Rattle.sci_cgen_blocks.specs.Terms.{input, state, mask, both, Scratch, Gives, RecipeFits}
-use Rattle.sci_cgen_blocks.specs.Recipes.{given, recipe_of, natural}
+use Rattle.sci_cgen_blocks.specs.Terms.{input, along, state, state_along, mask, both, Scratch, Gives, RecipeFits}
+use Rattle.sci_cgen_blocks.specs.Recipes.{recipe_of, natural}
 use Rattle.sci_cgen_blocks.proofs.Operators.{mul_is, gt_is}
 use Rattle.sci_cgen_blocks.proofs.Working.{done_gives}
-use Rattle.sci_cgen_blocks.proofs.Reading.{Reads, both_reads, natural_reads, input_reads, state_reads, mask_reads}
-use Rattle.sci_cgen_blocks.proofs.Inputs.{given_first, in_size, fed_of, IsFed, element_read}
+use Rattle.sci_cgen_blocks.proofs.Reading.{Reads, both_reads, natural_reads, input_reads, state_along_reads, mask_reads}
+use Rattle.sci_cgen_blocks.proofs.Inputs.{given_for, given_first, in_size, fed_for, IsFed, element_read}
 use Rattle.sci_cgen_blocks.proofs.PatternKinds.{within_type}
 
 -- a truth times a number chooses between it and 0
@@ -37,7 +37,7 @@ chosen {z} false e f w =
     mul_is e f (record { above = omega (arith, ints); below = omega (arith, ints) }) ∙ ap Some none
 
 module _ (s : Spec) (x : List ℤ) (m : ℕ) (u : List ℤ) (e : ℕ) (t : Scratch) where
-  pub and_log_gives : Gives (given s x m u) (recipe_of AndLog s e) t (cell_of AndLog s x m u e)
+  pub and_log_gives : Gives (given_for s x m u e) (recipe_of AndLog s) t (cell_of AndLog s x m u e)
   and_log_gives = (done_gives {v = both Sub (both Mul (natural 2) (both Eq mask (natural 3))) (natural 1)}
       (ap (λ (b : Bool). operate Sub (operate Mul (Some (pos 2)) (Some (truth b))) (Some (pos 1))) (same_ints m 3) ∙ by_case (nat_eq m 3))).gives
     where
@@ -45,88 +45,88 @@ module _ (s : Spec) (x : List ℤ) (m : ℕ) (u : List ℤ) (e : ℕ) (t : Scrat
       by_case true = refl
       by_case false = refl
 
-  pub dollar_gives : Gives (given s x m u) (recipe_of Dollar s e) t (cell_of Dollar s x m u e)
-  dollar_gives = (done_gives {v = state e} refl).gives
+  pub dollar_gives : Gives (given_for s x m u e) (recipe_of Dollar s) t (cell_of Dollar s x m u e)
+  dollar_gives = (done_gives {v = state_along} refl).gives
 
-  pub samp_hold_gives : Gives (given s x m u) (recipe_of SampHold s e) t (cell_of SampHold s x m u e)
-  samp_hold_gives = (done_gives {v = input 0 e} (ap Some (given_first s x m u e))).gives
+  pub samp_hold_gives : Gives (given_for s x m u e) (recipe_of SampHold s) t (cell_of SampHold s x m u e)
+  samp_hold_gives = (done_gives {v = along 0} (ap Some (given_first s x m u e))).gives
 
-  pub register_gives : Gives (given s x m u) (recipe_of Register s e) t (cell_of Register s x m u e)
+  pub register_gives : Gives (given_for s x m u e) (recipe_of Register s) t (cell_of Register s x m u e)
   register_gives = (done_gives {v = state 0} refl).gives
 
-  pub modulo_count_gives : Gives (given s x m u) (recipe_of ModuloCount s e) t (cell_of ModuloCount s x m u e)
+  pub modulo_count_gives : Gives (given_for s x m u e) (recipe_of ModuloCount s) t (cell_of ModuloCount s x m u e)
   modulo_count_gives = (done_gives {v = state 0} refl).gives
 
   pub gated_delay_gives : s.kind ≡ GatedDelay → Asks GatedDelay s → IsState s x → e < total s.outs
-      → Gives (given s x m u) (recipe_of GatedDelay s e) t (cell_of GatedDelay s x m u e)
+      → Gives (given_for s x m u e) (recipe_of GatedDelay s) t (cell_of GatedDelay s x m u e)
   gated_delay_gives kd a st l =
       let held : InRange (out_type s) (at x e) =
       st.in_range e (subst (λ (k : Kind). e < state_len_of k s) (sym kd) (in_size s a.0.outs_alike a.0.one e l)) in
       let gate_at : at u (before s.ins 1 + 0) ≡ at u (size s) = ap (at u) (omega (arith, (gate s a).1)) in
-      (done_gives {v = both Mul (both Gt (input 1 0) (natural 0)) (state e)}
+      (done_gives {v = both Mul (both Gt (input 1 0) (natural 0)) state_along}
       (chosen (int_lt (pos 0) (at u (size s))) (gt_is {y = pos 0} (ap Some gate_at) refl) refl (within_type (out_type s) (at x e) held))).gives
 
-  pub evt_dly_gives : Gives (given s x m u) (recipe_of EvtDly s e) t (cell_of EvtDly s x m u e)
+  pub evt_dly_gives : Gives (given_for s x m u e) (recipe_of EvtDly s) t (cell_of EvtDly s x m u e)
   evt_dly_gives = (done_gives {v = natural 0} refl).gives
 
-  pub evt_var_dly_gives : Gives (given s x m u) (recipe_of EvtVarDly s e) t (cell_of EvtVarDly s x m u e)
+  pub evt_var_dly_gives : Gives (given_for s x m u e) (recipe_of EvtVarDly s) t (cell_of EvtVarDly s x m u e)
   evt_var_dly_gives = (done_gives {v = natural 0} refl).gives
 
-  pub if_then_else_gives : Gives (given s x m u) (recipe_of IfThEl s e) t (cell_of IfThEl s x m u e)
+  pub if_then_else_gives : Gives (given_for s x m u e) (recipe_of IfThEl s) t (cell_of IfThEl s x m u e)
   if_then_else_gives = (done_gives {v = natural 0} refl).gives
 
-  pub event_select_gives : Gives (given s x m u) (recipe_of ESelect s e) t (cell_of ESelect s x m u e)
+  pub event_select_gives : Gives (given_for s x m u e) (recipe_of ESelect s) t (cell_of ESelect s x m u e)
   event_select_gives = (done_gives {v = natural 0} refl).gives
 
-  pub halt_gives : Gives (given s x m u) (recipe_of Halt s e) t (cell_of Halt s x m u e)
+  pub halt_gives : Gives (given_for s x m u e) (recipe_of Halt s) t (cell_of Halt s x m u e)
   halt_gives = (done_gives {v = natural 0} refl).gives
 
 -- ---- what they read
 
-zero_reads : (k : Kind) (s : Spec) → Reads (fed_of k s) 32 (natural 0)
-zero_reads k s = natural_reads (omega arith)
+zero_reads : (k : Kind) (s : Spec) (e : ℕ) → Reads (fed_for k s e) 32 (natural 0)
+zero_reads k s e = natural_reads (omega arith)
 
 module _ (s : Spec) (e : ℕ) where
-  pub and_log_reads : RecipeFits (fed_of AndLog s) (recipe_of AndLog s e)
+  pub and_log_reads : RecipeFits (fed_for AndLog s e) (recipe_of AndLog s)
   and_log_reads = (tt, term.fits)
     where
-      term : Reads (fed_of AndLog s) 32 (both Sub (both Mul (natural 2) (both Eq mask (natural 3))) (natural 1))
+      term : Reads (fed_for AndLog s e) 32 (both Sub (both Mul (natural 2) (both Eq mask (natural 3))) (natural 1))
       term = both_reads (both_reads (natural_reads (omega arith)) (both_reads mask_reads (natural_reads (omega arith)))) (natural_reads (omega arith))
 
-  pub dollar_reads : Asks Dollar s → e < total s.outs → RecipeFits (fed_of Dollar s) (recipe_of Dollar s e)
+  pub dollar_reads : Asks Dollar s → e < total s.outs → RecipeFits (fed_for Dollar s e) (recipe_of Dollar s)
   dollar_reads a l = (tt, in_size s a.0.outs_alike a.0.one e l)
 
-  pub samp_hold_reads : Asks SampHold s → IsFed SampHold s → e < total s.outs → RecipeFits (fed_of SampHold s) (recipe_of SampHold s e)
+  pub samp_hold_reads : Asks SampHold s → IsFed SampHold s → e < total s.outs → RecipeFits (fed_for SampHold s e) (recipe_of SampHold s)
   samp_hold_reads a f l = (tt, element_read SampHold s (out_type s) a.0.ins_alike f 0 e (omega (arith, a.1)) refl (in_size s a.0.outs_alike a.0.one e l))
 
-  pub register_reads : Asks Register s → RecipeFits (fed_of Register s) (recipe_of Register s e)
+  pub register_reads : Asks Register s → RecipeFits (fed_for Register s e) (recipe_of Register s)
   register_reads a = (tt, a.3)
 
-  pub modulo_count_reads : RecipeFits (fed_of ModuloCount s) (recipe_of ModuloCount s e)
+  pub modulo_count_reads : RecipeFits (fed_for ModuloCount s e) (recipe_of ModuloCount s)
   modulo_count_reads = (tt, omega arith)
 
-  pub gated_delay_reads : Asks GatedDelay s → IsFed GatedDelay s → e < total s.outs → RecipeFits (fed_of GatedDelay s) (recipe_of GatedDelay s e)
+  pub gated_delay_reads : Asks GatedDelay s → IsFed GatedDelay s → e < total s.outs → RecipeFits (fed_for GatedDelay s e) (recipe_of GatedDelay s)
   gated_delay_reads a f l = (tt, term.fits)
     where
       one : elements (port_at s.ins 1) ≡ 1
       one = omega (arith, two_total s.ins a.1, before_one s.ins (omega (arith, a.1)), a.0.first_size, a.0.total_ins)
 
-      term : Reads (fed_of GatedDelay s) 32 (both Mul (both Gt (input 1 0) (natural 0)) (state e))
+      term : Reads (fed_for GatedDelay s e) 32 (both Mul (both Gt (input 1 0) (natural 0)) state_along)
       term = both_reads
           (both_reads (input_reads ((omega (arith, a.1), omega (arith, one)), f 1 (omega (arith, a.1)) refl)) (natural_reads (omega arith)))
-          (state_reads (in_size s a.0.outs_alike a.0.one e l))
+          (state_along_reads (in_size s a.0.outs_alike a.0.one e l))
 
-  pub evt_dly_reads : RecipeFits (fed_of EvtDly s) (recipe_of EvtDly s e)
-  evt_dly_reads = (tt, (zero_reads EvtDly s).fits)
+  pub evt_dly_reads : RecipeFits (fed_for EvtDly s e) (recipe_of EvtDly s)
+  evt_dly_reads = (tt, (zero_reads EvtDly s e).fits)
 
-  pub evt_var_dly_reads : RecipeFits (fed_of EvtVarDly s) (recipe_of EvtVarDly s e)
-  evt_var_dly_reads = (tt, (zero_reads EvtVarDly s).fits)
+  pub evt_var_dly_reads : RecipeFits (fed_for EvtVarDly s e) (recipe_of EvtVarDly s)
+  evt_var_dly_reads = (tt, (zero_reads EvtVarDly s e).fits)
 
-  pub if_then_else_reads : RecipeFits (fed_of IfThEl s) (recipe_of IfThEl s e)
-  if_then_else_reads = (tt, (zero_reads IfThEl s).fits)
+  pub if_then_else_reads : RecipeFits (fed_for IfThEl s e) (recipe_of IfThEl s)
+  if_then_else_reads = (tt, (zero_reads IfThEl s e).fits)
 
-  pub event_select_reads : RecipeFits (fed_of ESelect s) (recipe_of ESelect s e)
-  event_select_reads = (tt, (zero_reads ESelect s).fits)
+  pub event_select_reads : RecipeFits (fed_for ESelect s e) (recipe_of ESelect s)
+  event_select_reads = (tt, (zero_reads ESelect s e).fits)
 
-  pub halt_reads : RecipeFits (fed_of Halt s) (recipe_of Halt s e)
-  halt_reads = (tt, (zero_reads Halt s).fits)
+  pub halt_reads : RecipeFits (fed_for Halt s e) (recipe_of Halt s)
+  halt_reads = (tt, (zero_reads Halt s e).fits)

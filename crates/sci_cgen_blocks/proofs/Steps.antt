@@ -81,9 +81,10 @@ module _ (env : Around) (p : Places) (r : Readable) (g : Given) (o n : ℕ) (w0 
   After Q rest (stopped word) = (ran : Ran) → Stops ran (stop_named word) p.number → Q ran
   After Q rest unclear = ⊥
 
-  put_worked : (s s' : Scratch) (w w' : World) (m : ℕ) (v : ℤ) → AsWorked s w → Some (with_scratch m v s) ≡ Some s' → Puts w (scratch_name m) 0 v w'
-      → AsWorked s' w'
-  put_worked s s' w w' m v h e q = subst (λ (x : Scratch). AsWorked x w') (some_scratch (with_scratch m v s) s' e) (worked_put p r g o n w0 s w w' m v h q)
+  put_worked : (s s' : Scratch) (w w' : World) (m : ℕ) (v : ℤ) → m ≤ r.scratch → AsWorked s w → Some (with_scratch m v s) ≡ Some s'
+      → Puts w (scratch_name m) 0 v w' → AsWorked s' w'
+  put_worked s s' w w' m v few h e q =
+      subst (λ (x : Scratch). AsWorked x w') (some_scratch (with_scratch m v s) s' e) (worked_put p r g o n w0 s w w' m v few h q)
 
   -- one change
   pub work_runs : (Q : Ran → Type 0) (x : Work) (rest : Block) (k : ℕ) (w : World) (s s' : Scratch) → WorkFits r x → AsWorked s w → do_work g x s ≡ Some s'
@@ -91,7 +92,7 @@ module _ (env : Around) (p : Places) (r : Readable) (g : Given) (o n : ℕ) (w0 
   work_runs Q (assign m t) rest k w s s' f h e go =
       let v = bind_some (value g s t) (λ v. Some (with_scratch m v s)) s' e in
       let_runs Q env k (scratch_name m) (expression p t) rest w v.0 (expression_is p r g s w h.shows 32 t f.1 ∙ v.1.0) (scratch_there p r g s w m h.shows f.0)
-      (λ k' w' q. go k' w' (put_worked s s' w w' m v.0 h v.1.1 q))
+      (λ k' w' q. go k' w' (put_worked s s' w w' m v.0 f.0.1 h v.1.1 q))
   work_runs Q (assign_if c m t) rest k w s s' f h e go =
       let z = bind_some (value g s c) (work_under g s m t) s' e in
       choice_runs Q env k (expression p c) (next (set (scalar (scratch_name m)) (expression p t)) done) done rest w z.0
@@ -105,7 +106,7 @@ module _ (env : Around) (p : Places) (r : Readable) (g : Given) (o n : ℕ) (w0 
           let v = bind_some (value g s t) (λ v. Some (with_scratch m v s)) s' e in
           let_runs (λ q. Q (then_run q (run_block env l rest))) env a (scratch_name m) (expression p t) done w v.0
           (expression_is p r g s w h.shows 32 t f.2 ∙ v.1.0) (scratch_there p r g s w m h.shows f.0)
-          (λ k' w' q. done_runs Q env k' w' (run_block env l rest) (go l w' (put_worked s s' w w' m v.0 h v.1.1 q)))
+          (λ k' w' q. done_runs Q env k' w' (run_block env l rest) (go l w' (put_worked s s' w w' m v.0 f.0.1 h v.1.1 q)))
 
   works_lead : (ws : List Work) (k : ℕ) (w : World) (s s' : Scratch) → WorksFit r ws → AsWorked s w → do_works g ws s ≡ Some s'
       → Leads (run_block env k (works_text p ws) w) (AsWorked s')
@@ -139,7 +140,7 @@ module _ (env : Around) (p : Places) (r : Readable) (g : Given) (o n : ℕ) (w0 
               count = omega (arith, e);
               now = turn.0;
               comes = turn.1.1;
-              is = put_worked body.0 turn.0 w' w'' c (pos (suc i)) h' next_is q;
+              is = put_worked body.0 turn.0 w' w'' c (pos (suc i)) there.1 h' next_is q;
             },
           )) (works_lead ws k w b.now body.0 f b.is body.1.0)
         where
@@ -158,7 +159,7 @@ module _ (env : Around) (p : Places) (r : Readable) (g : Given) (o n : ℕ) (w0 
         count = omega arith;
         now = with_scratch c (pos 0) s;
         comes = e;
-        is = worked_put p r g o n w0 s w w' c (pos 0) h q;
+        is = worked_put p r g o n w0 s w w' c (pos 0) f.0.1 h q;
       }) (λ k' w' at b. go k' w' (by_left w' b.left b.count b.now b.comes b.is))
     where
       by_left : (w' : World) (left : ℕ) → turns + left ≡ turns → (now : Scratch) → do_turns g c ws left now ≡ Some s' → AsWorked now w' → AsWorked s' w'

@@ -13,11 +13,11 @@ use Rattle.sci_kinds.specs.Asks.{Asks, IsSign}
 use Rattle.sci_kinds.proofs.Elements.{input_in_range}
 use Rattle.c_ast.specs.declared.Op.TheVariants.{Add, Sub}
 use Rattle.c_steps.specs.Laws.{Within}
-use Rattle.sci_cgen_blocks.specs.Terms.{Given, input, both, Scratch, Step, Gives, Readable, StepsFit, RecipeFits, IsScratch}
-use Rattle.sci_cgen_blocks.specs.Recipes.{result, set, fit_steps, terms, recipe_of, given}
+use Rattle.sci_cgen_blocks.specs.Terms.{Given, along, both, Scratch, Step, Gives, Readable, StepsFit, RecipeFits, IsScratch}
+use Rattle.sci_cgen_blocks.specs.Recipes.{result, set, fit_steps, terms, recipe_of}
 use Rattle.sci_cgen_blocks.proofs.Operators.{add_is, sub_is}
 use Rattle.sci_cgen_blocks.proofs.Working.{Reaches, assign_goes, near, fit_gives, spelled, fit_reads, joined_fit}
-use Rattle.sci_cgen_blocks.proofs.Inputs.{given_input, in_size, small, fed_of, IsFed, element_read}
+use Rattle.sci_cgen_blocks.proofs.Inputs.{given_for, given_input, in_size, small, fed_for, IsFed, element_read}
 
 -- a bound of a sum of k numbers of a type
 pub record Below (k : ℕ) (z : ℤ) : Type 0 where
@@ -56,14 +56,14 @@ one_more k y v t l b r =
       ),
     )
 
-module _ (g : Given) (sp : Spec) (e : ℕ) (t : Ty) (n : ℕ) (f : ℕ → ℤ) (ys : List Step) (c : Cell) (most : n ≤ 64)
-    (is : (k : ℕ) → k < n → g.input k e ≡ f k) (fits : (k : ℕ) → k < n → InRange t (f k)) (signs : (k : ℕ) → k < n → IsSign (param sp (k + 1))) where
+module _ (g : Given) (sp : Spec) (t : Ty) (n : ℕ) (f : ℕ → ℤ) (ys : List Step) (c : Cell) (most : n ≤ 64)
+    (is : (k : ℕ) → k < n → g.input k g.element ≡ f k) (fits : (k : ℕ) → k < n → InRange t (f k)) (signs : (k : ℕ) → k < n → IsSign (param sp (k + 1))) where
   abbrev sum : ℕ → ℤ
   sum k = sum_to (λ k. param sp (k + 1) *ℤ f k) k
 
   sums_reach : (j k : ℕ) → k + j ≡ n → (s : Scratch) → s 1 ≡ sum k → Below k (sum k)
       → ((s' : Scratch) → s' 1 ≡ sum n → Below n (sum n) → Reaches g ys result s' c)
-      → Reaches g (terms sp e k j ++ ys) result s c
+      → Reaches g (terms sp k j ++ ys) result s c
   sums_reach zero k l s h b go = let z : k ≡ n = omega (arith, l) in go s (h ∙ ap sum z) (subst (λ (i : ℕ). Below i (sum i)) z b)
   sums_reach (suc j) k l s h b go = by_sign (λ s' q d. sums_reach j (suc k) (omega (arith, l)) s' q d go) (int_eq (param sp (k + 1)) (pos 1)) refl
     where
@@ -79,9 +79,9 @@ module _ (g : Given) (sp : Spec) (e : ℕ) (t : Ty) (n : ℕ) (f : ℕ → ℤ) 
       minus : (y v : ℤ) → y -ℤ v ≡ y +ℤ neg_ℤ v
       minus y v = omega (arith, ints)
 
-      by_sign : ((s' : Scratch) → s' 1 ≡ sum (suc k) → Below (suc k) (sum (suc k)) → Reaches g (terms sp e (suc k) j ++ ys) result s' c)
+      by_sign : ((s' : Scratch) → s' 1 ≡ sum (suc k) → Below (suc k) (sum (suc k)) → Reaches g (terms sp (suc k) j ++ ys) result s' c)
           → (d : Bool) → int_eq (param sp (k + 1)) (pos 1) ≡ d
-          → Reaches g (set (both (if d then Add else Sub) result (input k e)) ∷ (terms sp e (suc k) j ++ ys)) result s c
+          → Reaches g (set (both (if d then Add else Sub) result (along k)) ∷ (terms sp (suc k) j ++ ys)) result s c
       by_sign rest true p =
           let same : sum k +ℤ f k ≡ sum (suc k) = ap (λ (y : ℤ). sum k +ℤ y) (sym (term.0 p)) in
           assign_goes (add_is (ap Some h) (ap Some (is k below)) more.2.0)
@@ -92,34 +92,34 @@ module _ (g : Given) (sp : Spec) (e : ℕ) (t : Ty) (n : ℕ) (f : ℕ → ℤ) 
           (rest _ same (subst (Below (suc k)) same more.1))
 
 pub sum_gives : (s : Spec) (x : List ℤ) (m : ℕ) (u : List ℤ) (e : ℕ) → e < total s.outs → (t : Scratch) → Asks Summation s → Fills s.ins u
-    → Gives (given s x m u) (recipe_of Summation s e) t (cell_of Summation s x m u e)
+    → Gives (given_for s x m u e) (recipe_of Summation s) t (cell_of Summation s x m u e)
 sum_gives s x m u e h t a f =
     let n = length s.ins in
     let v : ℕ → ℤ = λ k. input_of (size s) u k e in
-    (assign_goes {z = pos 0} refl (sums_reach (given s x m u) s e (out_type s) (length s.ins) (λ k. input_of (size s) u k e)
+    (assign_goes {z = pos 0} refl (sums_reach (given_for s x m u e) s (out_type s) (length s.ins) (λ k. input_of (size s) u k e)
     (fit_steps (out_type s) (mode_of (param s 0))) _ a.2
     (λ k l. given_input s x m u (out_type s) (size s) a.0.ins_alike k e (omega (arith, l)))
     (λ k l. input_in_range s.ins (out_type s) (size s) u a.0.ins_alike f k e l (in_size s a.0.outs_alike a.0.one e h))
     a.4 (length s.ins) 0 (omega arith) _ refl (record { above = omega (arith, ints); below = omega (arith, ints) })
-    (λ s' q b. fit_gives (given s x m u) (out_type s) s' (mode_of (param s 0)) _ q
+    (λ s' q b. fit_gives (given_for s x m u e) (out_type s) s' (mode_of (param s 0)) _ q
     (near (out_type s) _ (omega (arith, ints, b.above, a.2)) (omega (arith, ints, b.below, a.2)))))).gives
 
-terms_read : (r : Readable) (s : Spec) (e : ℕ) → 1 ≤ r.scratch → (n k : ℕ) → ((i : ℕ) → i < k + n → r.input i e) → StepsFit r (terms s e k n)
-terms_read r s e o zero k h = tt
-terms_read r s e o (suc n) k h =
-    let one : IsScratch r 1 = (omega arith, o) in ((one, (one, h k (omega arith))), terms_read r s e o n (suc k) (λ i l. h i (omega (arith, l))))
+terms_read : (r : Readable) (s : Spec) → 1 ≤ r.scratch → (n k : ℕ) → ((i : ℕ) → i < k + n → r.input i r.element) → StepsFit r (terms s k n)
+terms_read r s o zero k h = tt
+terms_read r s o (suc n) k h =
+    let one : IsScratch r 1 = (omega arith, o) in ((one, (one, h k (omega arith))), terms_read r s o n (suc k) (λ i l. h i (omega (arith, l))))
 
-pub sum_reads : (s : Spec) (e : ℕ) → e < total s.outs → Asks Summation s → IsFed Summation s → RecipeFits (fed_of Summation s) (recipe_of Summation s e)
+pub sum_reads : (s : Spec) (e : ℕ) → e < total s.outs → Asks Summation s → IsFed Summation s → RecipeFits (fed_for Summation s e) (recipe_of Summation s)
 sum_reads s e h a f =
     let n = in_size s a.0.outs_alike a.0.one e h in
-    let one : IsScratch (fed_of Summation s) 1 = (omega arith, omega arith) in
+    let one : IsScratch (fed_for Summation s e) 1 = (omega arith, omega arith) in
     let z = spelled 0 (omega arith) in (
       (
         (one, z),
-        joined_fit (fed_of Summation s) (terms s e 0 (length s.ins)) (fit_steps (out_type s) (mode_of (param s 0)))
-            (terms_read (fed_of Summation s) s e (omega arith) (length s.ins) 0
+        joined_fit (fed_for Summation s e) (terms s 0 (length s.ins)) (fit_steps (out_type s) (mode_of (param s 0)))
+            (terms_read (fed_for Summation s e) s (omega arith) (length s.ins) 0
             (λ i l. element_read Summation s (out_type s) a.0.ins_alike f i e (omega (arith, l)) refl n))
-            (fit_reads (fed_of Summation s) (out_type s) (mode_of (param s 0)) (omega arith)),
+            (fit_reads (fed_for Summation s e) (out_type s) (mode_of (param s 0)) (omega arith)),
       ),
       one,
     )

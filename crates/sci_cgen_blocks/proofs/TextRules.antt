@@ -1,8 +1,7 @@
 -- The texts of a block keep the static rules, wherever its names are declared.
-use Rattle.std.proofs.Common.{◌≡◌, ℕ, zero, suc, ◌<◌, ◌≤◌, ◌⊎◌, inl, inr, List, [], ◌∷◌, ◌++◌, true, false, refl, sym, ◌∙◌, subst, arith, ℤ, pos, negsuc}
+use Rattle.std.proofs.Common.{◌≡◌, ℕ, zero, suc, ◌<◌, ◌≤◌, ◌⊎◌, inl, inr, List, [], ◌∷◌, ◌++◌, Bool, true, false, if◌then◌else◌, refl, sym, ◌∙◌, subst, arith, ℤ, pos, negsuc}
 use Rattle.std.specs.Prelude.{◌≢◌}
 use Rattle.std.proofs.lemmas.List.Folds.{list_any-append}
-use Rattle.sci_forms.specs.declared.Kind.{Kind}
 use Rattle.sci_forms.specs.declared.Kind.TheVariants.{Sensor}
 use Rattle.sci_forms.specs.declared.spec.Spec.{Spec}
 use Rattle.sci_forms.specs.Ports.{total}
@@ -16,13 +15,14 @@ use Rattle.c_ast.specs.declared.events.Opened.TheVariants.{Branch, Turn}
 use Rattle.c_ast.specs.Syntax.{Block, done, next}
 use Rattle.c_ast.specs.Rules.{same_name, is_hit, is_guarded}
 use Rattle.c_steps.specs.Texts.{joined, upto}
-use Rattle.sci_cgen_blocks.specs.Terms.{Term, constant, input, state, mask, scratch, both, Work, assign, assign_if, changes, Step, change, stop_if, repeat, Recipe, Way, each, decide, Readable, TermFits, WorkFits, WorksFit, Spares, StepFits, StepsFit, RecipeFits, WayFits}
+use Rattle.c_steps.proofs.Memory.{other_number}
+use Rattle.sci_cgen_blocks.specs.Terms.{Term, constant, input, along, state, state_along, mask, scratch, both, Work, assign, assign_if, changes, Step, change, stop_if, repeat, Recipe, Way, each, all, decide, is_looped, Readable, TermFits, WorkFits, WorksFit, Spares, StepFits, StepsFit, RecipeFits, WayFits}
 use Rattle.sci_cgen_blocks.specs.Recipes.{way_of, next_term, delay_term, branch_term, scratch_of, fed, from_value, inputs}
-use Rattle.sci_cgen_blocks.specs.Texts.{Places, values, states, scratch_name, expression, work_statement, works_text, step_statement, steps_text, recipe_text, way_text, sensor_text, body_text, next_text, delay_expression, branch_expression}
-use Rattle.sci_cgen_blocks.specs.Keeping.{Scene, ReadsWell, MayAssign, StatementKeeps, BlockKeeps, HasBlockNames, MayWork}
+use Rattle.sci_cgen_blocks.specs.Texts.{Which, fixed, counted_by, Places, written, values, states, scratch_name, input_start, element_place, expression, work_statement, works_text, step_statement, steps_text, recipe_text, looped_text, way_text, sensor_text, body_text, next_text, delay_expression, branch_expression}
+use Rattle.sci_cgen_blocks.specs.Keeping.{Scene, IsScalar, ReadsWell, MayAssign, StatementKeeps, BlockKeeps, HasBlockNames, MayWork}
 use Rattle.sci_cgen_blocks.proofs.Bodies.{values_are}
-use Rattle.sci_cgen_blocks.proofs.Sensing.{sensor_values, is_kind}
-use Rattle.sci_cgen_blocks.proofs.Bounds.{delay_reads, branch_reads}
+use Rattle.sci_cgen_blocks.proofs.Sensing.{sensor_takes, sensor_values, is_kind}
+use Rattle.sci_cgen_blocks.proofs.Bounds.{works_on, some_looped, delay_reads, branch_reads}
 use Rattle.sci_cgen_blocks.proofs.KindLaws.{cell_reads_law}
 use Rattle.sci_cgen_blocks.proofs.NextStates.{next_reads_law}
 
@@ -42,13 +42,24 @@ turn_more c opens x y z h d = (h.0, guarded_more opens (Turn y (bounds.Num z)) x
 
 -- ---- recipes
 
-module _ (c : Scene) (p : Places) (r : Readable) (names : HasBlockNames c r.scratch) where
+-- what counts the element that is written for is a scalar
+abbrev IsNamed : Scene → Which → Type 0
+IsNamed c (fixed e) = Unit {0}
+IsNamed c (counted_by n) = IsScalar c (scratch_name n)
+
+place_reads : (c : Scene) (q : Which) (o : ℕ) → IsNamed c q → ReadsWell c (element_place q o)
+place_reads c (fixed e) o h = tt
+place_reads c (counted_by n) o h = (h, tt)
+
+module _ (c : Scene) (p : Places) (r : Readable) (names : HasBlockNames c r.scratch) (named : IsNamed c p.which) where
   reads_well : (d : ℕ) (t : Term) → TermFits r d t → ReadsWell c (expression p t)
   reads_well zero t f = absurd f
   reads_well (suc d) (constant (pos n)) f = tt
   reads_well (suc d) (constant (negsuc n)) f = tt
   reads_well (suc d) (input k e) f = (names.values, tt)
+  reads_well (suc d) (along k) f = (names.values, place_reads c p.which (input_start p k) named)
   reads_well (suc d) (state i) f = (names.states, tt)
+  reads_well (suc d) state_along f = (names.states, place_reads c p.which p.state named)
   reads_well (suc d) mask f = (names.masks, tt)
   reads_well (suc d) (scratch n) f = names.scratch n f.0 f.1
   reads_well (suc d) (both op a b) f = (reads_well d a f.0, reads_well d b f.1)
@@ -84,8 +95,9 @@ module _ (c : Scene) (p : Places) (r : Readable) (names : HasBlockNames c r.scra
   steps_keep opens [] rest may f h = h
   steps_keep opens (x ∷ xs) rest may f h = (step_keeps opens x may f.0, steps_keep opens xs rest may f.1 h)
 
-  recipe_keeps : (opens : List Opened) (e : ℕ) (x : Recipe) → MayWork c opens r.scratch → RecipeFits r x → BlockKeeps c opens (recipe_text p e x)
-  recipe_keeps opens e x may f = steps_keep opens x.steps _ may f.0 (((names.values, may.values, tt), reads_well 32 x.value f.1), tt)
+  recipe_keeps : (opens : List Opened) (x : Recipe) → MayWork c opens r.scratch → RecipeFits r x → BlockKeeps c opens (recipe_text p x)
+  recipe_keeps opens x may f =
+      steps_keep opens x.steps _ may f.0 (((names.values, may.values, place_reads c p.which p.outs named), reads_well 32 x.value f.1), tt)
 
 -- ---- blocks
 
@@ -104,20 +116,69 @@ work_more c opens k may = record {
   scratch = λ n l m. branch_more c opens (scratch_name n) (may.scratch n l m);
 }
 
+-- fewer scratch numbers
+fewer_names : (c : Scene) (j k : ℕ) → j ≤ k → HasBlockNames c k → HasBlockNames c j
+fewer_names c j k l h =
+    record { values = h.values; states = h.states; masks = h.masks; scratch = λ n a b. h.scratch n a (omega (arith, b, l)) }
+
+fewer_works : (c : Scene) (opens : List Opened) (j k : ℕ) → j ≤ k → MayWork c opens k → MayWork c opens j
+fewer_works c opens j k l h = record { values = h.values; scratch = λ n a b. h.scratch n a (omega (arith, b, l)) }
+
+-- in a loop that a scratch number behind them counts
+turn_works : (c : Scene) (opens : List Opened) (j : ℕ) (z : ℤ) → MayWork c opens j
+    → MayWork c (opens ++ Turn (scratch_name (suc j)) (bounds.Num z) ∷ []) j
+turn_works c opens j z h = record {
+  values = turn_more c opens values (scratch_name (suc j)) z h.values refl;
+  scratch = λ n a b. turn_more c opens (scratch_name n) (scratch_name (suc j)) z (h.scratch n a b) (other_number 116 n (suc j) (λ e. omega (arith, e, b)));
+}
+
 module _ (c : Scene) (p : Places) (r : Readable) (names : HasBlockNames c r.scratch) (n : ℕ) where
+  each_keeps : (f : ℕ → Recipe) (j : ℕ) (opens : List Opened) → j ≤ r.scratch → MayWork c opens r.scratch
+      → ((e : ℕ) → e < n → RecipeFits (works_on r j e) (f e)) → BlockKeeps c opens (upto (λ e. recipe_text (written p (fixed e)) (f e)) n)
+  each_keeps f j opens few may fits =
+      upto_keeps c opens (λ e. recipe_text (written p (fixed e)) (f e)) n (λ e l.
+      recipe_keeps c (written p (fixed e)) (works_on r j e) (fewer_names c j r.scratch few names) tt opens (f e) (fewer_works c opens j r.scratch few may)
+      (fits e l))
+
+  looped_keeps : (x : Recipe) (j : ℕ) (opens : List Opened) → suc j ≤ r.scratch → MayWork c opens r.scratch → RecipeFits (works_on r j 0) x
+      → BlockKeeps c opens (looped_text p n (suc j) x)
+  looped_keeps x j opens few may fits =
+      let counter : IsScalar c (scratch_name (suc j)) = names.scratch (suc j) (omega arith) few in
+      let less : j ≤ r.scratch = omega (arith, few) in (
+        (
+          counter,
+          may.scratch (suc j) (omega arith) few,
+          tt,
+          recipe_keeps c (written p (counted_by (suc j))) (works_on r j 0) (fewer_names c j r.scratch less names) counter
+              (opens ++ Turn (scratch_name (suc j)) (bounds.Num (pos n)) ∷ []) x
+              (turn_works c opens j (pos n) (fewer_works c opens j r.scratch less may)) fits,
+        ),
+        tt,
+      )
+
   way_keeps : (y : Way) (d : ℕ) (opens : List Opened) → MayWork c opens r.scratch → WayFits r n y d → BlockKeeps c opens (way_text p n y)
-  way_keeps (each f) d opens may fits = upto_keeps c opens (λ e. recipe_text p e (f e)) n (λ e l. recipe_keeps c p r names opens e (f e) may (fits e l))
+  way_keeps (each f) d opens may fits = each_keeps f r.scratch opens (omega arith) may fits
+  way_keeps (all j x) d opens may fits = by_size (is_looped n) refl fits.1
+    where
+      by_size : (b : Bool) → is_looped n ≡ b → (b ≡ true → suc j ≤ r.scratch)
+          → BlockKeeps c opens (if b then looped_text p n (suc j) x else upto (λ e. recipe_text (written p (fixed e)) x) n)
+      by_size true is room = looped_keeps x j opens (room refl) may (fits.2 0 (some_looped n is))
+      by_size false is room = each_keeps (λ e. x) j opens fits.0 may fits.2
   way_keeps (decide e a b) zero opens may fits = absurd fits
   way_keeps (decide e a b) (suc d) opens may fits =
       let more = work_more c opens r.scratch may in (
-        (reads_well c p r names 32 e fits.0, way_keeps a d (opens ++ Branch ∷ []) more fits.1, way_keeps b d (opens ++ Branch ∷ []) more fits.2),
+        (
+          reads_well c (written p (fixed 0)) r names tt 32 e fits.0,
+          way_keeps a d (opens ++ Branch ∷ []) more fits.1,
+          way_keeps b d (opens ++ Branch ∷ []) more fits.2,
+        ),
         tt,
       )
 
 module _ (c : Scene) (s : Spec) (p : Places) (is_typed : typed s ≡ true) (names : HasBlockNames c (scratch_of s.kind s)) where
   sensor_keeps : (opens : List Opened) (z : ℤ) → s.kind ≡ Sensor → MayWork c opens (scratch_of s.kind s) → BlockKeeps c opens (sensor_text p z)
   sensor_keeps opens z kind may =
-      let one : 1 ≤ scratch_of s.kind s = subst (λ (k : Kind). 1 ≤ scratch_of k s) (sym kind) (omega arith) in
+      let one = sensor_takes s.kind s kind in
       let t = names.scratch 1 (omega arith) one in
       let m = may.scratch 1 (omega arith) one in
       (((t, m), tt), ((t, (((names.values, branch_more c opens values may.values, tt), tt), tt), ((tt, tt, tt), tt)), tt))
@@ -136,10 +197,10 @@ module _ (c : Scene) (s : Spec) (p : Places) (is_typed : typed s ≡ true) (name
   pub next_keeps : (opens : List Opened) → MayAssign c opens states → BlockKeeps c opens (next_text s p)
   next_keeps opens may =
       upto_keeps c opens _ (state_len_of s.kind s) (λ i l.
-      (((names.states, may, tt), reads_well c p (from_value s i) names 32 (next_term s.kind s i) (next_reads_law s is_typed i l)), tt))
+      (((names.states, may, tt), reads_well c (written p (fixed 0)) (from_value s i) names tt 32 (next_term s.kind s i) (next_reads_law s is_typed i l)), tt))
 
   pub delay_keeps : has_delay s.kind ≡ true → ReadsWell c (delay_expression s p)
-  delay_keeps has = reads_well c p (inputs s) names 32 (delay_term s.kind s) (delay_reads s is_typed has)
+  delay_keeps has = reads_well c (written p (fixed 0)) (inputs s) names tt 32 (delay_term s.kind s) (delay_reads s is_typed has)
 
   pub branch_keeps : is_sync s.kind ≡ true → ReadsWell c (branch_expression s p)
-  branch_keeps sync = reads_well c p (inputs s) names 32 (branch_term s.kind s) (branch_reads s is_typed sync)
+  branch_keeps sync = reads_well c (written p (fixed 0)) (inputs s) names tt 32 (branch_term s.kind s) (branch_reads s is_typed sync)

@@ -2,11 +2,12 @@
 use Rattle.std.proofs.Common.{arith, ◌≡◌, ℕ, zero, suc, ◌+◌, ◌<◌, ◌≤◌, pos, length, drop, get_or, List, [], ◌∷◌, ◌++◌, refl, sym, ap, ◌∙◌}
 use Rattle.std.proofs.lemmas.List.{drop_more}
 use Rattle.c_ast.specs.declared.Stmt.{Stmt}
-use Rattle.c_ast.specs.Syntax.{Statement, Block, done, next, num, set, cell}
+use Rattle.c_ast.specs.declared.Bound.TheVariants as bounds
+use Rattle.c_ast.specs.Syntax.{Statement, Block, done, next, set, cell, loop}
 use Rattle.c_ast.specs.View.{statement_of, statements_of}
 use Rattle.c_steps.specs.Texts.{joined, upto}
 use Rattle.sci_cgen_blocks.specs.Terms.{Step, Recipe}
-use Rattle.sci_cgen_blocks.specs.Texts.{Places, values, expression, step_statement, steps_text, recipe_text}
+use Rattle.sci_cgen_blocks.specs.Texts.{counted_by, Places, written, values, scratch_name, element_place, expression, step_statement, steps_text, recipe_text, looped_text}
 
 pub joined_assoc : (a b c : Block) → joined (joined a b) c ≡ joined a (joined b c)
 joined_assoc done b c = refl
@@ -53,10 +54,19 @@ steps_then p [] b = refl
 steps_then p (x ∷ xs) b = ap (next (step_statement p x)) (steps_then p xs b)
 
 -- the steps of a recipe, and behind them the element's assignment
-pub recipe_done : (p : Places) (e : ℕ) (r : Recipe) (old mid new : List Stmt) (s : Stmt)
+pub recipe_done : (p : Places) (r : Recipe) (old mid new : List Stmt) (s : Stmt)
     → statements_of mid ≡ joined (statements_of old) (steps_text p r.steps done) → new ≡ mid ++ s ∷ []
-    → statement_of s ≡ set (cell values (num (pos (p.outs + e)))) (expression p r.value) → statements_of new ≡ joined (statements_of old) (recipe_text p e r)
-recipe_done p e r old mid new s so_far push is =
-    let last : Block = next (set (cell values (num (pos (p.outs + e)))) (expression p r.value)) done in
+    → statement_of s ≡ set (cell values (element_place p.which p.outs)) (expression p r.value) → statements_of new ≡ joined (statements_of old) (recipe_text p r)
+recipe_done p r old mid new s so_far push is =
+    let last : Block = next (set (cell values (element_place p.which p.outs)) (expression p r.value)) done in
     pushed mid new s _ push is ∙ ap (λ b. joined b last) so_far ∙ joined_assoc (statements_of old) (steps_text p r.steps done) last
     ∙ ap (joined (statements_of old)) (steps_then p r.steps last)
+
+-- a loop whose body was pushed
+pub looped_done : (p : Places) (n c : ℕ) (r : Recipe) (old body new : List Stmt) (s : Stmt) → old ≡ []
+    → statements_of body ≡ joined (statements_of old) (recipe_text (written p (counted_by c)) r)
+    → statement_of s ≡ loop (scratch_name c) (bounds.Num (pos n)) (statements_of body) → new ≡ s ∷ [] → statements_of new ≡ looped_text p n c r
+looped_done p n c r old body new s none so_far is e =
+    let text : statements_of body ≡ recipe_text (written p (counted_by c)) r =
+    so_far ∙ ap (λ xs. joined (statements_of xs) (recipe_text (written p (counted_by c)) r)) none in
+    ap statements_of e ∙ ap (λ (x : Statement). next x done) (is ∙ ap (loop (scratch_name c) (bounds.Num (pos n))) text)

@@ -20,7 +20,7 @@ use Rattle.c_steps.specs.Texts.{block_within}
 use Rattle.sci_cgen_blocks.specs.Terms.{Scratch, WayGives, value, WayFits, TermFits}
 use Rattle.sci_cgen_blocks.specs.Recipes.{way_of, next_term, delay_term, branch_term, scratch_of, given, fed, from_value, inputs}
 use Rattle.sci_cgen_blocks.specs.Texts.{Places, values, states, scratch_name, body_text, next_text, delay_expression, branch_expression}
-use Rattle.sci_cgen_blocks.specs.Meant.{Holds, IsFed, IsAny, IsApart, Answers, NextIs, Senses, AreInBounds, body_may, next_may}
+use Rattle.sci_cgen_blocks.specs.Meant.{Holds, HasScratch, IsFed, IsAny, IsApart, Answers, NextIs, Senses, AreInBounds, body_may, next_may}
 use Rattle.sci_cgen_blocks.specs.Keeping.{Scene, ReadsWell, MayAssign, BlockKeeps, StandsIn, HasBlockNames, MayWork}
 
 -- the way gives each element's cell, whatever scratch holds before
@@ -58,11 +58,12 @@ BranchTermLaw =
 -- ---- what the texts do in a memory
 
 -- From a memory that holds the block's state, its mask and its inputs with feedthrough, the text of its values leaves what the table of kinds says, or
--- ends the run by the stop.
+-- ends the run by the stop. Its places can be spelled, so that the sum of a counter and a place is one.
 abbrev pub ValuesLaw : Type 0
 ValuesLaw =
     (env : Around) (s : Spec) (p : Places) (x : List ℤ) (m : ℕ) (u : List ℤ) (n : ℕ) (w : World) → typed s ≡ true → s.kind ≢ Sensor → IsState s x
-    → IsMask s m → Fills s.ins u → Holds s p (IsFed s) x m u w → IsApart s p → Answers s p w (out s x m u) (run_block env n (body_text s p) w)
+    → IsMask s m → Fills s.ins u → Holds s p (IsFed s) x m u w → HasScratch s w → AreInBounds s p → IsApart s p
+    → Answers s p w (out s x m u) (run_block env n (body_text s p) w)
 
 -- A SENSOR's takes the next value of its column. The parameter counts columns from 1, and c from 0.
 abbrev pub SensorLaw : Type 0
@@ -94,9 +95,9 @@ pub record MayLaw : Type 0 where
   pub body : (s : Spec) (p : Places) → block_within (body_may s) (body_text s p) ≡ true
   pub next : (s : Spec) (p : Places) → block_within next_may (next_text s p) ≡ true
 
--- They are within the bounds of the subset: the values nested at most eleven deep, the next state not at all.
+-- They are within the bounds of the subset: the values nested at most twelve deep, the next state not at all.
 pub record BoundsLaw : Type 0 where
-  pub body : (s : Spec) (p : Places) → typed s ≡ true → AreInBounds s p → (d : ℕ) → BlockFits (11 + d) (body_text s p)
+  pub body : (s : Spec) (p : Places) → typed s ≡ true → AreInBounds s p → (d : ℕ) → BlockFits (12 + d) (body_text s p)
   pub next : (s : Spec) (p : Places) → typed s ≡ true → AreInBounds s p → (d : ℕ) → BlockFits (suc d) (next_text s p)
   pub delay : (s : Spec) (p : Places) → typed s ≡ true → has_delay s.kind ≡ true → AreInBounds s p → IsExp (delay_expression s p)
   pub branch : (s : Spec) (p : Places) → typed s ≡ true → is_sync s.kind ≡ true → AreInBounds s p → IsExp (branch_expression s p)

@@ -15,13 +15,16 @@ use Rattle.c_steps.specs.Runs.{Leads, Stops}
 use Rattle.sci_cgen_blocks.specs.Recipes.{scratch_of, IsElement}
 use Rattle.sci_cgen_blocks.specs.Texts.{Places, values, states, masks, scratch_name, input_place}
 
--- A memory holds a block's state, its mask and those of its inputs that are asked for; its outputs, its state and scratch are there.
+-- A memory holds a block's state, its mask and those of its inputs that are asked for; its outputs and its state are there.
 pub record Holds (s : Spec) (p : Places) (wanted : ℕ → Type 0) (x : List ℤ) (m : ℕ) (u : List ℤ) (w : World) : Type 0 where
   pub ins : (k e : ℕ) → k < length s.ins → e < elements (port_at s.ins k) → wanted k → get w values (input_place p k e) ≡ Some (at u (before s.ins k + e))
   pub state : (i : ℕ) → i < state_len_of s.kind s → get w states (p.state + i) ≡ Some (at x i)
   pub mask : get w masks p.mask ≡ Some (pos m)
   pub outs : (e : ℕ) → e < total s.outs → Has w values (p.outs + e)
-  pub scratch : (n : ℕ) → 1 ≤ n → n ≤ scratch_of s.kind s → Has w (scratch_name n) 0
+
+-- so are the scratch numbers that its values take
+abbrev pub HasScratch : Spec → World → Type 0
+HasScratch s w = (n : ℕ) → 1 ≤ n → n ≤ scratch_of s.kind s → Has w (scratch_name n) 0
 
 -- the inputs with feedthrough, and all inputs
 abbrev pub IsFed : Spec → ℕ → Type 0
@@ -49,10 +52,11 @@ NextIs s p w f r =
     Leads r (λ w'.
     Keeps is_scratch states p.state (state_len_of s.kind s) w w' × ((i : ℕ) → i < state_len_of s.kind s → get w' states (p.state + i) ≡ Some (f i)))
 
--- Its places and its number can be spelled.
+-- Its places, its number and how many elements it has can be spelled.
 pub record AreInBounds (s : Spec) (p : Places) : Type 0 where
   pub ins : (k e : ℕ) → IsElement s k e → input_place p k e < 2 ^ 63
   pub outs : p.outs + total s.outs ≤ 2 ^ 63
+  pub count : total s.outs < 2 ^ 63
   pub state : p.state + state_len_of s.kind s ≤ 2 ^ 63
   pub mask : p.mask < 2 ^ 63
   pub number : p.number < 2 ^ 63

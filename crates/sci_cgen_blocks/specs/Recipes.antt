@@ -1,23 +1,23 @@
 -- How each kind's values, next states, delays and branches are worked out. What a kind means stands in its table (sci_kinds); these are ways to it that
 -- C leaves nowhere undefined.
-use Rattle.std.specs.Prelude.{◌≡◌, ℕ, zero, suc, ◌+◌, ◌-◌, ◌*◌, ◌/◌, ◌^◌, ◌<◌, ◌≤◌, true, ℤ, pos, negsuc, List, [], ◌∷◌, ◌++◌, length, Bool, ◌&&◌, nat_lt, int_lt, if◌then◌else◌, unsigned_abs}
+use Rattle.std.specs.Prelude.{◌≡◌, ℕ, zero, suc, ◌+◌, ◌-◌, ◌*◌, ◌/◌, ◌^◌, ◌<◌, ◌≤◌, true, ℤ, pos, negsuc, List, [], ◌∷◌, ◌++◌, length, Bool, false, ◌&&◌, nat_eq, nat_lt, int_lt, if◌then◌else◌, unsigned_abs}
 use Rattle.std.specs.Int.{int_rem_euclid}
 use Rattle.sci_base.specs.declared.Ty.{Ty}
 use Rattle.sci_base.specs.declared.Ty.TheVariants.{U32}
 use Rattle.sci_base.specs.declared.Mode.{Mode}
 use Rattle.sci_base.specs.declared.Mode.TheVariants.{Wrap, Saturate, Stop}
 use Rattle.sci_base.specs.Fit.{low, high, span, width, int_eq}
-use Rattle.sci_base.specs.Lists.{at, spread, truth_at}
+use Rattle.sci_base.specs.Lists.{at, truth_at}
 use Rattle.sci_forms.specs.declared.Kind.{Kind}
 use Rattle.sci_forms.specs.declared.Kind.TheVariants.{Const, Summation, GainBlk, Product, AbsValue, Signum, MaxMin, Saturation, DeadBand, Convert, Mux, Demux, Extractor, LogicalOp, RelationalOp, Shift, BitSet, BitClear, ExtractBits, Switch2, Select, Logic, AndLog, Dollar, SampHold, Register, ModuloCount, GatedDelay, Sensor, EvtDly, EvtVarDly, IfThEl, ESelect, Halt}
 use Rattle.sci_forms.specs.declared.ports.Port.{Port}
 use Rattle.sci_forms.specs.declared.spec.Spec.{Spec}
-use Rattle.sci_forms.specs.Ports.{elements, port_at, before}
+use Rattle.sci_forms.specs.Ports.{elements, port_at, before, total}
 use Rattle.sci_forms.specs.Words.{param, out_type, state_len_of}
 use Rattle.sci_kinds.specs.Table.{mode_of}
 use Rattle.c_ast.specs.declared.Op.{Op}
 use Rattle.c_ast.specs.declared.Op.TheVariants.{Add, Sub, Mul, Div, Rem, Lt, Le, Gt, Ge, Eq, Ne, And, Or}
-use Rattle.sci_cgen_blocks.specs.Terms.{Term, constant, input, state, mask, scratch, both, Work, assign, assign_if, Step, change, stop_if, repeat, Recipe, Way, each, decide, Given, Readable}
+use Rattle.sci_cgen_blocks.specs.Terms.{Term, constant, input, along, state, state_along, mask, scratch, both, Work, assign, assign_if, Step, change, stop_if, repeat, Recipe, Way, each, all, decide, is_looped, Given, Readable}
 
 -- ---- words
 
@@ -102,14 +102,14 @@ quotient ty m a b = fitted_out ty m (stop_if (both Eq b (natural 0)) 1 ∷ set (
 -- ---- many inputs
 
 -- the signed inputs from k on, n of them, added to the result
-abbrev pub terms : Spec → ℕ → ℕ → ℕ → List Step
-terms s e k zero = []
-terms s e k (suc n) = set (both (if int_eq (param s (k + 1)) (pos 1) then Add else Sub) result (input k e)) ∷ terms s e (suc k) n
+abbrev pub terms : Spec → ℕ → ℕ → List Step
+terms s k zero = []
+terms s k (suc n) = set (both (if int_eq (param s (k + 1)) (pos 1) then Add else Sub) result (along k)) ∷ terms s (suc k) n
 
 -- the inputs from k on, n of them, compared with the result
-abbrev pub extremes : Op → ℕ → ℕ → ℕ → List Step
-extremes op e k zero = []
-extremes op e k (suc n) = set_if (both op (input k e) result) (input k e) ∷ extremes op e (suc k) n
+abbrev pub extremes : Op → ℕ → ℕ → List Step
+extremes op k zero = []
+extremes op k (suc n) = set_if (both op (along k) result) (along k) ∷ extremes op (suc k) n
 
 -- 1 where a term isn't 0
 abbrev pub truth : Term → Term
@@ -133,24 +133,24 @@ logical op n =
     if int_eq op (pos 3) then both Eq result (natural 0) else
     if int_eq op (pos 4) then both Eq (both Rem result (natural 2)) (natural 1) else both Eq result (natural 0)
 
-abbrev pub logical_truths : ℤ → ℕ → ℕ → Recipe
-logical_truths op n e = record { steps = set (natural 0) ∷ changed (counted (λ k. truth (input k e)) 0 n); value = logical op n }
+abbrev pub logical_truths : ℤ → ℕ → Recipe
+logical_truths op n = record { steps = set (natural 0) ∷ changed (counted (λ k. truth (along k)) 0 n); value = logical op n }
 
 -- the highest bit of the pattern of a number
 abbrev pub highest_bit : Ty → Term → Term
 highest_bit ty t = both Div (pattern ty t) (natural (span ty / 2))
 
 -- Bit by bit, the highest first: scratch 2 has the bits so far, 3 the power of 2 that moves the next one up to the highest, 4 counts the bits.
-abbrev pub logical_bits : Ty → ℤ → ℕ → ℕ → Recipe
-logical_bits ty op n e = record {
+abbrev pub logical_bits : Ty → ℤ → ℕ → Recipe
+logical_bits ty op n = record {
   steps = change (assign 2 (natural 0)) ∷ change (assign 3 (natural 1)) ∷ repeat 4 (width ty) (
-      (assign 1 (natural 0) ∷ counted (λ k. highest_bit ty (both Mul (input k e) (scratch 3))) 0 n)
+      (assign 1 (natural 0) ∷ counted (λ k. highest_bit ty (both Mul (along k) (scratch 3))) 0 n)
       ++ assign 2 (both Add (both Mul (scratch 2) (natural 2)) (logical op n)) ∷ assign 3 (both Mul (scratch 3) (natural 2)) ∷ []) ∷ [];
   value = wrapped ty (scratch 2);
 }
 
-abbrev pub logical_operation : Ty → ℤ → ℤ → ℕ → ℕ → Recipe
-logical_operation ty op b n e = if int_eq b (pos 0) then logical_truths op n e else logical_bits ty op n e
+abbrev pub logical_operation : Ty → ℤ → ℤ → ℕ → Recipe
+logical_operation ty op b n = if int_eq b (pos 0) then logical_truths op n else logical_bits ty op n
 
 -- ---- one input
 
@@ -199,48 +199,70 @@ abbrev pub flat_from : List Port → ℕ → ℕ → Term
 flat_from [] k e = input k e
 flat_from (p ∷ ps) k e = if nat_lt e (elements p) then input k e else flat_from ps (suc k) (e - elements p)
 
--- Element e of the outputs, counted through all of them. A SENSOR's is no recipe, since it asks for its value; those of kinds that decide once for all elements neither
--- (way_of).
-abbrev pub recipe_of : Kind → Spec → ℕ → Recipe
-recipe_of Const s e = plain (constant (spread s.params e))
-recipe_of Summation s e = fitted_out (out_type s) (mode_of (param s 0)) (set (natural 0) ∷ terms s e 0 (length s.ins))
-recipe_of GainBlk s e = product (out_type s) (mode_of (param s 0)) (constant (param s 1)) (input 0 e)
-recipe_of Product s e =
-    if int_eq (param s 1) (pos 1) then product (out_type s) (mode_of (param s 0)) (input 0 e) (input 1 e)
-    else quotient (out_type s) (mode_of (param s 0)) (input 0 e) (input 1 e)
-recipe_of AbsValue s e = fitted_out (out_type s) (mode_of (param s 0)) (set (input 0 e) ∷ set_if (both Lt result (natural 0)) (both Sub (natural 0) result) ∷ [])
-recipe_of Signum s e = plain (both Sub (both Gt (input 0 e) (natural 0)) (both Lt (input 0 e) (natural 0)))
-recipe_of MaxMin s e =
-    worked_out (set (input 0 e) ∷ extremes (if int_eq (param s 0) (pos 1) then Lt else Gt) e 1 (length s.ins - 1))
-recipe_of Saturation s e = worked_out (brought (param s 0) (param s 1) (input 0 e))
-recipe_of DeadBand s e =
-    fitted_out (out_type s) (mode_of (param s 0)) (set (natural 0) ∷ set_if (both Lt (input 0 e) (constant (param s 1))) (both Sub (input 0 e) (constant (param s 1)))
-    ∷ set_if (both Gt (input 0 e) (constant (param s 2))) (both Sub (input 0 e) (constant (param s 2))) ∷ [])
-recipe_of Convert s e = fitted_out (out_type s) (mode_of (param s 0)) (set (input 0 e) ∷ [])
-recipe_of Mux s e = plain (flat_from s.ins 0 e)
-recipe_of Demux s e = plain (input 0 e)
-recipe_of Extractor s e = plain (input 0 (unsigned_abs (param s e) - 1))
-recipe_of LogicalOp s e = logical_operation (out_type s) (param s 0) (param s 1) (length s.ins) e
-recipe_of RelationalOp s e = plain (both (relation (param s 0)) (input 0 e) (input 1 e))
-recipe_of Shift s e = shift (out_type s) (param s 0) (param s 1) (input 0 e)
-recipe_of BitSet s e = with_bit (out_type s) (unsigned_abs (param s 0)) (input 0 e)
-recipe_of BitClear s e = without_bit (out_type s) (unsigned_abs (param s 0)) (input 0 e)
-recipe_of ExtractBits s e = bits (out_type s) (unsigned_abs (param s 0)) (unsigned_abs (param s 1)) (input 0 e)
-recipe_of Switch2 s e = plain (natural 0)
-recipe_of Select s e = plain (natural 0)
-recipe_of Logic s e = plain (natural 0)
-recipe_of AndLog s e = plain (both Sub (both Mul (natural 2) (both Eq mask (natural 3))) (natural 1))
-recipe_of Dollar s e = plain (state e)
-recipe_of SampHold s e = plain (input 0 e)
-recipe_of Register s e = plain (state 0)
-recipe_of ModuloCount s e = plain (state 0)
-recipe_of GatedDelay s e = plain (both Mul (both Gt (input 1 0) (natural 0)) (state e))
-recipe_of Sensor s e = plain (natural 0)
-recipe_of EvtDly s e = plain (natural 0)
-recipe_of EvtVarDly s e = plain (natural 0)
-recipe_of IfThEl s e = plain (natural 0)
-recipe_of ESelect s e = plain (natural 0)
-recipe_of Halt s e = plain (natural 0)
+-- The recipe of each element of the outputs, of a kind that does the same to all of them. A SENSOR's is no recipe, since it asks for its value; those of kinds that decide
+-- once for all elements neither (way_of).
+abbrev pub recipe_of : Kind → Spec → Recipe
+recipe_of Const s = plain (constant (param s 0))
+recipe_of Summation s = fitted_out (out_type s) (mode_of (param s 0)) (set (natural 0) ∷ terms s 0 (length s.ins))
+recipe_of GainBlk s = product (out_type s) (mode_of (param s 0)) (constant (param s 1)) (along 0)
+recipe_of Product s =
+    if int_eq (param s 1) (pos 1) then product (out_type s) (mode_of (param s 0)) (along 0) (along 1)
+    else quotient (out_type s) (mode_of (param s 0)) (along 0) (along 1)
+recipe_of AbsValue s = fitted_out (out_type s) (mode_of (param s 0)) (set (along 0) ∷ set_if (both Lt result (natural 0)) (both Sub (natural 0) result) ∷ [])
+recipe_of Signum s = plain (both Sub (both Gt (along 0) (natural 0)) (both Lt (along 0) (natural 0)))
+recipe_of MaxMin s =
+    worked_out (set (along 0) ∷ extremes (if int_eq (param s 0) (pos 1) then Lt else Gt) 1 (length s.ins - 1))
+recipe_of Saturation s = worked_out (brought (param s 0) (param s 1) (along 0))
+recipe_of DeadBand s =
+    fitted_out (out_type s) (mode_of (param s 0)) (set (natural 0) ∷ set_if (both Lt (along 0) (constant (param s 1))) (both Sub (along 0) (constant (param s 1)))
+    ∷ set_if (both Gt (along 0) (constant (param s 2))) (both Sub (along 0) (constant (param s 2))) ∷ [])
+recipe_of Convert s = fitted_out (out_type s) (mode_of (param s 0)) (set (along 0) ∷ [])
+recipe_of Mux s = plain (natural 0)
+recipe_of Demux s = plain (along 0)
+recipe_of Extractor s = plain (natural 0)
+recipe_of LogicalOp s = logical_operation (out_type s) (param s 0) (param s 1) (length s.ins)
+recipe_of RelationalOp s = plain (both (relation (param s 0)) (along 0) (along 1))
+recipe_of Shift s = shift (out_type s) (param s 0) (param s 1) (along 0)
+recipe_of BitSet s = with_bit (out_type s) (unsigned_abs (param s 0)) (along 0)
+recipe_of BitClear s = without_bit (out_type s) (unsigned_abs (param s 0)) (along 0)
+recipe_of ExtractBits s = bits (out_type s) (unsigned_abs (param s 0)) (unsigned_abs (param s 1)) (along 0)
+recipe_of Switch2 s = plain (natural 0)
+recipe_of Select s = plain (natural 0)
+recipe_of Logic s = plain (natural 0)
+recipe_of AndLog s = plain (both Sub (both Mul (natural 2) (both Eq mask (natural 3))) (natural 1))
+recipe_of Dollar s = plain state_along
+recipe_of SampHold s = plain (along 0)
+recipe_of Register s = plain (state 0)
+recipe_of ModuloCount s = plain (state 0)
+recipe_of GatedDelay s = plain (both Mul (both Gt (input 1 0) (natural 0)) state_along)
+recipe_of Sensor s = plain (natural 0)
+recipe_of EvtDly s = plain (natural 0)
+recipe_of EvtVarDly s = plain (natural 0)
+recipe_of IfThEl s = plain (natural 0)
+recipe_of ESelect s = plain (natural 0)
+recipe_of Halt s = plain (natural 0)
+
+-- how many scratch numbers it takes
+abbrev pub worked_of : Kind → Spec → ℕ
+worked_of Summation s = 1
+worked_of GainBlk s = 1
+worked_of Product s = 1
+worked_of AbsValue s = 1
+worked_of MaxMin s = 1
+worked_of Saturation s = 1
+worked_of DeadBand s = 1
+worked_of Convert s = 1
+worked_of LogicalOp s = if int_eq (param s 1) (pos 0) then 1 else 4
+worked_of Shift s = if int_eq (param s 1) (pos 0) then 0 else 1
+worked_of Sensor s = 1
+worked_of _ s = 0
+
+-- element e of the outputs, of a kind that takes a number or an input of its own for each
+abbrev pub part_of : Kind → Spec → ℕ → Term
+part_of Const s e = constant (param s e)
+part_of Mux s e = flat_from s.ins 0 e
+part_of Extractor s e = input 0 (unsigned_abs (param s e) - 1)
+part_of _ s e = natural 0
 
 -- ---- tables of truth
 
@@ -270,7 +292,7 @@ decided s k (suc n) r = if are_as s r r (2 ^ suc n) then row s r else decide (in
 
 -- all elements of input k
 abbrev pub copied : ℕ → Way
-copied k = each (λ e. plain (input k e))
+copied k = all 0 (plain (along k))
 
 -- of inputs k to k + n the first whose activation input is activated; the last is not asked about
 abbrev pub first_activated : ℕ → ℕ → Way
@@ -279,11 +301,20 @@ first_activated k (suc n) = decide (bit mask k) (copied k) (first_activated (suc
 
 -- ---- the ways
 
+-- whether all elements are worked out by one recipe, under decisions or not
+abbrev pub is_alike : Kind → Spec → Bool
+is_alike Const s = nat_eq (length s.params) 1
+is_alike Mux s = false
+is_alike Extractor s = false
+is_alike Logic s = false
+is_alike _ s = true
+
+-- Elements of the outputs are counted through all of them.
 abbrev pub way_of : Kind → Spec → Way
 way_of Switch2 s = decide (switches (param s 0) (param s 1) (input 1 0)) (copied 0) (copied 2)
 way_of Select s = first_activated 0 (s.evtin - 1)
 way_of Logic s = decided s 0 (length s.ins) 0
-way_of c s = each (recipe_of c s)
+way_of c s = if is_alike c s then all (worked_of c s) (recipe_of c s) else each (λ e. plain (part_of c s e))
 
 -- ---- next states, delays, branches
 
@@ -314,35 +345,24 @@ branch_term _ s = natural 1
 
 -- ---- what they may read
 
--- how many scratch numbers the values take
+-- how many scratch numbers the values take: those of the recipe, and one that counts elements in a loop
 abbrev pub scratch_of : Kind → Spec → ℕ
-scratch_of Summation s = 1
-scratch_of GainBlk s = 1
-scratch_of Product s = 1
-scratch_of AbsValue s = 1
-scratch_of MaxMin s = 1
-scratch_of Saturation s = 1
-scratch_of DeadBand s = 1
-scratch_of Convert s = 1
-scratch_of LogicalOp s = if int_eq (param s 1) (pos 0) then 1 else 4
-scratch_of Shift s = if int_eq (param s 1) (pos 0) then 0 else 1
-scratch_of Sensor s = 1
-scratch_of _ s = 0
+scratch_of c s = if is_alike c s && is_looped (total s.outs) then suc (worked_of c s) else worked_of c s
 
 abbrev pub given : Spec → List ℤ → ℕ → List ℤ → Given
-given s x m u = record { input = λ k e. at u (before s.ins k + e); state = at x; mask = m }
+given s x m u = record { input = λ k e. at u (before s.ins k + e); state = at x; mask = m; element = 0 }
 
 abbrev pub IsElement : Spec → ℕ → ℕ → Type 0
 IsElement s k e = (k < length s.ins) × (e < elements (port_at s.ins k))
 
 -- for the values: the inputs with feedthrough, and the state
 abbrev pub fed : Spec → Readable
-fed s = record { input = λ k e. IsElement s k e × (truth_at s.feed k ≡ true); state = λ i. i < state_len_of s.kind s; scratch = scratch_of s.kind s }
+fed s = record { input = λ k e. IsElement s k e × (truth_at s.feed k ≡ true); state = λ i. i < state_len_of s.kind s; scratch = scratch_of s.kind s; element = 0 }
 
 -- for value i of the next state: all inputs, and the state from this value on
 abbrev pub from_value : Spec → ℕ → Readable
-from_value s i = record { input = IsElement s; state = λ j. (i ≤ j) × (j < state_len_of s.kind s); scratch = 0 }
+from_value s i = record { input = IsElement s; state = λ j. (i ≤ j) × (j < state_len_of s.kind s); scratch = 0; element = 0 }
 
 -- for delays and branches: all inputs
 abbrev pub inputs : Spec → Readable
-inputs s = record { input = IsElement s; state = λ i. ⊥; scratch = 0 }
+inputs s = record { input = IsElement s; state = λ i. ⊥; scratch = 0; element = 0 }

@@ -1,21 +1,25 @@
 -- How a block's values are worked out: terms over what the block is given and over scratch numbers, steps that change scratch or stop, and decisions between
 -- ways. What they mean is said here without any memory. Each term is one expression of C, and each step and each decision one statement (Texts).
-use Rattle.std.specs.Prelude.{◌≡◌, ℕ, zero, suc, ◌<◌, ◌≤◌, ◌^◌, ℤ, pos, negsuc, ◌≤ℤ◌, ◌+ℤ◌, List, [], ◌∷◌, Option, Some, None, true, false, nat_eq, if◌then◌else◌}
+use Rattle.std.specs.Prelude.{◌≡◌, ℕ, zero, suc, ◌<◌, ◌≤◌, ◌^◌, ℤ, pos, negsuc, ◌≤ℤ◌, ◌+ℤ◌, List, [], ◌∷◌, Option, Some, None, Bool, true, false, nat_eq, nat_lt, if◌then◌else◌}
 use Rattle.sci_kinds.specs.declared.Cell.{Cell}
 use Rattle.sci_kinds.specs.declared.Cell.TheVariants.{Value, Overflow, Zero}
 use Rattle.c_ast.specs.declared.Op.{Op}
 use Rattle.c_mean.specs.Meaning.{operate, is_zero, ◌>>=◌}
 
--- What a block is given: element e of input k, value i of its state, its mask.
+-- What a block is given: element e of input k, value i of its state, its mask; and which element is worked out.
 pub record Given : Type 0 where
   pub input : ℕ → ℕ → ℤ
   pub state : ℕ → ℤ
   pub mask : ℕ
+  pub element : ℕ
 
+-- `along k` is the element of input k that is worked out, and `state_along` that of the state.
 pub data Term : Type 0 where
   constant : ℤ → Term
   input : ℕ → ℕ → Term
+  along : ℕ → Term
   state : ℕ → Term
+  state_along : Term
   mask : Term
   scratch : ℕ → Term
   both : Op → Term → Term → Term
@@ -31,7 +35,9 @@ with_scratch n v s k = if nat_eq n k then v else s k
 abbrev pub value : Given → Scratch → Term → Option ℤ
 value g s (constant z) = Some z
 value g s (input k e) = Some (g.input k e)
+value g s (along k) = Some (g.input k g.element)
 value g s (state i) = Some (g.state i)
+value g s state_along = Some (g.state g.element)
 value g s mask = Some (pos g.mask)
 value g s (scratch n) = Some (s n)
 value g s (both op a b) = operate op (value g s a) (value g s b)
@@ -112,9 +118,11 @@ Gives g r s Zero = do_steps g r.steps s ≡ stopped 1
 
 -- ---- ways
 
--- How a block's values are worked out: each element by its recipe; or one way where a test isn't 0, and another where it is.
+-- How a block's values are worked out: each element by a recipe of its own; or all by one recipe, which takes so many scratch numbers; or one way where a test
+-- isn't 0, and another where it is.
 pub data Way : Type 0 where
   each : (ℕ → Recipe) → Way
+  all : ℕ → Recipe → Way
   decide : Term → Way → Way → Way
 
 -- a test has a value, and the first holds where it isn't 0, the second where it is
@@ -124,7 +132,8 @@ Under (Some z) p q = (is_zero z ≡ false → p) × (is_zero z ≡ true → q)
 
 -- The way gives what the cells of n elements are, whatever scratch holds before.
 abbrev pub WayGives : Given → ℕ → (ℕ → Cell) → Way → Type 0
-WayGives g n cells (each f) = (e : ℕ) → e < n → (s : Scratch) → Gives g (f e) s (cells e)
+WayGives g n cells (each f) = (e : ℕ) → e < n → (s : Scratch) → Gives (record g { element = e }) (f e) s (cells e)
+WayGives g n cells (all m x) = (e : ℕ) → e < n → (s : Scratch) → Gives (record g { element = e }) x s (cells e)
 WayGives g n cells (decide c a b) = (s : Scratch) → Under (value g s c) (WayGives g n cells a) (WayGives g n cells b)
 
 -- ---- what may be read
@@ -133,11 +142,12 @@ WayGives g n cells (decide c a b) = (s : Scratch) → Under (value g s c) (WayGi
 abbrev pub IsSpelled : ℤ → Type 0
 IsSpelled z = (negsuc 9223372036854775806 ≤ℤ z) × (z ≤ℤ pos 9223372036854775807)
 
--- elements of inputs, values of the state, and so many scratch numbers, counted from 1
+-- elements of inputs, values of the state, and so many scratch numbers, counted from 1; and which element is worked out
 pub record Readable : Type 1 where
   pub input : ℕ → ℕ → Type 0
   pub state : ℕ → Type 0
   pub scratch : ℕ
+  pub element : ℕ
 
 abbrev pub IsScratch : Readable → ℕ → Type 0
 IsScratch r n = (1 ≤ n) × (n ≤ r.scratch)
@@ -147,7 +157,9 @@ abbrev pub TermFits : Readable → ℕ → Term → Type 0
 TermFits r zero t = ⊥
 TermFits r (suc d) (constant z) = IsSpelled z
 TermFits r (suc d) (input k e) = r.input k e
+TermFits r (suc d) (along k) = r.input k r.element
 TermFits r (suc d) (state i) = r.state i
+TermFits r (suc d) state_along = r.state r.element
 TermFits r (suc d) mask = Unit {0}
 TermFits r (suc d) (scratch n) = IsScratch r n
 TermFits r (suc d) (both op a b) = TermFits r d a × TermFits r d b
@@ -181,8 +193,14 @@ StepsFit r (x ∷ xs) = StepFits r x × StepsFit r xs
 abbrev pub RecipeFits : Readable → Recipe → Type 0
 RecipeFits r c = StepsFit r c.steps × TermFits r 32 c.value
 
--- A way of at most d decisions, one in the other.
+-- A loop pays from three elements on.
+abbrev pub is_looped : ℕ → Bool
+is_looped n = nat_lt 2 n
+
+-- A way of at most d decisions, one in the other. Where n elements make a loop, one scratch number more counts them.
 abbrev pub WayFits : Readable → ℕ → Way → ℕ → Type 0
-WayFits r n (each f) d = (e : ℕ) → e < n → RecipeFits r (f e)
+WayFits r n (each f) d = (e : ℕ) → e < n → RecipeFits (record r { element = e }) (f e)
+WayFits r n (all m x) d =
+    (m ≤ r.scratch) × (is_looped n ≡ true → suc m ≤ r.scratch) × ((e : ℕ) → e < n → RecipeFits (record r { scratch = m; element = e }) x)
 WayFits r n (decide c a b) zero = ⊥
 WayFits r n (decide c a b) (suc d) = TermFits r 32 c × WayFits r n a d × WayFits r n b d

@@ -1,5 +1,5 @@
 -- The C text of a block: its recipes as statements over the program's arrays.
-use Rattle.std.specs.Prelude.{ℕ, ◌+◌, ℤ, pos, List, [], ◌∷◌, slice_index_or}
+use Rattle.std.specs.Prelude.{ℕ, suc, ◌+◌, ℤ, pos, List, [], ◌∷◌, slice_index_or, if◌then◌else◌}
 use Rattle.sci_forms.specs.declared.Kind.{Kind}
 use Rattle.sci_forms.specs.declared.Kind.TheVariants.{Sensor}
 use Rattle.sci_forms.specs.declared.spec.Spec.{Spec}
@@ -7,20 +7,30 @@ use Rattle.sci_forms.specs.Ports.{total}
 use Rattle.sci_forms.specs.Words.{param, state_len_of}
 use Rattle.c_ast.specs.declared.Name.{Name}
 use Rattle.c_ast.specs.declared.Bound.TheVariants as bounds
-use Rattle.c_ast.specs.Syntax.{Exp, num, var, bin, scalar, cell, more, input as next_input, tell, stop, Statement, set, ask, choice, loop, Block, done, next}
+use Rattle.c_ast.specs.declared.Op.TheVariants.{Add}
+use Rattle.c_ast.specs.Syntax.{Exp, num, var, element, bin, scalar, cell, more, input as next_input, tell, stop, Statement, set, ask, choice, loop, Block, done, next}
 use Rattle.c_steps.specs.Places.{named}
 use Rattle.c_steps.specs.Texts.{number, place, upto}
-use Rattle.sci_cgen_blocks.specs.Terms.{Term, constant, input, state, mask, scratch, both, Work, assign, assign_if, Step, change, stop_if, repeat, Recipe, Way, each, decide}
+use Rattle.sci_cgen_blocks.specs.Terms.{Term, constant, input, along, state, state_along, mask, scratch, both, Work, assign, assign_if, Step, change, stop_if, repeat, Recipe, Way, each, all, decide, is_looped}
 use Rattle.sci_cgen_blocks.specs.Recipes.{way_of, next_term, delay_term, branch_term}
 
+-- which element a text is written for: one by its number, or the one that a scratch number counts
+pub data Which : Type 0 where
+  fixed : ℕ → Which
+  counted_by : ℕ → Which
+
 -- Where a block's places lie: its number, of each input the first place in the array of values, the first place of its outputs there, of its state in the array of
--- states, and its mask's place in the array of masks.
+-- states, and its mask's place in the array of masks; and which element its text is written for.
 pub record Places : Type 0 where
   pub number : ℕ
   pub ins : List ℕ
   pub outs : ℕ
   pub state : ℕ
   pub mask : ℕ
+  pub which : Which
+
+abbrev pub written : Places → Which → Places
+written p q = record p { which = q }
 
 -- the arrays of all output values, states and masks
 abbrev pub values : Name
@@ -36,13 +46,23 @@ masks = named 118 3
 abbrev pub scratch_name : ℕ → Name
 scratch_name n = named 116 n
 
+abbrev pub input_start : Places → ℕ → ℕ
+input_start p k = slice_index_or p.ins k 0
+
 abbrev pub input_place : Places → ℕ → ℕ → ℕ
-input_place p k e = slice_index_or p.ins k 0 + e
+input_place p k e = input_start p k + e
+
+-- the place of the element that is written for, where the first one is at place o
+abbrev pub element_place : Which → ℕ → Exp
+element_place (fixed e) o = num (pos (o + e))
+element_place (counted_by n) o = bin Add (var (scratch_name n)) (num (pos o))
 
 abbrev pub expression : Places → Term → Exp
 expression p (constant z) = number z
 expression p (input k e) = place values (input_place p k e)
+expression p (along k) = element values (element_place p.which (input_start p k))
 expression p (state i) = place states (p.state + i)
+expression p state_along = element states (element_place p.which p.state)
 expression p mask = place masks p.mask
 expression p (scratch n) = var (scratch_name n)
 expression p (both op a b) = bin op (expression p a) (expression p b)
@@ -68,14 +88,19 @@ abbrev pub steps_text : Places → List Step → Block → Block
 steps_text p [] rest = rest
 steps_text p (x ∷ xs) rest = next (step_statement p x) (steps_text p xs rest)
 
--- element e of the outputs becomes what the recipe gives
-abbrev pub recipe_text : Places → ℕ → Recipe → Block
-recipe_text p e r = steps_text p r.steps (next (set (cell values (num (pos (p.outs + e)))) (expression p r.value)) done)
+-- the element of the outputs that is written for becomes what the recipe gives
+abbrev pub recipe_text : Places → Recipe → Block
+recipe_text p r = steps_text p r.steps (next (set (cell values (element_place p.which p.outs)) (expression p r.value)) done)
+
+-- what is written for each element, in a loop whose counter is a scratch number
+abbrev pub looped_text : Places → ℕ → ℕ → Recipe → Block
+looped_text p n c r = next (loop (scratch_name c) (bounds.Num (pos n)) (recipe_text (written p (counted_by c)) r)) done
 
 -- n elements of the outputs become what the way gives
 abbrev pub way_text : Places → ℕ → Way → Block
-way_text p n (each f) = upto (λ e. recipe_text p e (f e)) n
-way_text p n (decide c a b) = next (choice (expression p c) (way_text p n a) (way_text p n b)) done
+way_text p n (each f) = upto (λ e. recipe_text (written p (fixed e)) (f e)) n
+way_text p n (all m r) = if is_looped n then looped_text p n (suc m) r else upto (λ e. recipe_text (written p (fixed e)) r) n
+way_text p n (decide c a b) = next (choice (expression (written p (fixed 0)) c) (way_text p n a) (way_text p n b)) done
 
 -- the next value of the column, or the stop where it has none
 abbrev pub sensor_text : Places → ℤ → Block
@@ -93,10 +118,10 @@ body_text s p = values_text s.kind s p
 
 -- the block's next state
 abbrev pub next_text : Spec → Places → Block
-next_text s p = upto (λ i. next (set (cell states (num (pos (p.state + i)))) (expression p (next_term s.kind s i))) done) (state_len_of s.kind s)
+next_text s p = upto (λ i. next (set (cell states (num (pos (p.state + i)))) (expression (written p (fixed 0)) (next_term s.kind s i))) done) (state_len_of s.kind s)
 
 abbrev pub delay_expression : Spec → Places → Exp
-delay_expression s p = expression p (delay_term s.kind s)
+delay_expression s p = expression (written p (fixed 0)) (delay_term s.kind s)
 
 abbrev pub branch_expression : Spec → Places → Exp
-branch_expression s p = expression p (branch_term s.kind s)
+branch_expression s p = expression (written p (fixed 0)) (branch_term s.kind s)

@@ -1,27 +1,28 @@
 // The texts of a block.
-ghost use Rattle.std.specs.Prelude.{◌≡◌, ◌≢◌, ◌<◌, ◌≤◌, ◌+◌, ◌^◌, ℕ, true, pos, length, IfOk, OnOk};
+ghost use Rattle.std.specs.Prelude.{◌≡◌, ◌≢◌, ◌<◌, ◌≤◌, ◌+◌, ◌^◌, ℕ, true, pos, length, IfOk};
 ghost use Rattle.sci_forms.specs.Typed.{typed};
 ghost use Rattle.sci_forms.specs.Ports.{total};
 ghost use Rattle.sci_forms.specs.Words.{state_len_of};
 ghost use Rattle.sci_forms.specs.Form.{is_sync, has_delay};
 ghost use Rattle.c_ast.specs.View.{exp_of, statement_of, statements_of};
-ghost use Rattle.c_steps.specs.Texts.{joined, upto};
 ghost use Rattle.c_ast.specs.Syntax.{num, set as assign, cell};
 ghost use Rattle.sci_forms.specs.declared.Kind.TheVariants as kinds;
-ghost use Rattle.sci_cgen_blocks.specs.Terms.{each};
-ghost use Rattle.sci_cgen_blocks.specs.Recipes.{recipe_of, way_of, next_term as next_by_kind};
-ghost use Rattle.sci_cgen_blocks.specs.Texts.{recipe_text, states as states_name, expression as expression_text, sensor_text, body_text, next_text};
+ghost use Rattle.sci_cgen_blocks.specs.Terms.{each, all};
+ghost use Rattle.sci_cgen_blocks.specs.Recipes.{plain as plain_of, worked_of, recipe_of, part_of, way_of, next_term as next_by_kind};
+ghost use Rattle.sci_cgen_blocks.specs.Texts.{fixed, written, states as states_name, expression as expression_text, way_text, sensor_text, body_text, next_text};
 ghost use Rattle.sci_cgen_blocks.specs.Texts.{delay_expression, branch_expression};
 ghost use Rattle.sci_cgen_blocks.specs.Plain.{plain_places, AreFew};
 
 use crate::Layout;
 use crate::array_names::{scratch, states, values};
 use crate::choice_texts::{select, switched};
-use crate::kind_recipes::recipe;
+use crate::element_texts::all_elements;
+use crate::kind_recipes::{is_alike, part, recipe, recipe_scratch};
 use crate::kind_terms::{branch_term, delay_term, next_term, state_len};
+use crate::recipe_parts::Which;
 use crate::spec_words::{param, total};
 use crate::table_texts::table;
-use crate::writing::{either, expression, push_recipe};
+use crate::writing::{assigned, either, expression};
 use c_ast::{Ask, Expr, Stmt, Target, Tell};
 use sci_base::NoMemory;
 use sci_forms::{Kind, Spec};
@@ -45,43 +46,38 @@ fn sensor(alloc: Global, at: &Layout, column: i64) -> Result<Vec<Stmt>, NoMemory
     Ok(vec![in alloc; more, choice]?)
 }
 
-/// Element `e` of the outputs, of a block whose elements each have a recipe.
-fn push_element(
-    alloc: Global,
-    out: &mut Vec<Stmt>,
-    s: &Spec,
-    at: &Layout,
-    e: u32,
-) -> Result<(), NoMemory>
+/// The values of a block whose elements all have one recipe.
+fn alike(alloc: Global, s: &Spec, at: &Layout) -> Result<Vec<Stmt>, NoMemory>
     requires is_typed { typed s.now ≡ true }
     requires few { AreFew s.now (plain_places at.now) }
     requires own { s.now.kind ≢ kinds.Sensor }
-    requires single { way_of s.now.kind s.now ≡ each (recipe_of s.now.kind s.now) }
-    requires element { e < total s.now.outs }
-    ensures { OnOk result (statements_of out.new.items ≡ joined (statements_of out.old.items)
-        (recipe_text (plain_places at.now) e (recipe_of s.now.kind s.now e))) }
+    requires single { way_of s.now.kind s.now ≡ all (worked_of s.now.kind s.now) (recipe_of s.now.kind s.now) }
+    ensures { IfOk result (λ v. statements_of v.items
+        ≡ way_text (plain_places at.now) (total s.now.outs) (all (worked_of s.now.kind s.now) (recipe_of s.now.kind s.now))) }
 {
-    push_recipe(alloc, out, at, e, &recipe(alloc, s, e)?)
+    let recipe = recipe(alloc, s)?;
+    all_elements(alloc, at, total(&s.outs), recipe_scratch(s), &recipe)
 }
 
-/// The values of a block whose elements each have a recipe.
-fn elements(alloc: Global, s: &Spec, at: &Layout) -> Result<Vec<Stmt>, NoMemory>
+/// The values of a block whose elements each have a term of their own.
+fn parts(alloc: Global, s: &Spec, at: &Layout) -> Result<Vec<Stmt>, NoMemory>
     requires is_typed { typed s.now ≡ true }
     requires few { AreFew s.now (plain_places at.now) }
     requires own { s.now.kind ≢ kinds.Sensor }
-    requires single { way_of s.now.kind s.now ≡ each (recipe_of s.now.kind s.now) }
-    ensures { IfOk result (λ v. statements_of v.items ≡ upto (λ e. recipe_text (plain_places at.now) e (recipe_of s.now.kind s.now e)) (total s.now.outs)) }
+    requires separate { way_of s.now.kind s.now ≡ each (λ e. plain_of (part_of s.now.kind s.now e)) }
+    ensures { IfOk result (λ v. statements_of v.items
+        ≡ way_text (plain_places at.now) (total s.now.outs) (each (λ e. plain_of (part_of s.now.kind s.now e)))) }
 {
     let mut out = Vec::new(alloc);
     for e in 0..total(&s.outs) {
-        push_element(alloc, &mut out, s, at, e)?;
+        out.push(assigned(alloc, at, Which::Fixed(e), &part(s, e))?)?;
     }
     Ok(out)
 }
 
 /// The statements that work out a block's values from its inputs, its state and its mask, and leave them at the places of its outputs; a
 /// block that has no value stops the run.
-#[tactic(auto, using(crate::proofs::KindSpelled::values_of_other, crate::proofs::KindSpelled::way_of_other))]
+#[tactic(auto, using(crate::proofs::KindSpelled::way_of_alike, crate::proofs::KindSpelled::values_of_alike, crate::proofs::KindSpelled::values_of_parts))]
 pub fn block_body(alloc: Global, s: &Spec, at: &Layout) -> Result<Vec<Stmt>, NoMemory>
     requires is_typed { typed s.now ≡ true }
     requires few { AreFew s.now (plain_places at.now) }
@@ -95,8 +91,10 @@ pub fn block_body(alloc: Global, s: &Spec, at: &Layout) -> Result<Vec<Stmt>, NoM
         select(alloc, s, at)
     } else if let Kind::Logic = s.kind {
         table(alloc, s, at)
+    } else if is_alike(s) {
+        alike(alloc, s, at)
     } else {
-        elements(alloc, s, at)
+        parts(alloc, s, at)
     }
 }
 
@@ -106,9 +104,9 @@ fn next_value(alloc: Global, s: &Spec, at: &Layout, i: u32) -> Result<Stmt, NoMe
     requires value { i < state_len_of s.now.kind s.now }
     requires small { i < 2 ^ 31 }
     ensures { IfOk result (λ x. statement_of x ≡ assign (cell states_name (num (pos (at.now.state + i))))
-        (expression_text (plain_places at.now) (next_by_kind s.now.kind s.now i))) }
+        (expression_text (written (plain_places at.now) (fixed 0)) (next_by_kind s.now.kind s.now i))) }
 {
-    let value = expression(alloc, at, &next_term(alloc, s, i)?)?;
+    let value = expression(alloc, at, Which::Fixed(0), &next_term(alloc, s, i)?)?;
     let place = Target::At(states(), Expr::Num(at.state as i64 + i as i64));
     Ok(Stmt::Set(place, value))
 }
@@ -132,7 +130,7 @@ pub fn block_delay(alloc: Global, s: &Spec, at: &Layout, _port: u32) -> Result<E
     requires delays { has_delay s.now.kind ≡ true }
     ensures { IfOk result (λ e. exp_of e ≡ delay_expression s.now (plain_places at.now)) }
 {
-    expression(alloc, at, &delay_term(alloc, s)?)
+    expression(alloc, at, Which::Fixed(0), &delay_term(alloc, s)?)
 }
 
 /// The branch that a synchronous block takes as an expression.
@@ -141,5 +139,5 @@ pub fn block_branch(alloc: Global, s: &Spec, at: &Layout) -> Result<Expr, NoMemo
     requires sync { is_sync s.now.kind ≡ true }
     ensures { IfOk result (λ e. exp_of e ≡ branch_expression s.now (plain_places at.now)) }
 {
-    expression(alloc, at, &branch_term(alloc, s)?)
+    expression(alloc, at, Which::Fixed(0), &branch_term(alloc, s)?)
 }

@@ -11,10 +11,11 @@ ghost use Rattle.sci_cgen_blocks.specs.Texts.{way_text};
 ghost use Rattle.sci_cgen_blocks.specs.Plain.{term_of, plain_places, AreFew};
 
 use crate::Layout;
+use crate::element_texts::all_elements;
 use crate::fit_terms::bit;
-use crate::recipe_parts::{Term, both};
+use crate::recipe_parts::{Term, Which, both, plain};
 use crate::spec_words::{param, total};
-use crate::writing::{assigned, either, expression};
+use crate::writing::{either, expression};
 use c_ast::{Op, Stmt};
 use sci_base::NoMemory;
 use sci_forms::Spec;
@@ -25,11 +26,7 @@ use std::alloc::Global;
 fn copied(alloc: Global, at: &Layout, port: u32, count: u32) -> Result<Vec<Stmt>, NoMemory>
     ensures { IfOk result (λ v. statements_of v.items ≡ way_text (plain_places at.now) count (copied_way port)) }
 {
-    let mut out = Vec::new(alloc);
-    for e in 0..count {
-        out.push(assigned(alloc, at, e, &Term::Input(port, e))?)?;
-    }
-    Ok(out)
+    all_elements(alloc, at, count, 0, &plain(alloc, Term::Along(port)))
 }
 
 /// Whether the first of the switched inputs is taken.
@@ -55,7 +52,7 @@ pub(crate) fn switched(alloc: Global, s: &Spec, at: &Layout) -> Result<Vec<Stmt>
     ensures { IfOk result (λ v. statements_of v.items ≡ way_text (plain_places at.now) (total s.now.outs) (way_of kinds.Switch2 s.now)) }
 {
     let is_first = switches(alloc, s)?;
-    let test = expression(alloc, at, &is_first)?;
+    let test = expression(alloc, at, Which::Fixed(0), &is_first)?;
     let first = copied(alloc, at, 0, total(&s.outs))?;
     let third = copied(alloc, at, 2, total(&s.outs))?;
     Ok(vec![in alloc; either(test, first, third)]?)
@@ -68,7 +65,7 @@ fn first_of(alloc: Global, at: &Layout, n: u32, count: u32) -> Result<Vec<Stmt>,
 {
     let mut chosen = copied(alloc, at, n, count)?;
     for port in (0..n).rev() {
-        let test = expression(alloc, at, &bit(alloc, Term::Mask, port)?)?;
+        let test = expression(alloc, at, Which::Fixed(0), &bit(alloc, Term::Mask, port)?)?;
         let first = copied(alloc, at, port, count)?;
         chosen = vec![in alloc; either(test, first, chosen)]?;
     }

@@ -8,11 +8,11 @@ ghost use Rattle.sci_cgen_blocks.specs.Recipes.{natural as natural_of, at_most a
 ghost use Rattle.sci_cgen_blocks.specs.Recipes.{branch_term as branch_by_kind, scratch_of as scratch_by_kind};
 ghost use Rattle.sci_cgen_blocks.specs.Plain.{term_of};
 
+use crate::kind_recipes::{is_alike, recipe_scratch};
 use crate::recipe_parts::{Term, both, natural};
-use crate::spec_words::param;
+use crate::spec_words::{is_looped, param};
 use c_ast::Op;
 use sci_base::NoMemory;
-use sci_forms::values::is_equal;
 use sci_forms::{Kind, Spec};
 use std::alloc::Global;
 
@@ -249,44 +249,17 @@ pub(crate) fn branch_term(alloc: Global, s: &Spec) -> Result<Term, NoMemory>
     }
 }
 
-/// How many scratch numbers the values take.
+/// How many scratch numbers the values take: those of the recipe, and one that counts elements in a loop.
 pub fn scratch_of(s: &Spec) -> u32
     ensures { result ≡ scratch_by_kind s.now.kind s.now }
 {
-    match s.kind {
-        Kind::Summation
-        | Kind::GainBlk
-        | Kind::Product
-        | Kind::AbsValue
-        | Kind::MaxMin
-        | Kind::Saturation
-        | Kind::DeadBand
-        | Kind::Convert
-        | Kind::Sensor => 1,
-        Kind::LogicalOp => if is_equal(param(s, 1), 0) { 1 } else { 4 },
-        Kind::Shift => if is_equal(param(s, 1), 0) { 0 } else { 1 },
-        Kind::Const
-        | Kind::Signum
-        | Kind::Mux
-        | Kind::Demux
-        | Kind::Extractor
-        | Kind::RelationalOp
-        | Kind::BitSet
-        | Kind::BitClear
-        | Kind::ExtractBits
-        | Kind::Switch2
-        | Kind::Select
-        | Kind::Logic
-        | Kind::AndLog
-        | Kind::Dollar
-        | Kind::SampHold
-        | Kind::Register
-        | Kind::ModuloCount
-        | Kind::GatedDelay
-        | Kind::EvtDly
-        | Kind::EvtVarDly
-        | Kind::IfThEl
-        | Kind::ESelect
-        | Kind::Halt => 0,
+    let scratch = recipe_scratch(s);
+    if !is_alike(s) {
+        return scratch;
+    }
+    if is_looped(&s.outs) {
+        scratch + 1
+    } else {
+        scratch
     }
 }

@@ -9,6 +9,7 @@ mod bit_kinds;
 mod block_layout;
 mod block_texts;
 mod choice_texts;
+mod element_texts;
 mod fit_terms;
 mod kind_recipes;
 mod kind_terms;

@@ -3,7 +3,7 @@ ghost use Rattle.std.specs.Prelude.{◌≡◌, ◌∷◌, [], ◌*◌, ℕ, ◌<
 ghost use Rattle.sci_forms.specs.Words.{param as param_of};
 ghost use Rattle.sci_forms.specs.declared.Kind.TheVariants as kinds;
 ghost use Rattle.c_ast.specs.declared.Op.TheVariants as ops;
-ghost use Rattle.sci_cgen_blocks.specs.Terms.{constant, input, mask, scratch, both, assign, change};
+ghost use Rattle.sci_cgen_blocks.specs.Terms.{constant, along, mask, scratch, both, assign, change};
 ghost use Rattle.sci_cgen_blocks.specs.Recipes.{natural as natural_term, plain as plain_of, result as first_scratch, highest_bit as highest_term};
 ghost use Rattle.sci_cgen_blocks.specs.Recipes.{truth as truth_term, counted, changed, logical as logical_term, logical_truths as truths_recipe};
 ghost use Rattle.sci_cgen_blocks.specs.Recipes.{logical_bits as bits_recipe, relation as relation_by_code, recipe_of};
@@ -51,47 +51,47 @@ fn logical(alloc: Global, op: i64, n: u32) -> Result<Term, NoMemory>
 }
 
 /// The truth of an input, counted in the result.
-fn truth_counted(alloc: Global, port: u32, e: u32) -> Result<Step, NoMemory>
-    ensures { IfOk result (λ x. step_of x ≡ change (assign 1 (both ops.Add first_scratch (truth_term (input port e))))) }
+fn truth_counted(alloc: Global, port: u32) -> Result<Step, NoMemory>
+    ensures { IfOk result (λ x. step_of x ≡ change (assign 1 (both ops.Add first_scratch (truth_term (along port))))) }
 {
-    let is_true = truth(alloc, Term::Input(port, e))?;
+    let is_true = truth(alloc, Term::Along(port))?;
     Ok(Step::Change(count(alloc, is_true)?))
 }
 
 /// The true inputs of `n`, counted in the result.
-fn push_truths(alloc: Global, steps: &mut Vec<Step>, n: u32, e: u32) -> Result<(), NoMemory>
-    ensures { OnOk result (steps_of steps.new.items ≡ steps_of steps.old.items ++ changed (counted (λ k. truth_term (input k e)) 0 n)) }
+fn push_truths(alloc: Global, steps: &mut Vec<Step>, n: u32) -> Result<(), NoMemory>
+    ensures { OnOk result (steps_of steps.new.items ≡ steps_of steps.old.items ++ changed (counted (λ k. truth_term (along k)) 0 n)) }
 {
     for port in 0..n {
-        steps.push(truth_counted(alloc, port, e)?)?;
+        steps.push(truth_counted(alloc, port)?)?;
     }
     Ok(())
 }
 
-fn logical_truths(alloc: Global, op: i64, n: u32, e: u32) -> Result<Recipe, NoMemory>
-    ensures { IfOk result (λ r. plain_recipe r ≡ truths_recipe op n e) }
+fn logical_truths(alloc: Global, op: i64, n: u32) -> Result<Recipe, NoMemory>
+    ensures { IfOk result (λ r. plain_recipe r ≡ truths_recipe op n) }
 {
     let mut steps = vec![in alloc; set(natural(0))]?;
-    push_truths(alloc, &mut steps, n, e)?;
+    push_truths(alloc, &mut steps, n)?;
     let value = logical(alloc, op, n)?;
     Ok(Recipe { steps, value })
 }
 
 /// The bit of an input that scratch 3 moves up to the highest, counted in the result.
-fn bit_counted(alloc: Global, ty: Ty, port: u32, e: u32) -> Result<Work, NoMemory>
-    ensures { IfOk result (λ w. work_of w ≡ assign 1 (both ops.Add first_scratch (highest_term ty (both ops.Mul (input port e) (scratch 3))))) }
+fn bit_counted(alloc: Global, ty: Ty, port: u32) -> Result<Work, NoMemory>
+    ensures { IfOk result (λ w. work_of w ≡ assign 1 (both ops.Add first_scratch (highest_term ty (both ops.Mul (along port) (scratch 3))))) }
 {
-    let moved = both(alloc, Op::Mul, Term::Input(port, e), Term::Scratch(3))?;
+    let moved = both(alloc, Op::Mul, Term::Along(port), Term::Scratch(3))?;
     count(alloc, highest_bit(alloc, ty, moved)?)
 }
 
 /// The inputs of `n` whose bit that scratch 3 moves up to the highest is 1, counted in the result.
-fn push_bits(alloc: Global, works: &mut Vec<Work>, ty: Ty, n: u32, e: u32) -> Result<(), NoMemory>
+fn push_bits(alloc: Global, works: &mut Vec<Work>, ty: Ty, n: u32) -> Result<(), NoMemory>
     ensures { OnOk result (works_of works.new.items ≡ works_of works.old.items
-        ++ counted (λ k. highest_term ty (both ops.Mul (input k e) (scratch 3))) 0 n) }
+        ++ counted (λ k. highest_term ty (both ops.Mul (along k) (scratch 3))) 0 n) }
 {
     for port in 0..n {
-        works.push(bit_counted(alloc, ty, port, e)?)?;
+        works.push(bit_counted(alloc, ty, port)?)?;
     }
     Ok(())
 }
@@ -109,23 +109,23 @@ fn bit_added(alloc: Global, op: i64, n: u32) -> Result<Vec<Work>, NoMemory>
 
 /// The changes for one bit.
 #[tactic(auto, using(crate::proofs::Kept::works_behind))]
-fn bit_works(alloc: Global, ty: Ty, op: i64, n: u32, e: u32) -> Result<Vec<Work>, NoMemory>
+fn bit_works(alloc: Global, ty: Ty, op: i64, n: u32) -> Result<Vec<Work>, NoMemory>
     ensures { IfOk result (λ v. works_of v.items ≡ (assign 1 (natural_term 0)
-        ∷ counted (λ k. highest_term ty (both ops.Mul (input k e) (scratch 3))) 0 n)
+        ∷ counted (λ k. highest_term ty (both ops.Mul (along k) (scratch 3))) 0 n)
         ++ assign 2 (both ops.Add (both ops.Mul (scratch 2) (natural_term 2)) (logical_term op n)) ∷ assign 3 (both ops.Mul (scratch 3) (natural_term 2))
         ∷ []) }
 {
     let mut works = vec![in alloc; Work::Assign(1, natural(0))]?;
-    push_bits(alloc, &mut works, ty, n, e)?;
+    push_bits(alloc, &mut works, ty, n)?;
     let mut added = bit_added(alloc, op, n)?;
     works.append(&mut added)?;
     Ok(works)
 }
 
-fn logical_bits(alloc: Global, ty: Ty, op: i64, n: u32, e: u32) -> Result<Recipe, NoMemory>
-    ensures { IfOk result (λ r. plain_recipe r ≡ bits_recipe ty op n e) }
+fn logical_bits(alloc: Global, ty: Ty, op: i64, n: u32) -> Result<Recipe, NoMemory>
+    ensures { IfOk result (λ r. plain_recipe r ≡ bits_recipe ty op n) }
 {
-    let works = bit_works(alloc, ty, op, n, e)?;
+    let works = bit_works(alloc, ty, op, n)?;
     let steps = vec![in alloc;
         Step::Change(Work::Assign(2, natural(0))),
         Step::Change(Work::Assign(3, natural(1))),
@@ -138,15 +138,15 @@ fn logical_bits(alloc: Global, ty: Ty, op: i64, n: u32, e: u32) -> Result<Recipe
 }
 
 /// A logical operation of truths, or at each bit.
-pub(crate) fn logical_operation(alloc: Global, s: &Spec, e: u32) -> Result<Recipe, NoMemory>
+pub(crate) fn logical_operation(alloc: Global, s: &Spec) -> Result<Recipe, NoMemory>
     requires { length s.now.ins < 2 ^ 32 }
-    ensures { IfOk result (λ r. plain_recipe r ≡ recipe_of kinds.LogicalOp s.now e) }
+    ensures { IfOk result (λ r. plain_recipe r ≡ recipe_of kinds.LogicalOp s.now) }
 {
     let op = param(s, 0);
     if is_equal(param(s, 1), 0) {
-        logical_truths(alloc, op, inputs(s), e)
+        logical_truths(alloc, op, inputs(s))
     } else {
-        logical_bits(alloc, out_type(s), op, inputs(s), e)
+        logical_bits(alloc, out_type(s), op, inputs(s))
     }
 }
 
@@ -170,11 +170,11 @@ fn relation(code: i64) -> Op
 }
 
 /// Whether the first input has its relation to the second.
-pub(crate) fn related(alloc: Global, s: &Spec, e: u32) -> Result<Recipe, NoMemory>
-    ensures { IfOk result (λ r. plain_recipe r ≡ recipe_of kinds.RelationalOp s.now e) }
+pub(crate) fn related(alloc: Global, s: &Spec) -> Result<Recipe, NoMemory>
+    ensures { IfOk result (λ r. plain_recipe r ≡ recipe_of kinds.RelationalOp s.now) }
 {
     let op = relation(param(s, 0));
-    let holds = both(alloc, op, Term::Input(0, e), Term::Input(1, e))?;
+    let holds = both(alloc, op, Term::Along(0), Term::Along(1))?;
     Ok(plain(alloc, holds))
 }
 

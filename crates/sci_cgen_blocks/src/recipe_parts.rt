@@ -14,12 +14,25 @@ pub(crate) enum Term {
     Constant(i64),
     /// An element of an input: the input, and the element.
     Input(u32, u32),
+    /// The element of an input that is worked out.
+    Along(u32),
     /// A value of the state.
     State(u32),
+    /// The value of the state that belongs to the element that is worked out.
+    StateAlong,
     Mask,
     /// A scratch number, counted from 1.
     Scratch(u32),
     Both(Op, Box<Term>, Box<Term>),
+}
+
+/// Which element a text is written for.
+#[derive(Clone, Copy)]
+pub(crate) enum Which {
+    /// The one of this number, counted from 0.
+    Fixed(u32),
+    /// The one that a scratch number counts.
+    CountedBy(u32),
 }
 
 /// A change of a scratch number.
@@ -61,7 +74,9 @@ impl Term {
         match self {
             Term::Constant(z) => Ok(Term::Constant(*z)),
             Term::Input(port, element) => Ok(Term::Input(*port, *element)),
+            Term::Along(port) => Ok(Term::Along(*port)),
             Term::State(at) => Ok(Term::State(*at)),
+            Term::StateAlong => Ok(Term::StateAlong),
             Term::Mask => Ok(Term::Mask),
             Term::Scratch(n) => Ok(Term::Scratch(*n)),
             Term::Both(op, a, b) => both(alloc, *op, a.copy(alloc)?, b.copy(alloc)?),

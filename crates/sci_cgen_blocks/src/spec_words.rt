@@ -1,13 +1,13 @@
 // What a spec says.
-ghost use Rattle.std.specs.Prelude.{◌≡◌, ◌<◌, ◌≤◌, ◌^◌, pos, length, unsigned_abs, nat_eq};
+ghost use Rattle.std.specs.Prelude.{◌≡◌, ◌<◌, ◌≤◌, ◌^◌, pos, length, nat_eq};
 ghost use Rattle.sci_base.specs.Fit.{span as type_span, int_eq};
-ghost use Rattle.sci_base.specs.Lists.{spread as spread_over};
 ghost use Rattle.sci_forms.specs.Words.{param as param_of, out_type as type_of_output};
 ghost use Rattle.sci_forms.specs.Ports.{total};
 ghost use Rattle.sci_kinds.specs.Table.{mode_of as mode_by_code};
+ghost use Rattle.sci_cgen_blocks.specs.Terms.{is_looped as is_looped_by_count};
 
 use sci_base::bits::two_to;
-use sci_base::{Ints, Mode, Ty};
+use sci_base::{Mode, Ty};
 use sci_forms::values::is_equal;
 use sci_forms::{Ports, Spec};
 
@@ -56,17 +56,6 @@ pub(crate) fn span(ty: Ty) -> u64
     }
 }
 
-/// Number `e` of a list, or its one number for all.
-pub(crate) fn spread(values: &Ints, e: u32) -> i64
-    ensures { result ≡ spread_over values.now e }
-{
-    if values.len() == 1 {
-        values.at(0)
-    } else {
-        values.at(e as usize)
-    }
-}
-
 /// How many inputs there are.
 pub(crate) fn inputs(spec: &Spec) -> u32
     requires { length spec.now.ins < 2 ^ 32 }
@@ -95,4 +84,23 @@ pub(crate) fn total(ports: &Ports) -> u32
         count += ports.port(port).elements() as u32;
     }
     count
+}
+
+/// Whether some ports have so many elements together that a loop goes over them.
+#[tactic(auto, using(crate::proofs::KindParts::total_step, crate::proofs::KindParts::total_end))]
+pub(crate) fn is_looped(ports: &Ports) -> bool
+    ensures { result ≡ is_looped_by_count (total ports.now) }
+{
+    let mut count = 0;
+    for port in 0..ports.len() {
+        let more = ports.port(port).elements();
+        if 2 < more {
+            return true;
+        }
+        count += more as u32;
+        if 2 < count {
+            return true;
+        }
+    }
+    false
 }

@@ -10,7 +10,7 @@ ghost use Rattle.sci_cgen_blocks.specs.Texts.{way_text};
 ghost use Rattle.sci_cgen_blocks.specs.Plain.{term_of, plain_places, AreFew};
 
 use crate::Layout;
-use crate::recipe_parts::Term;
+use crate::recipe_parts::{Term, Which};
 use crate::spec_words::{inputs, param, power, total};
 use crate::writing::{assigned, either, expression};
 use c_ast::Stmt;
@@ -78,7 +78,7 @@ fn row(alloc: Global, s: &Spec, at: &Layout, number: u64) -> Result<Vec<Stmt>, N
 {
     let mut out = Vec::new(alloc);
     for e in 0..total(&s.outs) {
-        out.push(assigned(alloc, at, e, &entry_term(s, number, e))?)?;
+        out.push(assigned(alloc, at, Which::Fixed(e), &entry_term(s, number, e))?)?;
     }
     Ok(out)
 }
@@ -108,7 +108,7 @@ fn decided(
     }
     let holds = decided(alloc, s, at, port + 1, n - 1, first + power(n - 1))?;
     let fails = decided(alloc, s, at, port + 1, n - 1, first)?;
-    let test = expression(alloc, at, &Term::Input(port, 0))?;
+    let test = expression(alloc, at, Which::Fixed(0), &Term::Input(port, 0))?;
     Ok(vec![in alloc; either(test, holds, fails)]?)
 }
 

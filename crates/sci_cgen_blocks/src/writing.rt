@@ -1,17 +1,17 @@
 // Recipes as statements over the program's arrays.
 ghost use Rattle.std.specs.Prelude.{◌≡◌, ◌≤ℤ◌, ◌<◌, ◌+◌, ◌^◌, ℕ, negsuc, pos, IfOk, OnOk};
-ghost use Rattle.c_ast.specs.Syntax.{bin, choice, loop, done, tell, stop, num, set as assign, cell};
+ghost use Rattle.c_ast.specs.Syntax.{bin, element as element_of, choice, loop, done, tell, stop, num, set as assign, cell};
 ghost use Rattle.c_ast.specs.declared.Bound.TheVariants as bounds;
 ghost use Rattle.c_ast.specs.View.{exp_of, statement_of, statements_of};
 ghost use Rattle.c_steps.specs.Texts.{number as number_text, place, joined};
-ghost use Rattle.sci_cgen_blocks.specs.Texts.{values as values_name, expression as expression_text, steps_text, work_statement, works_text};
-ghost use Rattle.sci_cgen_blocks.specs.Texts.{step_statement, recipe_text};
-ghost use Rattle.sci_cgen_blocks.specs.Plain.{term_of, work_of, works_of, step_of, steps_of, word_of, plain_recipe, plain_places, AreSpelled};
+ghost use Rattle.sci_cgen_blocks.specs.Texts.{values as values_name, counted_by, element_place as place_of_element, written, expression as expression_text};
+ghost use Rattle.sci_cgen_blocks.specs.Texts.{steps_text, work_statement, works_text, step_statement, recipe_text};
+ghost use Rattle.sci_cgen_blocks.specs.Plain.{term_of, work_of, works_of, step_of, steps_of, word_of, plain_recipe, which_of, plain_places, AreSpelled};
 ghost use Rattle.sci_cgen_blocks.specs.Plain.{AreWorksSpelled, IsStepSpelled, AreStepsSpelled, IsRecipeSpelled, IsWorkSpelled};
 
 use crate::Layout;
 use crate::array_names::{masks, scratch, states, values};
-use crate::recipe_parts::{Cause, Recipe, Step, Term, Work};
+use crate::recipe_parts::{Cause, Recipe, Step, Term, Which, Work};
 use c_ast::{Bound, Expr, Name, Op, Stmt, Target, Tell};
 use sci_base::NoMemory;
 use std::alloc::Global;
@@ -64,49 +64,96 @@ pub fn repeated(counter: Name, count: u32, body: Vec<Stmt>) -> Stmt
     Stmt::For(counter, Bound::Num(count as i64), body)
 }
 
+/// The element at a computed place of an array.
+pub fn indexed(alloc: Global, array: Name, place: Expr) -> Result<Expr, NoMemory>
+    ensures { IfOk result (λ e. exp_of e ≡ element_of array (exp_of place)) }
+{
+    Ok(Expr::At(array, Box::new(alloc, place)?))
+}
+
+/// The place of the element that a scratch number counts, where the first one is at place `first`.
+pub fn counted_place(alloc: Global, counter: u32, first: u32) -> Result<Expr, NoMemory>
+    ensures { IfOk result (λ e. exp_of e ≡ place_of_element (counted_by counter) first) }
+{
+    bin(
+        alloc,
+        Op::Add,
+        Expr::Var(scratch(counter)),
+        Expr::Num(first as i64),
+    )
+}
+
+/// The place of an element, where the first one is at place `first`.
+fn element_place(alloc: Global, which: Which, first: u32) -> Result<Expr, NoMemory>
+    ensures { IfOk result (λ e. exp_of e ≡ place_of_element (which_of which) first) }
+{
+    match which {
+        Which::Fixed(e) => Ok(Expr::Num(first as i64 + e as i64)),
+        Which::CountedBy(n) => counted_place(alloc, n, first),
+    }
+}
+
+/// The element of an array that a text is written for.
+fn element_along(alloc: Global, array: Name, which: Which, first: u32) -> Result<Expr, NoMemory>
+    ensures { IfOk result (λ e. exp_of e ≡ element_of array (place_of_element (which_of which) first)) }
+{
+    let place = element_place(alloc, which, first)?;
+    indexed(alloc, array, place)
+}
+
 /// A term as an expression.
-pub(crate) fn expression(alloc: Global, at: &Layout, t: &Term) -> Result<Expr, NoMemory>
+pub(crate) fn expression(
+    alloc: Global,
+    at: &Layout,
+    which: Which,
+    t: &Term,
+) -> Result<Expr, NoMemory>
     requires { AreSpelled (term_of t.now) }
-    ensures { IfOk result (λ e. exp_of e ≡ expression_text (plain_places at.now) (term_of t.now)) }
+    ensures { IfOk result (λ e. exp_of e ≡ expression_text (written (plain_places at.now) (which_of which)) (term_of t.now)) }
 {
     match t {
         Term::Constant(z) => number(alloc, *z),
         Term::Input(port, e) => element(alloc, values(), at.input(*port) as u64 + *e as u64),
+        Term::Along(port) => element_along(alloc, values(), which, at.input(*port)),
         Term::State(i) => element(alloc, states(), at.state as u64 + *i as u64),
+        Term::StateAlong => element_along(alloc, states(), which, at.state),
         Term::Mask => element(alloc, masks(), at.mask as u64),
         Term::Scratch(n) => Ok(Expr::Var(scratch(*n))),
         Term::Both(op, a, b) => bin(
             alloc,
             *op,
-            expression(alloc, at, a)?,
-            expression(alloc, at, b)?,
+            expression(alloc, at, which, a)?,
+            expression(alloc, at, which, b)?,
         ),
     }
 }
 
 /// A change of scratch as a statement.
-fn work(alloc: Global, at: &Layout, work: &Work) -> Result<Stmt, NoMemory>
+fn work(alloc: Global, at: &Layout, which: Which, work: &Work) -> Result<Stmt, NoMemory>
     requires { IsWorkSpelled (work_of work.now) }
-    ensures { IfOk result (λ s. statement_of s ≡ work_statement (plain_places at.now) (work_of work.now)) }
+    ensures { IfOk result (λ s. statement_of s ≡ work_statement (written (plain_places at.now) (which_of which)) (work_of work.now)) }
 {
     match work {
-        Work::Assign(n, t) => Ok(Stmt::Set(Target::Var(scratch(*n)), expression(alloc, at, t)?)),
+        Work::Assign(n, t) => Ok(Stmt::Set(
+            Target::Var(scratch(*n)),
+            expression(alloc, at, which, t)?,
+        )),
         Work::AssignIf(test, n, t) => {
-            let set = Stmt::Set(Target::Var(scratch(*n)), expression(alloc, at, t)?);
-            let test = expression(alloc, at, test)?;
+            let set = Stmt::Set(Target::Var(scratch(*n)), expression(alloc, at, which, t)?);
+            let test = expression(alloc, at, which, test)?;
             Ok(only_where(alloc, test, vec![in alloc; set]?))
         }
     }
 }
 
 /// Changes of scratch as statements.
-fn works(alloc: Global, at: &Layout, works: &[Work]) -> Result<Vec<Stmt>, NoMemory>
+fn works(alloc: Global, at: &Layout, which: Which, works: &[Work]) -> Result<Vec<Stmt>, NoMemory>
     requires { AreWorksSpelled (works_of works.now) }
-    ensures { IfOk result (λ v. statements_of v.items ≡ works_text (plain_places at.now) (works_of works.now)) }
+    ensures { IfOk result (λ v. statements_of v.items ≡ works_text (written (plain_places at.now) (which_of which)) (works_of works.now)) }
 {
     let mut out = Vec::with_capacity(alloc, works.len())?;
     for one in works {
-        out.push(work(alloc, at, one)?)?;
+        out.push(work(alloc, at, which, one)?)?;
     }
     Ok(out)
 }
@@ -128,21 +175,21 @@ fn word(cause: Cause) -> i64
 }
 
 /// A step as a statement.
-fn step(alloc: Global, at: &Layout, step: &Step) -> Result<Stmt, NoMemory>
+fn step(alloc: Global, at: &Layout, which: Which, step: &Step) -> Result<Stmt, NoMemory>
     requires { IsStepSpelled (step_of step.now) }
-    ensures { IfOk result (λ s. statement_of s ≡ step_statement (plain_places at.now) (step_of step.now)) }
+    ensures { IfOk result (λ s. statement_of s ≡ step_statement (written (plain_places at.now) (which_of which)) (step_of step.now)) }
 {
     match step {
-        Step::Change(change) => work(alloc, at, change),
+        Step::Change(change) => work(alloc, at, which, change),
         Step::StopIf(test, cause) => {
-            let test = expression(alloc, at, test)?;
+            let test = expression(alloc, at, which, test)?;
             let stop = vec![in alloc; stopping(at.number, word(*cause))]?;
             Ok(only_where(alloc, test, stop))
         }
         Step::Repeat(n, count, changes) => Ok(repeated(
             scratch(*n),
             *count,
-            works(alloc, at, changes)?,
+            works(alloc, at, which, changes)?,
         )),
     }
 }
@@ -152,40 +199,48 @@ fn push_steps(
     alloc: Global,
     out: &mut Vec<Stmt>,
     at: &Layout,
+    which: Which,
     steps: &[Step],
 ) -> Result<(), NoMemory>
     requires { AreStepsSpelled (steps_of steps.now) }
-    ensures { OnOk result (statements_of out.new.items ≡ joined (statements_of out.old.items) (steps_text (plain_places at.now) (steps_of steps.now) done)) }
+    ensures { OnOk result (statements_of out.new.items ≡ joined (statements_of out.old.items)
+        (steps_text (written (plain_places at.now) (which_of which)) (steps_of steps.now) done)) }
 {
     for one in steps {
-        out.push(step(alloc, at, one)?)?;
+        out.push(step(alloc, at, which, one)?)?;
     }
     Ok(())
 }
 
-/// An element of the outputs becomes what a term is.
-pub(crate) fn assigned(alloc: Global, at: &Layout, e: u32, value: &Term) -> Result<Stmt, NoMemory>
+/// The element of the outputs that is written for becomes what a term is.
+pub(crate) fn assigned(
+    alloc: Global,
+    at: &Layout,
+    which: Which,
+    value: &Term,
+) -> Result<Stmt, NoMemory>
     requires { AreSpelled (term_of value.now) }
-    ensures { IfOk result (λ s. statement_of s ≡ assign (cell values_name (num (pos (at.now.outs + e))))
-        (expression_text (plain_places at.now) (term_of value.now))) }
+    ensures { IfOk result (λ s. statement_of s ≡ assign (cell values_name (place_of_element (which_of which) at.now.outs))
+        (expression_text (written (plain_places at.now) (which_of which)) (term_of value.now))) }
 {
-    let value = expression(alloc, at, value)?;
-    let place = Target::At(values(), Expr::Num(at.outs as i64 + e as i64));
+    let value = expression(alloc, at, which, value)?;
+    let place = Target::At(values(), element_place(alloc, which, at.outs)?);
     Ok(Stmt::Set(place, value))
 }
 
-/// Element `e` of the outputs becomes what the recipe gives.
+/// The element of the outputs that is written for becomes what the recipe gives.
 pub(crate) fn push_recipe(
     alloc: Global,
     out: &mut Vec<Stmt>,
     at: &Layout,
-    e: u32,
+    which: Which,
     recipe: &Recipe,
 ) -> Result<(), NoMemory>
     requires { IsRecipeSpelled (plain_recipe recipe.now) }
-    ensures { OnOk result (statements_of out.new.items ≡ joined (statements_of out.old.items) (recipe_text (plain_places at.now) e (plain_recipe recipe.now))) }
+    ensures { OnOk result (statements_of out.new.items ≡ joined (statements_of out.old.items)
+        (recipe_text (written (plain_places at.now) (which_of which)) (plain_recipe recipe.now))) }
 {
-    push_steps(alloc, out, at, &recipe.steps)?;
-    out.push(assigned(alloc, at, e, &recipe.value)?)?;
+    push_steps(alloc, out, at, which, &recipe.steps)?;
+    out.push(assigned(alloc, at, which, &recipe.value)?)?;
     Ok(())
 }

@@ -1,5 +1,5 @@
 -- A generated program assigns values in the functions of blocks and at the beginning of main alone, and shows nothing else as values.
-use Rattle.std.proofs.Common.{◌≡◌, ℕ, zero, suc, ◌+◌, ◌-◌, ◌<◌, inl, inr, List, [], ◌∷◌, ◌++◌, length, Contains, Bool, true, false, ◌||◌, not, nat_eq, nat_lt, if◌then◌else◌, refl, sym, ap, ◌∙◌, subst, arith, ℤ, pos, negsuc, slice_index_or}
+use Rattle.std.proofs.Common.{◌≡◌, ℕ, zero, suc, ◌+◌, ◌-◌, ◌^◌, ◌<◌, inl, inr, List, [], ◌∷◌, ◌++◌, length, Contains, Bool, true, false, ◌||◌, ◌&&◌, not, nat_eq, nat_lt, if◌then◌else◌, refl, sym, ap, ◌∙◌, subst, arith, ℤ, pos, negsuc, slice_index_or}
 use Rattle.std.specs.Int.{bit_at}
 use Rattle.std.proofs.lemmas.Bool.{and_from}
 use Rattle.std.proofs.lemmas.List.Elements.{Contains-append_cases}
@@ -23,14 +23,20 @@ use Rattle.c_mean.specs.Meaning.{same_name}
 use Rattle.c_steps.specs.Texts.{May, number, joined, upto, statement_within, block_within}
 use Rattle.c_steps.proofs.Memory.{and_left, and_right}
 use Rattle.c_steps.proofs.Texts.{joined_within}
-use Rattle.sci_cgen_blocks.specs.Texts.{values, states, masks, body_text, next_text, branch_expression}
+use Rattle.sci_cgen_blocks.specs.Texts.{values, states, masks, body_text, next_text, delay_expression, branch_expression}
 use Rattle.sci_cgen_blocks.specs.Meant.{body_may}
 use Rattle.sci_cgen_blocks.proofs.Assigned.{body_within}
 use Rattle.sci_due.specs.Due.{dates, orders, scan as scan_name}
-use Rattle.sci_cgen.specs.Names.{branches, until_name, next_date, halt_name, settle_name, choose_name}
-use Rattle.sci_cgen.specs.Program.{natural, one, is_active, mark, is_taken, end_where, has_halt, texts, text_where, only_where, port_count, places_of, is_scheduled, block_function, with_bit, with_bits, guard_text, call_text, entry_text, header_text, row_text, source_function, clear_text, has_sync, elements_shown, outputs_shown, values_shown, delay_text, state_text, halt_text, settle_text, halted_text, fire_text, event_text, turn_text, first_text, begun_text, list_begun, held_begun, state_begun, firing_at, programmed_before, firing_begun, source_begun, main_text, functions_upto, functions_where, other_functions, called_functions, event_function, functions}
-use Rattle.sci_cgen.proofs.Parted.{reads, masked, guarded, called, all_shown, all_delays, all_states, all_halts, all_held, first_states, all_begun, until_asked, where_ports, fires_source, starting, ending, running, own, blocks, sources, settle_function, clear_function, choose_function, before}
-use Rattle.sci_cgen_laws.specs.Values.{spares_values, are_sets, told_well, statement_shows_values, shows_values, IsBlockFunction, ProgramKeepsValues}
+use Rattle.sci_due.specs.Texts.{program_text}
+use Rattle.sci_cgen.specs.declared.parts.Part.{Part}
+use Rattle.sci_cgen.specs.declared.parts.Part.TheVariants.{Absent, Sure, Marked}
+use Rattle.sci_cgen.specs.Names.{actives, branches, until_name, next_date, halt_name, clear_name, settle_name, choose_name}
+use Rattle.sci_cgen.specs.Program.{natural, one, has_own, part_in, is_active, where_part, mark, is_taken, end_or, has_halt, texts, text_where, only_where, port_count, places_of, is_scheduled, block_function, with_bit, with_bits, guard_text, call_text, entry_text, cleared_text, header_text, pass_text, following_text, row_text, shared_text, source_function, clear_text, has_sync, elements_shown, outputs_shown, values_shown, delay_text, state_text, halt_text, settle_text, halted_or, react_step, react_deep, fire_text, event_text, turn_text, first_text, begun_text, list_begun, held_begun, state_begun, firing_at, programmed_before, firing_begun, source_begun, main_text, functions_upto, functions_where, other_functions, called_functions, event_function, functions, looped_shown, output_shown}
+use Rattle.sci_cgen.proofs.Parted.{reads, masked, guarded, called, all_shown, all_delays, all_states, all_halts, all_held, first_states, all_begun, until_asked, where_ports, starting, ending, running, own, blocks, sources, settle_function, clear_function, choose_function, clears, shared, chooses}
+use Rattle.sci_cgen_blocks.specs.Terms.{is_looped}
+use Rattle.sci_cgen.proofs.Halves.{in_first, react_last, react_more}
+use Rattle.sci_cgen_laws.specs.Values.{spares_values, are_sets, told_well, statement_shows_values, shows_values, IsBlockFunction}
+use Rattle.sci_cgen_laws.specs.Laws.{ProgramKeepsValues}
 
 -- ---- texts put together
 
@@ -142,62 +148,91 @@ module _ (n : Parts) where
   call_kept b =
       where_kept (is_sync (spec_of n b).kind) (one (set (cell branches (natural (b - 1))) (branch_expression (spec_of n b) (places_of n b)))) (refl, refl)
 
-  entry_kept : (e : Entry) → Kept (entry_text n e)
-  entry_kept e =
+  entry_kept : (alone : Bool) (e : Entry) → Kept (entry_text alone n e)
+  entry_kept alone e =
       let body = only_where (is_active e.block) (call_text n e.block) in
-      both (text_where e.always (mark e.block)) (joined (masked n e) (joined (guarded n e) (called n e)))
-      (where_kept e.always (mark e.block) (refl, refl))
+      both (text_where (not alone && e.always) (mark e.block)) (joined (masked n e) (joined (guarded n e) (called n e)))
+      (where_kept (not alone && e.always) (mark e.block) (refl, refl))
       (both (masked n e) (joined (guarded n e) (called n e))
       (where_kept (reads n e) (one (set (cell masks (natural (e.block - 1))) (natural e.mask))) (refl, refl))
       (both (guarded n e) (called n e)
       (where_kept (not e.always || reads n e) (texts (guard_text n e) e.guards) (all (guard_text n e) e.guards (guard_kept e)))
       (either_kept e.always (call_text n e.block) body (call_kept e.block) (only_kept (is_active e.block) (call_text n e.block) (call_kept e.block)))))
 
-  row_kept : (s : Source) (row : List Entry) → Kept (row_text n s row)
-  row_kept s row = both (header_text s) (texts (entry_text n) row) (header_kept s) (all (entry_text n) row entry_kept)
+  cleared_kept : (e : Entry) → Kept (cleared_text n e)
+  cleared_kept e =
+      let active = one (set (cell actives (natural (e.block - 1))) (natural 0)) in
+      let branch = one (set (cell branches (natural (e.block - 1))) (natural 0)) in
+      both (text_where (not e.always) active) (text_where (is_sync (spec_of n e.block).kind) branch) (where_kept (not e.always) active (refl, refl))
+      (where_kept (is_sync (spec_of n e.block).kind) branch (refl, refl))
+
+  pass_kept : (alone : Bool) (s : Source) (row : List Entry) → Kept (pass_text alone n s row)
+  pass_kept alone s row =
+      let cleared = text_where alone (texts (cleared_text n) row) in
+      both (header_text s) (joined cleared (texts (entry_text alone n) row)) (header_kept s)
+      (both cleared (texts (entry_text alone n) row) (where_kept alone (texts (cleared_text n) row) (all (cleared_text n) row cleared_kept))
+      (all (entry_text alone n) row (entry_kept alone)))
 
   -- ---- behind its values
+
+  part_kept : (p : Part) (b : ℕ) (t : Block) → Kept t → Kept (where_part p b t)
+  part_kept Absent b t h = (refl, refl)
+  part_kept Sure b t h = h
+  part_kept Marked b t h = only_kept (is_active b) t h
 
   elements_kept : (b p e o m : ℕ) → Kept (elements_shown b p e o m)
   elements_kept b p e o zero = (refl, refl)
   elements_kept b p e o (suc m) = elements_kept b p (e + 1) (o + 1) m
 
+  output_kept : (b p o m : ℕ) → Kept (output_shown b p o m)
+  output_kept b p o m = either_kept (is_looped m) (one (looped_shown b p o m)) (elements_shown b p 1 o m) (refl, refl) (elements_kept b p 1 o m)
+
   outputs_kept : (b p o : ℕ) (qs : List Output) → Kept (outputs_shown b p o qs)
   outputs_kept b p o [] = (refl, refl)
   outputs_kept b p o (q ∷ qs) =
-      both (elements_shown b p 1 o (elements q)) (outputs_shown b (p + 1) (o + elements q) qs) (elements_kept b p 1 o (elements q))
+      both (output_shown b p o (elements q)) (outputs_shown b (p + 1) (o + elements q) qs) (output_kept b p o (elements q))
       (outputs_kept b (p + 1) (o + elements q) qs)
-
-  shown_kept : (b : ℕ) → Kept (values_shown n b)
-  shown_kept b =
-      let shown = outputs_shown b 1 (start_of n b) (spec_of n b).outs in
-      where_kept (nat_lt 0 (length (spec_of n b).outs)) (only_where (is_active b) shown)
-      (only_kept (is_active b) shown (outputs_kept b 1 (start_of n b) (spec_of n b).outs))
-
-  delay_kept : (i : ℕ) (s : Source) → Kept (delay_text n i s)
-  delay_kept i Start = (refl, refl)
-  delay_kept i (Port q) = (refl, refl)
 
   next_kept : (b : ℕ) → Kept (next_text (spec_of n b) (places_of n b))
   next_kept b = each _ (state_len_of (spec_of n b).kind (spec_of n b)) (λ i. (refl, refl))
 
-  state_kept : (b : ℕ) → Kept (state_text n b)
-  state_kept b =
-      let text = next_text (spec_of n b) (places_of n b) in
-      where_kept (has_state (spec_of n b).kind) (only_where (is_active b) text) (only_kept (is_active b) text (next_kept b))
+  module _ (part : ℕ → Part) where
+    shown_kept : (b : ℕ) → Kept (values_shown n part b)
+    shown_kept b =
+        let shown = outputs_shown b 1 (start_of n b) (spec_of n b).outs in
+        where_kept (nat_lt 0 (length (spec_of n b).outs)) (where_part (part b) b shown)
+        (part_kept (part b) b shown (outputs_kept b 1 (start_of n b) (spec_of n b).outs))
 
-  halt_kept : (b : ℕ) → Kept (halt_text n b)
-  halt_kept b =
-      where_kept (is_halt (spec_of n b).kind) (only_where (is_active b) (one (set (scalar halt_name) (natural 1)))) (refl, refl)
+    delay_kept : (i : ℕ) (s : Source) → Kept (delay_text n part i s)
+    delay_kept i Start = (refl, refl)
+    delay_kept i (Port q) =
+        part_kept (part q.block) q.block (program_text (i - 1) (delay_expression (spec_of n q.block) (places_of n q.block)) done) (refl, refl)
 
-  settle_kept : Kept (settle_text n)
-  settle_kept =
-      both (all_shown n) (joined (all_delays n) (joined (all_states n) (all_halts n)))
-      (each (λ k. values_shown n (suc k)) (length n.specs) (λ k. shown_kept (suc k)))
-      (both (all_delays n) (joined (all_states n) (all_halts n))
-      (each (λ k. delay_text n (suc k) (source_of n (suc k))) (port_count n) (λ k. delay_kept (suc k) (source_of n (suc k))))
-      (both (all_states n) (all_halts n) (each (λ k. state_text n (suc k)) (length n.specs) (λ k. state_kept (suc k)))
-      (each (λ k. halt_text n (suc k)) (length n.specs) (λ k. halt_kept (suc k)))))
+    state_kept : (b : ℕ) → Kept (state_text n part b)
+    state_kept b =
+        let text = next_text (spec_of n b) (places_of n b) in
+        where_kept (has_state (spec_of n b).kind) (where_part (part b) b text) (part_kept (part b) b text (next_kept b))
+
+    halt_kept : (b : ℕ) → Kept (halt_text n part b)
+    halt_kept b =
+        let text = one (set (scalar halt_name) (natural 1)) in
+        where_kept (is_halt (spec_of n b).kind) (where_part (part b) b text) (part_kept (part b) b text (refl, refl))
+
+    settle_kept : Kept (settle_text n part)
+    settle_kept =
+        both (all_shown n part) (joined (all_delays n part) (joined (all_states n part) (all_halts n part)))
+        (each (λ k. values_shown n part (suc k)) (length n.specs) (λ k. shown_kept (suc k)))
+        (both (all_delays n part) (joined (all_states n part) (all_halts n part))
+        (each (λ k. delay_text n part (suc k) (source_of n (suc k))) (port_count n) (λ k. delay_kept (suc k) (source_of n (suc k))))
+        (both (all_states n part) (all_halts n part) (each (λ k. state_text n part (suc k)) (length n.specs) (λ k. state_kept (suc k)))
+        (each (λ k. halt_text n part (suc k)) (length n.specs) (λ k. halt_kept (suc k)))))
+
+  following_kept : (alone : Bool) (row : List Entry) → Kept (following_text alone n row)
+  following_kept true row = settle_kept (part_in row)
+  following_kept false row = (refl, refl)
+
+  row_kept : (alone : Bool) (s : Source) (row : List Entry) → Kept (row_text alone n s row)
+  row_kept alone s row = both (pass_text alone n s row) (following_text alone n row) (pass_kept alone s row) (following_kept alone row)
 
   -- ---- before a reaction
 
@@ -208,29 +243,43 @@ module _ (n : Parts) where
 
   -- ---- the run
 
-  halted_kept : Kept (halted_text n)
-  halted_kept = where_kept (has_halt n) (end_where (var halt_name) 0) (refl, refl)
+  end_kept : (e : Exp) (word : ℕ) (rest : Block) → Kept rest → Kept (end_or e word rest)
+  end_kept e word rest h = (rw h.0 refl, rw h.1 refl)
 
-  fire_kept : Kept (fire_text n)
-  fire_kept =
-      both (upto fires_source (port_count n)) (next (call settle_name) (one (call choose_name))) (each fires_source (port_count n) (λ k. (refl, refl)))
-      (refl, refl)
+  halted_kept : (rest : Block) → Kept rest → Kept (halted_or n rest)
+  halted_kept rest h = either_kept (has_halt n) (end_or (var halt_name) 0 rest) rest (end_kept (var halt_name) 0 rest h) h
 
-  abbrev early : Block
-  early = end_where (bin Lt (var next_date) (natural 0)) 2
+  react_kept : (d i c : ℕ) → Kept (one (react_step d i c))
+  react_kept zero i c = subst (λ (s : Statement). Kept (one s)) (sym (react_last i c)) (refl, refl)
+  react_kept (suc d) i c =
+      subst (λ (s : Statement). Kept (one s)) (sym (react_more d i c))
+      (by_count (nat_lt (2 ^ d) c) (react_kept d i (2 ^ d)) (react_kept d (i + 2 ^ d) (c - 2 ^ d)) (react_kept d i c))
+    where
+      by_count : (t : Bool) → Kept (one (react_step d i (2 ^ d))) → Kept (one (react_step d (i + 2 ^ d) (c - 2 ^ d))) → Kept (one (react_step d i c))
+          → Kept (one (if t then in_first i (2 ^ d) (react_step d i (2 ^ d)) (react_step d (i + 2 ^ d) (c - 2 ^ d)) else react_step d i c))
+      by_count true p q r = (and_from _ true (and_from _ _ p.0 q.0) refl, and_from _ true (and_from _ _ p.1 q.1) refl)
+      by_count false p q r = r
 
-  abbrev late : Block
-  late = end_where (bin Gt (var next_date) (var until_name)) 3
+  fire_kept : (alone : Bool) → Kept (fire_text alone n)
+  fire_kept alone =
+      both (text_where (not alone) (one (call clear_name))) (next (react_step react_deep 0 (port_count n)) (one (call choose_name)))
+      (where_kept (not alone) (one (call clear_name)) (refl, refl))
+      (both (one (react_step react_deep 0 (port_count n))) (one (call choose_name)) (react_kept react_deep 0 (port_count n)) (refl, refl))
 
-  event_kept : Kept (event_text n)
-  event_kept =
-      either_kept (nat_lt 0 (port_count n)) (joined early (joined late (fire_text n))) (one (tell (finish (natural 2)))) fire_kept (refl, refl)
+  abbrev in_time : Bool → Block
+  in_time alone = end_or (bin Gt (var next_date) (var until_name)) 3 (fire_text alone n)
 
-  turn_kept : Kept (turn_text n)
-  turn_kept = both (halted_text n) (event_text n) halted_kept event_kept
+  event_kept : (alone : Bool) → Kept (event_text alone n)
+  event_kept alone =
+      either_kept (nat_lt 0 (port_count n)) (end_or (bin Lt (var next_date) (natural 0)) 2 (in_time alone)) (one (tell (finish (natural 2))))
+      (end_kept (bin Lt (var next_date) (natural 0)) 2 (in_time alone)
+      (end_kept (bin Gt (var next_date) (var until_name)) 3 (fire_text alone n) (fire_kept alone))) (refl, refl)
+
+  turn_kept : (alone : Bool) → Kept (turn_text alone n)
+  turn_kept alone = halted_kept (event_text alone n) (event_kept alone)
 
   ending_kept : Kept (ending n)
-  ending_kept = both (halted_text n) (one (tell (finish (natural 1)))) halted_kept (refl, refl)
+  ending_kept = halted_kept (one (tell (finish (natural 1)))) (refl, refl)
 
   running_kept : Kept (running n)
   running_kept = ending_kept
@@ -329,20 +378,23 @@ module _ (P : Function → Type 0) where
 
   -- the functions of a program
   of_program : (n : Parts) (rows : List (List Entry)) → ((k : ℕ) → k < length n.specs → P (own n rows k)) → P (settle_function n) → P (clear_function n)
-      → P (choose_function n) → ((i : ℕ) → P (source_function n rows i)) → P (event_function n) → Of (functions n rows)
-  of_program n rows own_holds settles clears chooses sourced fires =
-      of_both (called_functions n rows) (event_function n ∷ [])
-      (of_both (blocks n rows ++ other_functions n) (sources n rows)
-      (of_both (blocks n rows) (other_functions n) (of_upto (own n rows) (length n.specs) own_holds)
-      (of_first (settle_function n) (functions_where (nat_lt 0 (port_count n)) (before n)) settles
-      (of_where (nat_lt 0 (port_count n)) (before n)
-      (of_first (clear_function n) (choose_function n ∷ []) clears (of_first (choose_function n) [] chooses of_none)))))
+      → P (choose_function n) → ((i : ℕ) → P (source_function n rows i)) → P (event_function (has_own n rows) n) → Of (functions n rows)
+  of_program n rows own_holds settles cleared chosen sourced fires =
+      let alone = has_own n rows in
+      of_both (called_functions n rows) (event_function alone n ∷ [])
+      (of_both (blocks n rows ++ other_functions alone n) (sources n rows)
+      (of_both (blocks n rows) (other_functions alone n) (of_upto (own n rows) (length n.specs) own_holds)
+      (of_both (functions_where (not alone) (shared n)) (chooses n)
+      (of_where (not alone) (shared n)
+      (of_first (settle_function n) (clears n) settles
+      (of_where (nat_lt 0 (port_count n)) (clear_function n ∷ []) (of_first (clear_function n) [] cleared of_none))))
+      (of_where (nat_lt 0 (port_count n)) (choose_function n ∷ []) (of_first (choose_function n) [] chosen of_none))))
       (of_upto (source_function n rows) (length (sources_of n)) (λ i l. sourced i)))
-      (of_first (event_function n) [] fires of_none)
+      (of_first (event_function alone n) [] fires of_none)
 
 module _ (n : Parts) (rows : List (List Entry)) where
   source_kept : (i : ℕ) → Kept (source_function n rows i).body
-  source_kept i = row_kept n (source_of n i) (slice_index_or rows i [])
+  source_kept i = row_kept n (has_own n rows) (source_of n i) (slice_index_or rows i [])
 
   own_shows : (b : ℕ) → shows_values (block_function n rows b).body ≡ true
   own_shows b = by_test (is_scheduled rows b)
@@ -361,10 +413,13 @@ module _ (n : Parts) (rows : List (List Entry)) where
   all_spare : (f : Function) → Contains (functions n rows) f → Spares f
   all_spare =
       of_program Spares n rows (λ k l none. absurd (none (suc k, record { least = omega arith; most = omega (arith, l) }, refl)))
-      (λ none. (settle_kept n).0) (λ none. (clear_kept n).0) (λ none. refl) (λ i none. (source_kept i).0) (λ none. (turn_kept n).0)
+      (λ none. (settle_kept n (λ b. Marked)).0) (λ none. (clear_kept n).0) (λ none. refl) (λ i none. (source_kept i).0)
+      (λ none. (turn_kept n (has_own n rows)).0)
 
   all_show : (f : Function) → Contains (functions n rows) f → Shows f
-  all_show = of_program Shows n rows (λ k l. own_shows (suc k)) (settle_kept n).1 (clear_kept n).1 refl (λ i. (source_kept i).1) (turn_kept n).1
+  all_show =
+      of_program Shows n rows (λ k l. own_shows (suc k)) (settle_kept n (λ b. Marked)).1 (clear_kept n).1 refl (λ i. (source_kept i).1)
+      (turn_kept n (has_own n rows)).1
 
 pub program_keeps_values : ProgramKeepsValues
 program_keeps_values n rows net schedule = record {

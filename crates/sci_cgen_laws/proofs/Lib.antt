@@ -1,2 +1,4 @@
 pub mod Places
+pub mod Doing
+pub mod Placed
 pub mod Kept

@@ -1,5 +1,5 @@
--- Blocks of a generated program work on places of their own.
-use Rattle.std.proofs.Common.{◌≡◌, ◌≢◌, ℕ, zero, suc, ◌+◌, ◌-◌, ◌<◌, ◌≤◌, inl, inr, List, [], ◌∷◌, ◌++◌, length, map, slice_index_or, Contains, Bool, true, false, ◌||◌, nat_eq, nat_lt, if◌then◌else◌, refl, sym, ap, ◌∙◌, subst, arith, true≢false, eq-eqb, ne_eqb}
+-- Blocks of a generated program work on places of their own: the lemmas, and the texts of their functions.
+use Rattle.std.proofs.Common.{◌≡◌, ◌≢◌, ℕ, zero, suc, ◌+◌, ◌-◌, ◌<◌, ◌≤◌, inl, inr, List, [], ◌∷◌, ◌++◌, length, map, slice_index_or, Contains, Bool, true, false, ◌||◌, not, nat_eq, nat_lt, if◌then◌else◌, refl, sym, ap, ◌∙◌, subst, arith, true≢false, eq-eqb, ne_eqb}
 use Rattle.std.specs.List.{list_any}
 use Rattle.std.proofs.lemmas.Bool.{cases_eq, cases_lt, eqb-true}
 use Rattle.std.proofs.lemmas.List.{get_or-map, length-map}
@@ -19,17 +19,18 @@ use Rattle.sci_run.specs.Laws.{AreLoopFree}
 use Rattle.sci_span.specs.declared.span.Span.{Span}
 use Rattle.sci_places.specs.Layout.{output_span}
 use Rattle.sci_span.specs.Values.{no_span}
-use Rattle.sci_places.proofs.Outputs.{blocks_apart, block_within}
+use Rattle.sci_places.proofs.Outputs.{blocks_apart}
 use Rattle.c_ast.specs.declared.Name.{Name}
 use Rattle.c_ast.specs.Syntax.{Function}
 use Rattle.c_mean.specs.Meaning.{same_name}
 use Rattle.sci_cgen_blocks.specs.Texts.{body_text}
 use Rattle.sci_cgen.specs.Names.{block_name}
-use Rattle.sci_cgen.specs.Program.{text_where, port_count, places_of, states_before, is_scheduled, block_function, source_function, functions_upto, functions_where, other_functions, called_functions, event_function, functions}
+use Rattle.sci_cgen.specs.Program.{has_own, text_where, port_count, places_of, states_before, is_scheduled, block_function, source_function, functions_upto, functions_where, other_functions, called_functions, event_function, functions}
 use Rattle.sci_cgen.specs.Laws.{named_so}
-use Rattle.sci_cgen.proofs.Parted.{own, blocks, sources, before as before_events}
-use Rattle.sci_cgen.proofs.Sizes.{in_bounds, input_within, state_within}
-use Rattle.sci_cgen_laws.specs.Values.{AreApart, ProgramHasPlaces}
+use Rattle.sci_cgen.proofs.Parted.{own, blocks, sources, settle_function, clear_function, choose_function}
+use Rattle.sci_cgen.proofs.Sizes.{in_bounds}
+use Rattle.sci_cgen_laws.specs.Places.{AreApart}
+use Rattle.sci_cgen_laws.specs.Laws.{ProgramHasTexts}
 
 -- ---- the function of a block's name
 
@@ -47,12 +48,15 @@ module _ (n : Parts) (rows : List (List Entry)) (b : ℕ) where
       by_name true h = ap (λ (l : List Function). x ∷ l) h
       by_name false h = h
 
-  other_named : named_so name (other_functions n) ≡ []
-  other_named = by_test (nat_lt 0 (port_count n))
+  other_named : (alone : Bool) → named_so name (other_functions alone n) ≡ []
+  other_named alone = by_tests alone (nat_lt 0 (port_count n))
     where
-      by_test : (t : Bool) → named_so name (functions_where t (before_events n)) ≡ []
-      by_test true = refl
-      by_test false = refl
+      by_tests : (o t : Bool) → named_so name (functions_where (not o) (settle_function n ∷ functions_where t (clear_function n ∷ []))
+          ++ functions_where t (choose_function n ∷ [])) ≡ []
+      by_tests true true = refl
+      by_tests true false = refl
+      by_tests false true = refl
+      by_tests false false = refl
 
   sources_named : (k : ℕ) → named_so name (functions_upto (source_function n rows) k) ≡ []
   sources_named zero = refl
@@ -76,16 +80,17 @@ module _ (n : Parts) (rows : List (List Entry)) (b : ℕ) where
 
   all_named : IsBlock n b → named_so name (functions n rows) ≡ block_function n rows b ∷ []
   all_named is =
-      named_both (called_functions n rows) (event_function n ∷ [])
-      ∙ (ap (λ (l : List Function). l ++ []) (named_both (blocks n rows ++ other_functions n) (sources n rows))
-      ∙ (ap (λ (l : List Function). (l ++ named_so name (sources n rows)) ++ []) (named_both (blocks n rows) (other_functions n))
-      ∙ rw (blocks_named is.least (length n.specs) is.most, other_named, sources_named (length (sources_of n))) refl))
+      let alone = has_own n rows in
+      named_both (called_functions n rows) (event_function alone n ∷ [])
+      ∙ (ap (λ (l : List Function). l ++ []) (named_both (blocks n rows ++ other_functions alone n) (sources n rows))
+      ∙ (ap (λ (l : List Function). (l ++ named_so name (sources n rows)) ++ []) (named_both (blocks n rows) (other_functions alone n))
+      ∙ rw (blocks_named is.least (length n.specs) is.most, other_named (has_own n rows), sources_named (length (sources_of n))) refl))
 
   only_one : (g f : Function) → Contains (g ∷ []) f → g ≡ f
   only_one g f (zero, l, e) = e
   only_one g f (suc i, l, e) = absurd (omega (arith, l))
 
-  body_is : (f : Function) → IsBlock n b → is_scheduled rows b ≡ true → Contains (named_so name (functions n rows)) f
+  pub body_is : (f : Function) → IsBlock n b → is_scheduled rows b ≡ true → Contains (named_so name (functions n rows)) f
       → f.body ≡ body_text (spec_of n b) (places_of n b)
   body_is f is has c =
       let same : block_function n rows b ≡ f = only_one (block_function n rows b) f (subst (λ (l : List Function). Contains l f) (all_named is) c) in
@@ -137,27 +142,27 @@ module _ (n : Parts) where
       subst (λ (j : ℕ). states_before n.specs j + len ≤ (places_of n (suc k)).state) first
       (subst (λ (j : ℕ). states_before n.specs i + len ≤ states_before n.specs j) next (states_apart n.specs i k (omega (arith, l)) (omega (arith, most))))
 
-  outs_of : (b c : ℕ) → IsBlock n b → IsBlock n c → b ≢ c
+  pub outs_of : (b c : ℕ) → IsBlock n b → IsBlock n c → b ≢ c
       → AreApart (places_of n b).outs (total (spec_of n b).outs) (places_of n c).outs (total (spec_of n c).outs)
   outs_of b c is has differ = elim (cases_lt b c) [
     | inl l ↦ inl (blocks_apart n b c is has l)
     | inr l ↦ inr (blocks_apart n c b has is (omega (arith, l, differ)))
   ]
 
-  states_of : (b c : ℕ) → IsBlock n b → IsBlock n c → b ≢ c
+  pub states_of : (b c : ℕ) → IsBlock n b → IsBlock n c → b ≢ c
       → AreApart (places_of n b).state (state_len_of (spec_of n b).kind (spec_of n b)) (places_of n c).state (state_len_of (spec_of n c).kind (spec_of n c))
   states_of b c is has differ = elim (cases_lt b c) [
     | inl l ↦ inl (states_end b c is has l)
     | inr l ↦ inr (states_end c b has is (omega (arith, l, differ)))
   ]
 
-  masks_of : (b c : ℕ) → IsBlock n b → IsBlock n c → b ≢ c → (places_of n b).mask ≢ (places_of n c).mask
+  pub masks_of : (b c : ℕ) → IsBlock n b → IsBlock n c → b ≢ c → (places_of n b).mask ≢ (places_of n c).mask
   masks_of b c is has differ e = differ (let least = is.least in let other = has.least in omega (arith, e, least, other))
 
 -- ---- inputs
 
 module _ (n : Parts) (net : IsNet n) where
-  starts_at : (b k : ℕ) → IsBlock n b → k < length (spec_of n b).ins → slice_index_or (places_of n b).ins k 0 ≡ (output_span n (wire_of n b (suc k))).start
+  pub starts_at : (b k : ℕ) → IsBlock n b → k < length (spec_of n b).ins → slice_index_or (places_of n b).ins k 0 ≡ (output_span n (wire_of n b (suc k))).start
   starts_at b k block l =
       let ws = numbered [] n.wires b in
       let each = net.wired.one_wire_each b block in
@@ -165,7 +170,7 @@ module _ (n : Parts) (net : IsNet n) where
       get_or-map (λ (p : Span). p.start) (map (output_span n) ws) k no_span 0 (omega (arith, l, each, all))
       ∙ ap (λ (p : Span). p.start) (get_or-map (output_span n) ws k no_wire no_span (omega (arith, l, each)))
 
-  fed_by_other : (rows : List (List Entry)) → AreLoopFree n → IsSchedule n rows → (b k : ℕ) → IsBlock n b → is_scheduled rows b ≡ true
+  pub fed_by_other : (rows : List (List Entry)) → AreLoopFree n → IsSchedule n rows → (b k : ℕ) → IsBlock n b → is_scheduled rows b ≡ true
       → k < length (spec_of n b).ins → truth_at (spec_of n b).feed k ≡ true → (wire_of n b (suc k)).block ≢ b
   fed_by_other rows free schedule b k block has l through same =
       let may = may_be_active n rows schedule b has in
@@ -176,18 +181,5 @@ module _ (n : Parts) (net : IsNet n) where
       let loop_free = free may.0 may.1 in
       irreflexive n s loop_free b (need_precedes n s loop_free b b need)
 
-pub program_has_places : ProgramHasPlaces
-program_has_places n rows net free schedule = record {
-  bodies = λ b f is has c. body_is n rows b f is has c;
-  within = λ b is. in_bounds n net b is;
-  in_values = λ b is. block_within n b is;
-  in_states = λ b is. state_within n net b is;
-  in_masks = λ b is. omega (arith, is.least, is.most);
-  in_ins = λ b k e is l r. input_within n net b k e is l r;
-  arrays = ((0, omega arith, refl), (1, omega arith, refl), (2, omega arith, refl));
-  out_places = outs_of n;
-  state_places = states_of n;
-  mask_places = masks_of n;
-  ins = λ b k e is l r. ap (λ (j : ℕ). j + e) (starts_at n net b k is l);
-  fed = λ b k is has l through. fed_by_other n net rows free schedule b k is has l through;
-}
+pub program_has_texts : ProgramHasTexts
+program_has_texts n rows net = record { bodies = λ b f is has c. body_is n rows b f is has c; within = λ b is. in_bounds n net b is }

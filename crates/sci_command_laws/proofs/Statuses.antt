@@ -13,7 +13,9 @@ use Rattle.c_mean.specs.Answering.{end_of}
 use Rattle.sci_agree.specs.declared.verdict.Verdict.{Verdict}
 use Rattle.sci_agree.specs.declared.verdict.Verdict.TheVariants.{Yes, No}
 use Rattle.sci_commands.specs.Words.{Request, report, simulate, judge, save, resume, code, run_c, host, bulk, dump, dump_at, Spells}
-use Rattle.sci_commands.specs.Answer.{Answer, run_status, c_status, c_err, c_ran, undefined_line}
+use Rattle.sci_commands.specs.Answer.{Answer}
+use Rattle.sci_commands.specs.RunC.{c_status, c_err, c_ran, undefined_line}
+use Rattle.sci_commands.specs.Simulate.{run_status}
 use Rattle.sci_commands.specs.Judge.{judged}
 use Rattle.sci_commands.specs.Save.{IsSaveOf, saves, ended}
 use Rattle.sci_commands.specs.Course.{Course, gives, makes, reads, DueOn}

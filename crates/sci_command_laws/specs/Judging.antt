@@ -4,7 +4,8 @@ use Rattle.sci_base.specs.declared.observation.Obs.{Obs}
 use Rattle.sci_io.specs.Files.{Files}
 use Rattle.sci_agree.specs.declared.verdict.Verdict.TheVariants.{Yes}
 use Rattle.sci_commands.specs.Words.{judge, spelled}
-use Rattle.sci_commands.specs.Answer.{Answer, ran}
+use Rattle.sci_commands.specs.Answer.{Answer}
+use Rattle.sci_commands.specs.Simulate.{ran}
 use Rattle.sci_commands.specs.Judge.{judged}
 use Rattle.sci_commands.specs.Course.{Holds, third_slot}
 use Rattle.sci_commands.specs.Due.{Due}

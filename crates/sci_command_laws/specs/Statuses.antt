@@ -3,7 +3,8 @@ use Rattle.std.specs.Prelude.{ℕ, ◌≡◌, ◌⊎◌, List, [], ◌∷◌}
 use Rattle.sci_io.specs.Files.{Files}
 use Rattle.sci_agree.specs.declared.verdict.Verdict.TheVariants.{No}
 use Rattle.sci_commands.specs.Words.{Request, report, simulate, judge, save, resume, code, run_c, host, bulk, dump, dump_at, Spells, NoCommand}
-use Rattle.sci_commands.specs.Answer.{Answer, undefined_line}
+use Rattle.sci_commands.specs.Answer.{Answer}
+use Rattle.sci_commands.specs.RunC.{undefined_line}
 use Rattle.sci_commands.specs.Judge.{judged}
 use Rattle.sci_commands.specs.Due.{Due}
 

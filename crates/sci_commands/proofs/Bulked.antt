@@ -35,7 +35,8 @@ use Rattle.sci_verdict.specs.Verdict.{plan_of, TreeAccepts, TreeBreaks, tree_not
 use Rattle.sci_verdict.specs.declared.checked.Checked.{Checked}
 use Rattle.sci_verdict.proofs.Verdicts.{tree_given_is_net}
 use Rattle.sci_commands.specs.Counts.{CountsRun, CountsBulk}
-use Rattle.sci_commands.specs.Bulk.{bulk_line, IsBulkLine, IsBulkAnswer, counted_line, IsCounted}
+use Rattle.sci_commands.specs.Bulk.{bulk_line, IsBulkLine, IsBulkAnswer}
+use Rattle.sci_commands.specs.BulkCounted.{counted_line, IsCounted}
 use Rattle.sci_commands.specs.Words.{bulk}
 use Rattle.sci_commands.specs.Prepare.{LooksAt}
 use Rattle.sci_commands.specs.declared.bulk.BulkCounts.{BulkCounts}

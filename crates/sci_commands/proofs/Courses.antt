@@ -8,7 +8,8 @@ use Rattle.sci_io.specs.Files.{Files, FolderState}
 use Rattle.sci_commands.specs.Answer.{Answer, no_memory}
 use Rattle.sci_commands.specs.Course.{Slot, Holds, Passes, Course, gives, makes, reads, TakesMemory, DueOn, AsksFront}
 use Rattle.sci_commands.specs.Look.{Asks, IsLooked}
-use Rattle.sci_commands.specs.Reached.{ComesBy, ComesTo, ReachesOf, ReachesTo}
+use Rattle.sci_commands.specs.Reached.{ReachesOf}
+use Rattle.sci_commands.specs.Coming.{ComesBy, ComesTo, ReachesTo}
 use Rattle.sci_commands.specs.Prepare.{stop_answer}
 use Rattle.sci_commands.specs.declared.look.LookStop.{LookStop}
 use Rattle.sci_commands.specs.declared.look.LookStop.TheVariants.{Refused, Fault, Memory}

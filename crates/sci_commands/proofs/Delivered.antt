@@ -4,7 +4,7 @@ use Rattle.sci_bank.specs.Bank.{Meaning}
 use Rattle.sci_io.specs.Files.{FolderState}
 use Rattle.sci_io.specs.Taken.{SinkState}
 use Rattle.sci_commands.specs.Answer.{Answer, IsDone, no_memory}
-use Rattle.sci_commands.specs.Reached.{Reaches, ReachesCounted}
+use Rattle.sci_commands.specs.Coming.{Reaches, ReachesCounted}
 use Rattle.sci_commands.specs.Prepare.{IsAnswerOf, MayLack, LeavesBanks}
 use Rattle.sci_commands.specs.Deliver.{Delivers}
 use Rattle.sci_commands.specs.Headline.{Meets}

@@ -25,10 +25,11 @@ use Rattle.sci_verdict.specs.Verdict.{Plan, Accepts}
 use Rattle.sci_verdict.proofs.Verdicts.{one_verdict, given_is_net}
 use Rattle.sci_commands.specs.Answer.{Answer, IsDone, prints}
 use Rattle.sci_commands.specs.Course.{Holds, DueOn}
-use Rattle.sci_commands.specs.Due.{behind_inputs, gives_dump, course_of, Due}
-use Rattle.sci_commands.specs.Dump.{IsDumpAnswer, AcceptsDump, BreaksDump, signal_text, texts_from, values_text}
+use Rattle.sci_commands.specs.Due.{course_of, Due}
+use Rattle.sci_commands.specs.Dump.{IsDumpAnswer, gives_dump}
+use Rattle.sci_commands.specs.DumpAt.{AcceptsDump, BreaksDump, signal_text, texts_from, values_text}
 use Rattle.sci_commands.specs.DumpRuns.{element_texts, block_texts, held_text, IsDumped, RunsThrough, held_at, TellsRun, DumpTellsRun}
-use Rattle.sci_commands.specs.Inputs.{AcceptsColumns}
+use Rattle.sci_commands.specs.Inputs.{AcceptsColumns, behind_inputs}
 use Rattle.sci_commands.specs.Words.{dump, dump_at, spelled}
 use Rattle.sci_commands.proofs.RunsAlike.{due_course, no_refusal}
 

@@ -6,7 +6,7 @@ use Rattle.sci_vcd.specs.declared.signal.Signal.{Signal}
 use Rattle.sci_vcd.specs.Waveforms.{Waveforms, no_signal, value_at}
 use Rattle.sci_text.specs.Lines.{with_lf, joined}
 use Rattle.sci_vcd.specs.Blame.{IsFirstWrong}
-use Rattle.sci_commands.specs.Dump.{signal_text, texts_from, values_text}
+use Rattle.sci_commands.specs.DumpAt.{signal_text, texts_from, values_text}
 
 pub next_text : (w : Waveforms) (tick at : ℕ) → at < length w.signals
     → texts_from w tick (at + 1) (drop at w.signals) ≡ signal_text (get_or w.signals at no_signal) (value_at w (at + 1) tick) ++ texts_from w tick (at + 1 + 1) (drop (at + 1) w.signals)

@@ -7,7 +7,9 @@ use Rattle.c_mean.specs.declared.start.CEnd.TheVariants.{End, Stop, Undefined}
 use Rattle.c_mean.specs.Meaning.{meaning}
 use Rattle.c_mean.specs.Answering.{end_of}
 use Rattle.sci_commands.specs.Words.{Request, report, simulate, judge, save, resume, code, run_c, host, bulk, dump, dump_at, files_of}
-use Rattle.sci_commands.specs.Answer.{Answer, IsDone, run_status, c_status}
+use Rattle.sci_commands.specs.Answer.{Answer, IsDone}
+use Rattle.sci_commands.specs.RunC.{c_status}
+use Rattle.sci_commands.specs.Simulate.{run_status}
 use Rattle.sci_net.specs.Parts.{Parts}
 use Rattle.sci_reaction.specs.Memory.{Columns}
 use Rattle.sci_agree.specs.declared.verdict.Verdict.{Verdict}

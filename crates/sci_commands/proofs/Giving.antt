@@ -16,7 +16,9 @@ use Rattle.c_mean.specs.declared.start.RunStop.{RunStop}
 use Rattle.c_mean.specs.declared.start.RunStop.TheVariants as causes
 use Rattle.c_mean.specs.Meaning.{Ran as Observed}
 use Rattle.c_mean.specs.Answering.{end_of}
-use Rattle.sci_commands.specs.Answer.{Answer, says, prints, ran, IsTraceOf, run_status, write_fault_line, no_memory_line, undefined_line, no_memory, c_status, c_err, c_ran}
+use Rattle.sci_commands.specs.Answer.{Answer, says, prints, write_fault_line, no_memory_line, no_memory}
+use Rattle.sci_commands.specs.RunC.{undefined_line, c_status, c_err, c_ran}
+use Rattle.sci_commands.specs.Simulate.{ran, IsTraceOf, run_status}
 use Rattle.sci_commands.specs.Written.{Took, Cut, Given, CutShort, Written}
 use Rattle.sci_commands.specs.declared.prepare.Simulation.{Simulation}
 use Rattle.sci_commands.proofs.Traced.{trace_some}

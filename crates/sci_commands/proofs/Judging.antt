@@ -14,11 +14,11 @@ use Rattle.sci_bank.specs.Bank.{Meaning}
 use Rattle.sci_commands.specs.Answer.{Answer, no_memory, write_fault_line}
 use Rattle.sci_commands.specs.Course.{third_slot, gives}
 use Rattle.sci_commands.specs.Deliver.{Said}
-use Rattle.sci_commands.specs.Due.{reads_trace}
-use Rattle.sci_commands.specs.Judge.{verdict_line, verdict_status, judged, IsJudgementOf, IsText, IsBytes, BreaksNothing}
+use Rattle.sci_commands.specs.Judge.{verdict_line, verdict_status, judged, IsJudgementOf, IsText, BreaksNothing, reads_trace}
+use Rattle.sci_commands.specs.Judged.{IsBytes}
 use Rattle.sci_commands.specs.Look.{IsLooked}
 use Rattle.sci_commands.specs.Prepare.{stop_answer, LooksAt}
-use Rattle.sci_commands.specs.Reached.{ComesTo, ReachesTo}
+use Rattle.sci_commands.specs.Coming.{ComesTo, ReachesTo}
 use Rattle.sci_commands.specs.RunFiles.{PassRun}
 use Rattle.sci_commands.specs.Due.{course_of}
 use Rattle.sci_commands.specs.Words.{judge}

@@ -6,6 +6,7 @@ mod Ends
 mod Causes
 mod ShortColumns
 mod OneAnswer
+mod Defined
 mod Delivered
 mod Silent
 mod Judging

@@ -12,7 +12,7 @@ use Rattle.sci_commands.specs.Due.{course_of}
 use Rattle.sci_commands.specs.Host.{host_text}
 use Rattle.sci_commands.specs.Look.{IsLooked}
 use Rattle.sci_commands.specs.Counts.{CountsRunOf}
-use Rattle.sci_commands.specs.Reached.{ComesTo, ReachesTo, Reaches, ReachesCounting, ReachesCounted}
+use Rattle.sci_commands.specs.Coming.{ComesTo, ReachesTo, Reaches, ReachesCounting, ReachesCounted}
 use Rattle.sci_commands.specs.Prepare.{IsAnswerOf, IsPrepared, MayLack, LooksLeave, stop_answer, LooksAt}
 use Rattle.sci_commands.specs.declared.look.LookStop.{LookStop}
 use Rattle.sci_commands.specs.declared.look.LookStop.TheVariants.{Refused, Fault, Memory}

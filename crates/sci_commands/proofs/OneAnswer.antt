@@ -12,16 +12,15 @@ use Rattle.sci_run.proofs.Unique.{one_trace, one_rest}
 use Rattle.sci_trace.specs.Columns.{Needed}
 use Rattle.sci_needs.specs.Needs.{needs_of}
 use Rattle.sci_commands.specs.Inputs.{AcceptsColumns, BreaksColumns}
-use Rattle.sci_commands.specs.Program.{AcceptsC, BreaksC, not_c}
+use Rattle.sci_commands.specs.RunC.{AcceptsC, BreaksC, not_c}
 use Rattle.c_read.proofs.Uniqueness.{one_spelled, one_blamed, not_both}
 use Rattle.sci_commands.specs.declared.command.Report.{Report}
 use Rattle.sci_commands.specs.declared.command.Report.TheVariants.{Check, Map, Schedule}
-use Rattle.c_ast.specs.Syntax.{Whole}
-use Rattle.c_ast.specs.Spelling.{spelling}
 use Rattle.sci_bulk.specs.Bulk.{bulk as bulk_tree}
 use Rattle.sci_commands.specs.Bulk.{run_line, IsBulkLine, IsBulkAnswer}
 use Rattle.sci_commands.specs.Code.{IsCodeOf}
-use Rattle.sci_commands.specs.Dump.{dumped, IsDumpAnswer, AcceptsDump, BreaksDump, not_vcd}
+use Rattle.sci_commands.specs.Dump.{dumped, IsDumpAnswer}
+use Rattle.sci_commands.specs.DumpAt.{AcceptsDump, BreaksDump, not_vcd}
 use Rattle.sci_vcd.specs.Waveforms.{Waveforms}
 use Rattle.sci_wave.proofs.OneDump.{one_run_dump}
 use Rattle.sci_vcd.proofs.Blaming as dumps
@@ -37,12 +36,14 @@ use Rattle.sci_save.specs.Resumed.{state_of}
 use Rattle.sci_save.proofs.Blaming.{one_spelled as one_saved_of_text, one_blamed as one_blamed_line}
 use Rattle.sci_resume.proofs.Behind.{one_saved, one_end, not_both as saved_or_ended}
 use Rattle.sci_commands.specs.Judge.{IsText, BreaksNothing, judged, IsJudgementOf}
-use Rattle.sci_commands.specs.Save.{IsSaveOf, saves, ended, run_ended, not_save, AcceptsSaved, BreaksSaved, IsRestOf}
+use Rattle.sci_commands.specs.Save.{IsSaveOf, saves, ended, run_ended}
+use Rattle.sci_commands.specs.Resume.{not_save, AcceptsSaved, BreaksSaved, IsRestOf}
 use Rattle.sci_commands.proofs.ShortColumns.{columns_short}
-use Rattle.sci_commands.specs.Answer.{Answer, prints, refused, ran, IsTraceOf}
+use Rattle.sci_commands.specs.Answer.{Answer, prints, refused}
+use Rattle.sci_commands.specs.Simulate.{ran, IsTraceOf}
 use Rattle.sci_commands.specs.Course.{Holds, Slot, Passes, Fails, Course, gives, makes, reads, DueOn}
 use Rattle.sci_commands.specs.Due.{Due, course_of}
-use Rattle.sci_commands.specs.Laws.{AreOneAnswer, OneAnswer, OneAnswerOfBytes}
+use Rattle.sci_commands.specs.Laws.{TellLoops, AreOneAnswer, OneAnswer, OneAnswerOfBytes}
 
 same_report : (r q : Report) → report_word r ≡ report_word q → r ≡ q
 same_report Check Check h = refl
@@ -152,13 +153,27 @@ pub no_both : {A : Type 0} (breaks : List ℕ → Violation → Type 0) (accepts
 no_both breaks accepts slot one x y m v e (inl h) short k = omega (arith, ap length e, h.0, short)
 no_both breaks accepts slot one x y m v e (inr h) short k = one.not_both y m v k (subst (λ (l : List ℕ). breaks l v) e h.1)
 
--- one answer with one list of names
-abbrev pub Same : Answer → Answer → List (List ℕ) → List (List ℕ) → Type 0
-Same a b names others = AreOneAnswer a b × (names ≡ others)
+-- what two answers are that are due of a command behind its files: one; of `ccode` both are the text of such a program for one plan
+abbrev AreSame : Request → Answer → Answer → Type 0
+AreSame (code d) a b = (p : Plan) × IsCodeOf p a × IsCodeOf p b
+AreSame _ a b = a ≡ b
 
-refused_alike : (a b : Answer) (v w : Violation) → a ≡ refused v → b ≡ refused w → AreAlike v w → AreOneAnswer a b
-refused_alike a b v w h k (inl e) = inl (h ∙ (ap refused e ∙ sym k))
-refused_alike a b v w h k (inr loops) = inr (record { one = v; other = w; loops = loops; tells_one = h; tells_other = k })
+-- one answer, or two refusals that tell a loop of one source, or two answers behind the files
+abbrev AreAlikeBut : (Answer → Answer → Type 0) → Answer → Answer → Type 0
+AreAlikeBut same a b = (a ≡ b) ⊎ (TellLoops a b ⊎ same a b)
+
+refused_alike : (same : Answer → Answer → Type 0) (a b : Answer) (v w : Violation) → a ≡ refused v → b ≡ refused w → AreAlike v w → AreAlikeBut same a b
+refused_alike same a b v w h k (inl e) = inl (h ∙ (ap refused e ∙ sym k))
+refused_alike same a b v w h k (inr loops) = inr (inl (record { one = v; other = w; loops = loops; tells_one = h; tells_other = k }))
+
+same_of : (words : List (List ℕ)) (c : Request) (a b : Answer) → words ≡ spelled c → AreSame c a b → AreOneAnswer words a b
+same_of words (code d) a b is h = inr (inr (record { diagram = d; asked = is; plan = h.0; tells_one = h.1; tells_other = h.2 }))
+same_of words _ a b is h = inl h
+
+alike_of : (words : List (List ℕ)) (c : Request) (a b : Answer) → words ≡ spelled c → AreAlikeBut (AreSame c) a b → AreOneAnswer words a b
+alike_of words c a b is (inl h) = inl h
+alike_of words c a b is (inr (inl h)) = inr (inl h)
+alike_of words c a b is (inr (inr h)) = same_of words c a b is h
 
 -- a net of an accepted diagram has one trace
 one_trace_answer : (bytes : List ℕ) (p : Plan) (i : Columns) (until limit : ℕ) (a b : Answer) → Accepts bytes p → IsTraceOf p.net i until limit a → IsTraceOf p.net i until limit b → a ≡ b
@@ -198,12 +213,6 @@ one_dump_answer bytes p i until limit a b accepted h k =
     let trace : h.2 ≡ k.2 = one_trace p.net i net accepted.planned.free until limit h.2 k.2 h.3 k.3 in
     h.4 ∙ (ap (λ (w : Waveforms). dumped w h.2) dump ∙ (ap (dumped k.0) trace ∙ sym k.4))
 
--- a plan has one program, whose text is due
-one_code : (p : Plan) (a b : Answer) → IsCodeOf p a → IsCodeOf p b → a ≡ b
-one_code p a b h k =
-    let same : h.code ≡ k.code = h.is_code.defined ∙ sym k.is_code.defined in
-    h.told ∙ (ap (λ (w : Whole). prints (spelling w)) same ∙ sym k.told)
-
 -- a bulk diagram has one line
 one_line : (seed size : ℕ) (s t : List ℕ) → IsBulkLine seed size s → IsBulkLine seed size t → s ≡ t
 one_line seed size s t h k =
@@ -233,13 +242,14 @@ same_are_one : (files : Files) (xs : List (List ℕ)) → AreOne files xs xs
 same_are_one files [] = tt
 same_are_one files (x ∷ xs) = ((λ d h k. refl), same_are_one files xs)
 
--- one answer is due of it, whatever passes
-abbrev IsOneCourse : Course → Type 0
-IsOneCourse (gives due) = (a b : Answer) → due a → due b → a ≡ b
-IsOneCourse (makes due) = (a b : Answer) → due a → due b → a ≡ b
-IsOneCourse (reads A slot d accepts breaks next) = IsOneVerdict accepts breaks × ((bytes : List ℕ) (made : A) → Passes accepts slot bytes made → IsOneCourse (next made))
+-- two answers that are due of it are so, whatever passes
+abbrev IsOneCourse : (Answer → Answer → Type 0) → Course → Type 0
+IsOneCourse same (gives due) = (a b : Answer) → due a → due b → same a b
+IsOneCourse same (makes due) = (a b : Answer) → due a → due b → same a b
+IsOneCourse same (reads A slot d accepts breaks next) =
+    IsOneVerdict accepts breaks × ((bytes : List ℕ) (made : A) → Passes accepts slot bytes made → IsOneCourse same (next made))
 
-one_course_of : (c : Request) → IsOneCourse (course_of c)
+one_course_of : (c : Request) → IsOneCourse (AreSame c) (course_of c)
 one_course_of (report r d) = (one_verdict, λ bytes p accepted a b h k. h ∙ sym k)
 one_course_of (simulate d i t n) =
     (one_verdict, λ bytes p accepted. (one_columns (needs_of p.net), λ file columns read a b h k. one_trace_answer bytes p columns t n a b accepted.1 h k))
@@ -255,7 +265,7 @@ one_course_of (resume d i s t n) = (
         (one_saved_file bytes p columns accepted.1 (columns_short (needs_of p.net) file columns read.0 read.1), λ saved_file m is a b h k. one_rest_answer bytes p columns t n m a b accepted.1 h k),
   ),
 )
-one_course_of (code d) = (one_verdict, λ bytes p accepted a b h k. one_code p a b h k)
+one_course_of (code d) = (one_verdict, λ bytes p accepted a b h k. (p, h, k))
 one_course_of (run_c c i t n) = (one_program, λ bytes program accepted. (one_columns [], λ file columns read a b h k. h ∙ sym k))
 one_course_of host = λ a b h k. h ∙ sym k
 one_course_of (bulk seed size) = one_bulk seed size
@@ -263,31 +273,39 @@ one_course_of (dump d i t n) =
     (one_verdict, λ bytes p accepted. (one_columns (needs_of p.net), λ file columns read a b h k. one_dump_answer bytes p columns t n a b accepted.1 h k))
 one_course_of (dump_at v tick) = (one_dump, λ bytes w accepted a b h k. h ∙ sym k)
 
-one_due_on : (files : Files) (course : Course) (xs ys names others : List (List ℕ)) (a b : Answer) → IsOneCourse course → AreOne files xs ys → DueOn files course xs names a → DueOn files course ys others b → Same a b names others
-one_due_on files (gives due) xs ys names others a b one same h k = (inl (one a b h.0 k.0), h.1 ∙ sym k.1)
-one_due_on files (makes due) xs ys names others a b one same h k = (inl (one a b h.0 k.0), h.1 ∙ sym k.1)
-one_due_on files (reads A slot d accepts breaks next) [] ys names others a b one same h k = absurd h
-one_due_on files (reads A slot d accepts breaks next) (x ∷ xs) [] names others a b one same h k = absurd k
-one_due_on files (reads A slot d accepts breaks next) (x ∷ xs) (y ∷ ys) names others a b one same (p, inl h) (q, inl k) =
-    (refused_alike a b h.0 k.0 h.2 k.2 (one_fail breaks accepts slot one.0 x y h.0 k.0 (same.0 d p q) h.1 k.1), h.3 ∙ sym k.3)
-one_due_on files (reads A slot d accepts breaks next) (x ∷ xs) (y ∷ ys) names others a b one same (p, inl h) (q, inr k) =
-    absurd (no_both breaks accepts slot one.0 x y k.0 h.0 (same.0 d p q) h.1 k.1.0 k.1.1)
-one_due_on files (reads A slot d accepts breaks next) (x ∷ xs) (y ∷ ys) names others a b one same (p, inr h) (q, inl k) =
-    absurd (no_both breaks accepts slot one.0 y x h.0 k.0 (sym (same.0 d p q)) k.1 h.1.0 h.1.1)
-one_due_on files (reads A slot d accepts breaks next) (x ∷ xs) (y ∷ ys) names others a b one same (p, inr h) (q, inr k) =
-    let bytes : x ≡ y = same.0 d p q in
+-- and their names are one list
+abbrev Same : (Answer → Answer → Type 0) → Answer → Answer → List (List ℕ) → List (List ℕ) → Type 0
+Same same a b names others = AreAlikeBut same a b × (names ≡ others)
+
+one_due_on : (same : Answer → Answer → Type 0) (files : Files) (course : Course) (xs ys names others : List (List ℕ)) (a b : Answer) → IsOneCourse same course → AreOne files xs ys
+    → DueOn files course xs names a → DueOn files course ys others b → Same same a b names others
+one_due_on same files (gives due) xs ys names others a b one alike h k = (inr (inr (one a b h.0 k.0)), h.1 ∙ sym k.1)
+one_due_on same files (makes due) xs ys names others a b one alike h k = (inr (inr (one a b h.0 k.0)), h.1 ∙ sym k.1)
+one_due_on same files (reads A slot d accepts breaks next) [] ys names others a b one alike h k = absurd h
+one_due_on same files (reads A slot d accepts breaks next) (x ∷ xs) [] names others a b one alike h k = absurd k
+one_due_on same files (reads A slot d accepts breaks next) (x ∷ xs) (y ∷ ys) names others a b one alike (p, inl h) (q, inl k) =
+    (refused_alike same a b h.0 k.0 h.2 k.2 (one_fail breaks accepts slot one.0 x y h.0 k.0 (alike.0 d p q) h.1 k.1), h.3 ∙ sym k.3)
+one_due_on same files (reads A slot d accepts breaks next) (x ∷ xs) (y ∷ ys) names others a b one alike (p, inl h) (q, inr k) =
+    absurd (no_both breaks accepts slot one.0 x y k.0 h.0 (alike.0 d p q) h.1 k.1.0 k.1.1)
+one_due_on same files (reads A slot d accepts breaks next) (x ∷ xs) (y ∷ ys) names others a b one alike (p, inr h) (q, inl k) =
+    absurd (no_both breaks accepts slot one.0 y x h.0 k.0 (sym (alike.0 d p q)) k.1 h.1.0 h.1.1)
+one_due_on same files (reads A slot d accepts breaks next) (x ∷ xs) (y ∷ ys) names others a b one alike (p, inr h) (q, inr k) =
+    let bytes : x ≡ y = alike.0 d p q in
     let made : h.0 ≡ k.0 = one.0.one_made y h.0 k.0 (subst (λ (l : List ℕ). accepts l h.0) bytes h.1.1) k.1.1 in
     let due = subst (λ (m : A). DueOn files (next m) xs h.2 a) made h.4 in
-    let rest = one_due_on files (next k.0) xs ys h.2 k.2 a b (one.1 y k.0 k.1) same.1 due k.4 in
+    let rest = one_due_on same files (next k.0) xs ys h.2 k.2 a b (one.1 y k.0 k.1) alike.1 due k.4 in
     (rest.0, h.3 ∙ (ap (λ (l : List (List ℕ)). d ∷ l) rest.1 ∙ sym k.3))
 
-one_due : (files : Files) (words xs ys names others : List (List ℕ)) (a b : Answer) → AreOne files xs ys → Due files words xs names a → Due files words ys others b → Same a b names others
-one_due files words xs ys names others a b same (inl h) (inl k) = (inl (h.1 ∙ sym k.1), h.2 ∙ sym k.2)
-one_due files words xs ys names others a b same (inl h) (inr k) = absurd (h.0 k.0 k.1)
-one_due files words xs ys names others a b same (inr h) (inl k) = absurd (k.0 h.0 h.1)
-one_due files words xs ys names others a b same (inr h) (inr k) =
+one_due : (files : Files) (words xs ys names others : List (List ℕ)) (a b : Answer) → AreOne files xs ys → Due files words xs names a → Due files words ys others b
+    → AreOneAnswer words a b × (names ≡ others)
+one_due files words xs ys names others a b alike (inl h) (inl k) = (inl (h.1 ∙ sym k.1), h.2 ∙ sym k.2)
+one_due files words xs ys names others a b alike (inl h) (inr k) = absurd (h.0 k.0 k.1)
+one_due files words xs ys names others a b alike (inr h) (inl k) = absurd (k.0 h.0 h.1)
+one_due files words xs ys names others a b alike (inr h) (inr k) =
     let command : h.0 ≡ k.0 = same_command h.0 k.0 h.1.1 k.1.1 (sym h.1.0 ∙ k.1.0) in
-    one_due_on files (course_of k.0) xs ys names others a b (one_course_of k.0) same (subst (λ (c : Request). DueOn files (course_of c) xs names a) command h.2) k.2
+    let due = subst (λ (c : Request). DueOn files (course_of c) xs names a) command h.2 in
+    let one = one_due_on (AreSame k.0) files (course_of k.0) xs ys names others a b (one_course_of k.0) alike due k.2 in
+    (alike_of words k.0 a b k.1.0 one.0, one.1)
 
 pub one_answer : OneAnswer
 one_answer all words xs ys names others a b h k = one_due (Some all) words xs ys names others a b (told_are_one all xs ys) h k

@@ -27,12 +27,14 @@ use Rattle.sci_resume.proofs.Behind.{saved_is_valid, run_goes_on}
 use Rattle.sci_store.proofs.Writing.{text-append}
 use Rattle.sci_verdict.specs.Verdict.{Plan, Accepts, Breaks}
 use Rattle.sci_verdict.proofs.Verdicts.{one_verdict, given_is_net}
-use Rattle.sci_commands.specs.Inputs.{AcceptsColumns, BreaksColumns}
-use Rattle.sci_commands.specs.Answer.{Answer, IsDone, ran, run_status, IsTraceOf}
+use Rattle.sci_commands.specs.Inputs.{AcceptsColumns, BreaksColumns, behind_inputs}
+use Rattle.sci_commands.specs.Answer.{Answer, IsDone}
+use Rattle.sci_commands.specs.Simulate.{ran, run_status, IsTraceOf}
 use Rattle.sci_commands.specs.Course.{Holds, diagram_slot, inputs_slot, Fails, DueOn}
 use Rattle.sci_commands.specs.Words.{simulate, save, resume, spelled}
-use Rattle.sci_commands.specs.Due.{behind_inputs, gives_save, reads_saved, course_of, Due}
-use Rattle.sci_commands.specs.Save.{IsSaveOf, saves, ended, BreaksSaved, IsRestOf}
+use Rattle.sci_commands.specs.Due.{course_of, Due}
+use Rattle.sci_commands.specs.Save.{IsSaveOf, saves, ended, gives_save}
+use Rattle.sci_commands.specs.Resume.{BreaksSaved, IsRestOf, reads_saved}
 use Rattle.sci_commands.specs.Resumed.{IsSavedRun, IsRestBehind, ResumesAlike, ResumeIsDue}
 use Rattle.sci_commands.proofs.Ends.{status-is, out-is}
 use Rattle.sci_commands.proofs.OneAnswer.{no_both, one_columns}

@@ -15,11 +15,11 @@ use Rattle.sci_verdict.specs.declared.checked.Checked.{Checked}
 use Rattle.sci_verdict.proofs.Verdicts.{given_is_net}
 use Rattle.sci_commands.specs.Answer.{Answer, no_memory}
 use Rattle.sci_commands.specs.Course.{diagram_slot, inputs_slot, Course}
-use Rattle.sci_commands.specs.Due.{behind_inputs, reads_run}
-use Rattle.sci_commands.specs.Inputs.{AcceptsColumns, BreaksColumns}
+use Rattle.sci_commands.specs.Inputs.{AcceptsColumns, BreaksColumns, behind_inputs, reads_run}
 use Rattle.sci_commands.specs.Judged.{AcceptsChecked}
 use Rattle.sci_commands.specs.Look.{IsLooked}
-use Rattle.sci_commands.specs.Reached.{ComesBy, ComesTo, ReachesOf, ReachesTo}
+use Rattle.sci_commands.specs.Reached.{ReachesOf}
+use Rattle.sci_commands.specs.Coming.{ComesBy, ComesTo, ReachesTo}
 use Rattle.sci_commands.specs.RunFiles.{LooksAtDiagram, LooksAtInputs, PassesDiagram, PassRun, StopsAtInputs, LooksAtRun}
 use Rattle.sci_commands.specs.Prepare.{stop_answer}
 use Rattle.sci_commands.specs.declared.look.LookStop.{LookStop}

@@ -17,13 +17,14 @@ use Rattle.c_mean.specs.Meaning.{meaning}
 use Rattle.c_read.proofs.Uniqueness.{one_spelled, not_both}
 use Rattle.sci_verdict.specs.Verdict.{Plan, Accepts}
 use Rattle.sci_verdict.proofs.Verdicts.{one_verdict, given_is_net}
-use Rattle.sci_commands.specs.Inputs.{AcceptsColumns, BreaksColumns}
-use Rattle.sci_commands.specs.Program.{AcceptsC, BreaksC}
-use Rattle.sci_commands.specs.Answer.{Answer, IsDone, refused, ran, run_status, c_ran, IsTraceOf}
+use Rattle.sci_commands.specs.Inputs.{AcceptsColumns, BreaksColumns, behind_inputs}
+use Rattle.sci_commands.specs.Answer.{Answer, IsDone, refused}
+use Rattle.sci_commands.specs.RunC.{c_ran, AcceptsC, BreaksC, behind_program}
+use Rattle.sci_commands.specs.Simulate.{ran, run_status, IsTraceOf, gives_trace}
 use Rattle.sci_commands.specs.Code.{IsCodeOf}
 use Rattle.sci_commands.specs.Course.{Holds, c_slot, inputs_slot, Fails, DueOn}
 use Rattle.sci_commands.specs.Words.{Request, simulate, code, run_c, spelled, InBounds}
-use Rattle.sci_commands.specs.Due.{behind_inputs, gives_trace, behind_program, course_of, Due}
+use Rattle.sci_commands.specs.Due.{course_of, Due}
 use Rattle.sci_commands.specs.Ran.{AreAnswers, CodeRunsAlike, CodeRunsOnlySo, IsGenerated, CodeIsDefined}
 use Rattle.sci_commands.proofs.Ends.{status-is}
 use Rattle.sci_commands.proofs.OneAnswer.{same_command}

@@ -17,11 +17,12 @@ use Rattle.sci_resume.proofs.SomeReached.{some_reached}
 use Rattle.sci_wave.proofs.SomeDump.{some_run_dump}
 use Rattle.sci_verdict.specs.Verdict.{Plan, Accepts}
 use Rattle.sci_verdict.proofs.Verdicts.{given_is_net}
-use Rattle.sci_commands.specs.Inputs.{AcceptsColumns}
-use Rattle.sci_commands.specs.Answer.{Answer, IsDone, prints, refused, IsTraceOf}
+use Rattle.sci_commands.specs.Inputs.{AcceptsColumns, behind_inputs}
+use Rattle.sci_commands.specs.Answer.{Answer, IsDone, prints, refused}
+use Rattle.sci_commands.specs.Simulate.{IsTraceOf, gives_trace}
 use Rattle.sci_commands.specs.Course.{Holds, DueOn}
 use Rattle.sci_commands.specs.Words.{simulate, save, dump, spelled}
-use Rattle.sci_commands.specs.Due.{behind_inputs, gives_trace, course_of, Due}
+use Rattle.sci_commands.specs.Due.{course_of, Due}
 use Rattle.sci_commands.specs.Save.{IsSaveOf, saves, ended, run_ended}
 use Rattle.sci_commands.specs.Dump.{dumped}
 use Rattle.sci_commands.specs.RunsDue.{IsSimulatedRun, IsDueBehind, SaveIsDue, DumpIsDue}

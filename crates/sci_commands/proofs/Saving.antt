@@ -26,15 +26,18 @@ use Rattle.sci_sim.specs.Rest.{IsRestFinished}
 use Rattle.sci_sim.specs.Restored.{IsRestored}
 use Rattle.sci_sim.specs.declared.end.RunEnd.{RunEnd}
 use Rattle.sci_sim.specs.declared.end.RunEnd.TheVariants.{End as Ended, Stop as Stopped}
-use Rattle.sci_commands.specs.Answer.{Answer, no_memory, prints, ran, refused, write_fault_line}
+use Rattle.sci_commands.specs.Answer.{Answer, no_memory, prints, refused, write_fault_line}
+use Rattle.sci_commands.specs.Simulate.{ran}
 use Rattle.sci_commands.specs.Course.{third_slot, gives}
 use Rattle.sci_commands.specs.Deliver.{is_stopped, PrintsRest, Finished}
-use Rattle.sci_commands.specs.Due.{gives_save, reads_saved, course_of}
+use Rattle.sci_commands.specs.Due.{course_of}
 use Rattle.sci_commands.specs.Look.{IsLooked, IsRefusal}
 use Rattle.sci_commands.specs.Prepare.{stop_answer, IsReadyToGoOn, LooksAt}
-use Rattle.sci_commands.specs.Reached.{ComesTo, ReachesTo}
+use Rattle.sci_commands.specs.Coming.{ComesTo, ReachesTo}
 use Rattle.sci_commands.specs.RunFiles.{PassRun}
-use Rattle.sci_commands.specs.Save.{run_ended, IsSaveOf, saves, ended, AcceptsSaved, BreaksSaved, AcceptsImage, IsRestOf}
+use Rattle.sci_commands.specs.Save.{run_ended, IsSaveOf, saves, ended, gives_save}
+use Rattle.sci_commands.specs.Judged.{AcceptsImage}
+use Rattle.sci_commands.specs.Resume.{AcceptsSaved, BreaksSaved, IsRestOf, reads_saved}
 use Rattle.sci_commands.specs.Words.{save, resume}
 use Rattle.sci_commands.specs.Written.{Written}
 use Rattle.sci_commands.specs.declared.look.LookStop.{LookStop}

@@ -1,5 +1,5 @@
 -- What is told is some text, but for the map of a diagram without blocks.
-use Rattle.std.proofs.Common.{◌≡◌, ◌≢◌, ℕ, zero, suc, List, [], ◌∷◌, ◌++◌, length, codes, decimal, refl, sym, ap, subst, arith}
+use Rattle.std.proofs.Common.{◌≡◌, ◌≢◌, ◌<◌, ℕ, zero, suc, List, [], ◌∷◌, ◌++◌, length, codes, decimal, refl, sym, ap, subst, arith}
 use Rattle.sci_net.specs.declared.Source.{Source}
 use Rattle.sci_net.specs.declared.Source.TheVariants.{Start}
 use Rattle.sci_net.specs.Parts.{Parts, spec_of, path_of}
@@ -9,16 +9,17 @@ use Rattle.sci_sched.specs.Text.{source_text, row_text, plan_text}
 use Rattle.sci_commands.specs.Map.{number_text, block_line, lines_from, map_text}
 use Rattle.c_ast.specs.Syntax.{Whole}
 use Rattle.c_ast.specs.Spelling.{spelling}
-use Rattle.sci_commands.specs.Bulk.{bulk_line}
-use Rattle.sci_commands.specs.Answer.{counts_line}
+use Rattle.sci_commands.specs.Numbers.{numbers_line}
+use Rattle.sci_commands.specs.Report.{counts_line}
 
 pub counts_some : (blocks sources entries guards : ℕ) → counts_line blocks sources entries guards ≢ []
-unfolding counts_line
+unfolding counts_line numbers_line
 counts_some blocks sources entries guards = λ e. absurd (cc e)
 
-pub bulk_some : (blocks sources entries guards lines sum : ℕ) → bulk_line blocks sources entries guards lines sum ≢ []
-unfolding bulk_line
-bulk_some blocks sources entries guards lines sum = λ e. absurd (cc e)
+pub numbers_some : (word ns : List ℕ) → 0 < length word → numbers_line word ns ≢ []
+unfolding numbers_line
+numbers_some [] ns h = λ e. absurd (omega (arith, h))
+numbers_some (c ∷ word) ns h = λ e. absurd (cc e)
 
 -- each program has the header
 pub code_some : (p : Whole) → spelling p ≢ []

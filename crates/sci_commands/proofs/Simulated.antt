@@ -10,12 +10,12 @@ use Rattle.sci_run.proofs.Traces.{some_trace}
 use Rattle.sci_bank.specs.Bank.{Meaning}
 use Rattle.sci_sim.specs.At.{Running, IsAtStart}
 use Rattle.sci_verdict.specs.Verdict.{plan_of}
-use Rattle.sci_commands.specs.Answer.{Answer, IsTraceOf}
+use Rattle.sci_commands.specs.Answer.{Answer}
+use Rattle.sci_commands.specs.Simulate.{IsTraceOf, gives_trace}
 use Rattle.sci_commands.specs.Words.{simulate, dump}
-use Rattle.sci_commands.specs.Due.{gives_trace, gives_dump}
 use Rattle.sci_commands.specs.Counts.{CountsRun}
-use Rattle.sci_commands.specs.Dump.{IsDumpAnswer}
-use Rattle.sci_commands.specs.Reached.{ReachesCounting}
+use Rattle.sci_commands.specs.Dump.{IsDumpAnswer, gives_dump}
+use Rattle.sci_commands.specs.Coming.{ReachesCounting}
 use Rattle.sci_commands.specs.RunFiles.{PassRun}
 use Rattle.sci_commands.specs.Prepare.{IsReadyToRun}
 use Rattle.sci_commands.specs.declared.run_files.RunFiles.{RunFiles}

@@ -6,7 +6,8 @@ use Rattle.std.specs.declared.alloc.Global.{Global}
 use Rattle.sci_commands.specs.declared.command.Report.{Report}
 use Rattle.sci_commands.specs.declared.words.Runs.{Runs}
 use Rattle.sci_commands.specs.declared.words.Runs.TheVariants.{Simulate, RunC, Dump}
-use Rattle.sci_commands.specs.Words.{report, simulate, judge, save, resume, code, run_c, host, bulk, dump, dump_at, report_word, run_word, NoCommand}
+use Rattle.sci_commands.specs.Words.{report, simulate, judge, save, resume, code, run_c, host, bulk, dump, dump_at, report_word, NoCommand}
+use Rattle.sci_commands.specs.Parsed.{run_word}
 
 pub five_words : (ws : List (String Global)) (a b c d e : String Global) → a ≡ get_or ws 0 a → b ≡ get_or ws 1 b → c ≡ get_or ws 2 c → d ≡ get_or ws 3 d → e ≡ get_or ws 4 e
     → 5 ≤ length ws → length ws < 6 → map string_bytes ws ≡ string_bytes a ∷ string_bytes b ∷ string_bytes c ∷ string_bytes d ∷ string_bytes e ∷ []

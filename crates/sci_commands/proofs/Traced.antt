@@ -18,7 +18,9 @@ use Rattle.sci_sim.specs.Steps.{IsFinished}
 use Rattle.sci_sim.specs.declared.end.RunEnd.{RunEnd}
 use Rattle.sci_sim.specs.declared.end.RunEnd.TheVariants.{End as Ended, Stop as Stopped}
 use Rattle.sci_cgen.specs.Laws.{answer_by}
-use Rattle.sci_commands.specs.Answer.{Answer, ran, c_ran, run_status}
+use Rattle.sci_commands.specs.Answer.{Answer}
+use Rattle.sci_commands.specs.RunC.{c_ran}
+use Rattle.sci_commands.specs.Simulate.{ran, run_status}
 use Rattle.sci_commands.specs.Deliver.{is_stopped}
 
 -- ---- what is observed first

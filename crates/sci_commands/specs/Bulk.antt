@@ -1,8 +1,6 @@
--- What is due of a bulk diagram: its counts and those of its run.
-use Rattle.std.specs.Prelude.{ℕ, ◌≡◌, List, [], ◌++◌, length, codes, decimal, Result, Ok, Err}
+-- `bulk`: the counts of a bulk diagram and those of its run.
+use Rattle.std.specs.Prelude.{ℕ, ◌≡◌, List, [], ◌∷◌, length, codes}
 use Rattle.sci_base.specs.declared.limits.TheConstants.{TICKS}
-use Rattle.sci_base.specs.Stops.{StopsBy}
-use Rattle.sci_base.specs.declared.stop.Stop.{Stop}
 use Rattle.sci_base.specs.declared.observation.Obs.{Obs}
 use Rattle.sci_net.specs.Sources.{sources_of}
 use Rattle.sci_sched.specs.Size.{entry_count, guard_count}
@@ -11,13 +9,12 @@ use Rattle.sci_store.specs.Written.{sum_of}
 use Rattle.sci_verdict.specs.Verdict.{Plan, TreeAccepts}
 use Rattle.sci_bulk.specs.Bulk.{bulk}
 use Rattle.sci_commands.specs.Answer.{Answer, prints}
-use Rattle.sci_commands.specs.declared.bulk.BulkCounts.{BulkCounts}
+use Rattle.sci_commands.specs.Numbers.{numbers_line}
+use Rattle.sci_commands.specs.Course.{Course, makes}
 
 -- how many blocks, sources, schedule entries, guards and observations there are, and the sum of the values observed
 unfoldable pub bulk_line : (blocks sources entries guards lines sum : ℕ) → List ℕ
-bulk_line blocks sources entries guards lines sum =
-    codes "bulk " ++ (decimal blocks ++ (codes " " ++ (decimal sources ++ (codes " " ++ (decimal entries ++ (codes " "
-    ++ (decimal guards ++ (codes " " ++ (decimal lines ++ (codes " " ++ (decimal sum ++ codes "\n")))))))))))
+bulk_line blocks sources entries guards lines sum = numbers_line (codes "bulk") (blocks ∷ sources ∷ entries ∷ guards ∷ lines ∷ sum ∷ [])
 
 -- the line of a plan and of its run; the sum is one modulo 2^32
 abbrev pub run_line : Plan → List Obs → List ℕ
@@ -36,11 +33,6 @@ pub record IsBulkLine (seed size : ℕ) (line : List ℕ) : Type 0 where
 abbrev pub IsBulkAnswer : ℕ → ℕ → Answer → Type 0
 IsBulkAnswer seed size a = (line : List ℕ) × IsBulkLine seed size line × (a ≡ prints line)
 
--- the line of what was counted
-abbrev pub counted_line : BulkCounts → List ℕ
-counted_line c = bulk_line c.blocks c.sources c.entries c.guards c.lines c.sum
-
--- what is counted, since no rule is broken; want of memory may come at any time
-abbrev pub IsCounted : ℕ → ℕ → Result BulkCounts Stop → Type 0
-IsCounted seed size (Ok c) = IsBulkLine seed size (counted_line c)
-IsCounted seed size (Err e) = StopsBy (λ v. ⊥) e
+-- no file is read
+abbrev pub bulk_course : (seed size : ℕ) → Course
+bulk_course seed size = makes (IsBulkAnswer seed size)

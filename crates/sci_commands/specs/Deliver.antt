@@ -12,7 +12,9 @@ use Rattle.sci_trace.specs.Lines.{text, stops}
 use Rattle.sci_vcd.specs.Waveforms.{Waveforms}
 use Rattle.sci_vcd.specs.Spelling.{spelling}
 use Rattle.sci_wave.specs.RunDump.{IsRunDump}
-use Rattle.sci_commands.specs.Answer.{Answer, write_fault_line, no_memory_line, undefined_line, no_memory, run_status}
+use Rattle.sci_commands.specs.Answer.{Answer, write_fault_line, no_memory_line, no_memory}
+use Rattle.sci_commands.specs.RunC.{undefined_line}
+use Rattle.sci_commands.specs.Simulate.{run_status}
 use Rattle.sci_commands.specs.Written.{Took, Cut, Given, CutShort, Written}
 use Rattle.sci_commands.specs.Prepare.{IsAnswerOf, MayLack}
 use Rattle.sci_commands.specs.declared.prepare.Prepared.{Prepared}

@@ -1,21 +1,18 @@
--- The dump of a run; the file of a dump, and what is told of it at a tick.
-use Rattle.std.specs.Prelude.{ℕ, ℤ, ◌≡◌, ◌+◌, pos, List, [], ◌∷◌, ◌++◌, codes}
-use Rattle.std.specs.Fmt.{signed_decimal}
-use Rattle.sci_base.specs.Plain.{Violation}
-use Rattle.sci_base.specs.declared.refusal.Rule.TheVariants.{NotVcd}
+-- `vcd`: the dump of a run.
+use Rattle.std.specs.Prelude.{ℕ, ◌≡◌, List, [], ℤ}
 use Rattle.sci_base.specs.declared.observation.Obs.{Obs}
 use Rattle.sci_net.specs.Parts.{Parts}
 use Rattle.sci_reaction.specs.Memory.{Columns}
 use Rattle.sci_run.specs.Run.{IsRun}
 use Rattle.sci_trace.specs.Lines.{stops}
 use Rattle.sci_wave.specs.RunDump.{IsRunDump}
-use Rattle.sci_commands.specs.Answer.{Answer, run_status}
-use Rattle.sci_vcd.specs.declared.signal.Signal.{Signal}
-use Rattle.sci_vcd.specs.Waveforms.{Waveforms, value_at}
-use Rattle.sci_vcd.specs.Spelling.{name_text, spelling}
-use Rattle.sci_vcd.specs.Blame.{Spells, IsFirstWrong}
-
--- ---- of a run
+use Rattle.sci_commands.specs.Answer.{Answer}
+use Rattle.sci_commands.specs.Simulate.{run_status}
+use Rattle.sci_vcd.specs.Waveforms.{Waveforms}
+use Rattle.sci_vcd.specs.Spelling.{spelling}
+use Rattle.sci_verdict.specs.Verdict.{Plan}
+use Rattle.sci_commands.specs.Course.{Course, gives}
+use Rattle.sci_commands.specs.Inputs.{reads_run}
 
 -- its text on out, and whether the run ends with a stop
 abbrev pub dumped : Waveforms → List Obs → Answer
@@ -26,31 +23,10 @@ abbrev pub IsDumpAnswer : Parts → Columns → (until limit : ℕ) → Answer �
 IsDumpAnswer n columns until limit a =
     (w : Waveforms) × IsRunDump n columns until limit w × (os : List Obs) × IsRun n columns until limit os × (a ≡ dumped w os)
 
--- ---- of a file
+-- what comes behind both files
+abbrev pub gives_dump : (until limit : ℕ) → Plan → List (List ℤ) → Course
+gives_dump until limit p columns = gives (λ a. IsDumpAnswer p.net columns until limit a)
 
--- this line of the file is blamed, from 1
-abbrev pub not_vcd : ℕ → Violation
-not_vcd line = record { rule = NotVcd; place = []; detail = pos line ∷ [] }
-
--- the bytes spell this dump
-abbrev pub AcceptsDump : List ℕ → Waveforms → Type 0
-AcceptsDump bytes w = Spells bytes w
-
--- they spell none
-pub record BreaksDump (bytes : List ℕ) (v : Violation) : Type 0 where
-  pub line : ℕ
-  pub blamed : IsFirstWrong bytes line
-  pub told : v ≡ not_vcd line
-
--- a signal's name and its value, in a line
-unfoldable pub signal_text : Signal → ℤ → List ℕ
-signal_text g v = name_text g ++ (codes " " ++ (signed_decimal v ++ codes "\n"))
-
--- the lines of these signals, of which the first has number n, with their values at the tick
-abbrev pub texts_from : Waveforms → (tick n : ℕ) → List Signal → List ℕ
-texts_from w tick n [] = []
-texts_from w tick n (g ∷ gs) = signal_text g (value_at w n tick) ++ texts_from w tick (n + 1) gs
-
--- the lines of all signals
-abbrev pub values_text : Waveforms → (tick : ℕ) → List ℕ
-values_text w tick = texts_from w tick 1 w.signals
+-- a diagram and its input file are read
+abbrev pub dump_course : (d i : List ℕ) (until limit : ℕ) → Course
+dump_course d i until limit = reads_run d i (gives_dump until limit)

@@ -15,7 +15,7 @@ use Rattle.sci_verdict.specs.Verdict.{Plan, Accepts}
 use Rattle.sci_commands.specs.Answer.{Answer, IsDone, prints}
 use Rattle.sci_commands.specs.Course.{Holds, dump_slot}
 use Rattle.sci_commands.specs.Due.{Due}
-use Rattle.sci_commands.specs.Dump.{signal_text}
+use Rattle.sci_commands.specs.DumpAt.{signal_text}
 use Rattle.sci_commands.specs.Inputs.{AcceptsColumns}
 use Rattle.sci_commands.specs.Words.{dump, dump_at, spelled}
 

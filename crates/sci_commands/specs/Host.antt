@@ -1,5 +1,7 @@
--- The host file.
-use Rattle.std.specs.Prelude.{ℕ, List, [], ◌++◌, codes}
+-- `host`: the host file.
+use Rattle.std.specs.Prelude.{ℕ, List, [], ◌++◌, codes, ◌≡◌}
+use Rattle.sci_commands.specs.Answer.{prints}
+use Rattle.sci_commands.specs.Course.{Course, gives}
 
 -- the bytes that `host` writes; nothing is claimed of their meaning
 unfoldable pub host_text : List ℕ
@@ -64,3 +66,7 @@ host_text =
     ++ codes "  sci_main();\n"
     ++ codes "  return 0;\n"
     ++ codes "}\n"
+
+-- no file is read
+abbrev pub host_course : Course
+host_course = gives (λ a. a ≡ prints host_text)

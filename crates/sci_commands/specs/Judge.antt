@@ -1,6 +1,5 @@
--- The verdict on a file that is to be a trace.
-use Rattle.std.specs.Prelude.{ℕ, ◌≡◌, List, [], ◌++◌, codes, decimal, Vec}
-use Rattle.std.specs.declared.alloc.Global.{Global}
+-- `judge`: the verdict on a file that is to be a trace.
+use Rattle.std.specs.Prelude.{ℕ, ◌≡◌, List, [], ◌++◌, codes, decimal, ℤ}
 use Rattle.sci_base.specs.Plain.{Violation}
 use Rattle.sci_base.specs.declared.observation.Obs.{Obs}
 use Rattle.sci_net.specs.Parts.{Parts}
@@ -11,6 +10,9 @@ use Rattle.sci_agree.specs.declared.verdict.Verdict.{Verdict}
 use Rattle.sci_agree.specs.declared.verdict.Verdict.TheVariants.{Yes, No}
 use Rattle.sci_agree.specs.Verdict.{IsVerdict}
 use Rattle.sci_commands.specs.Answer.{Answer}
+use Rattle.sci_verdict.specs.Verdict.{Plan}
+use Rattle.sci_commands.specs.Course.{third_slot, Course, gives, reads}
+use Rattle.sci_commands.specs.Inputs.{reads_run}
 
 -- Yes with how many lines there are, or No with the first that differs
 unfoldable pub verdict_line : Verdict → List ℕ
@@ -33,9 +35,13 @@ IsJudgementOf n i until limit file a = (os : List Obs) × IsRun n i until limit 
 abbrev pub IsText : List ℕ → List ℕ → Type 0
 IsText bytes made = made ≡ bytes
 
--- the same of what is made of it
-abbrev pub IsBytes : List ℕ → Vec ℕ Global → Type 0
-IsBytes bytes made = made.items ≡ bytes
-
 abbrev pub BreaksNothing : List ℕ → Violation → Type 0
 BreaksNothing bytes v = ⊥
+
+-- the file that is judged
+abbrev pub reads_trace : (v : List ℕ) → (until limit : ℕ) → Plan → List (List ℤ) → Course
+reads_trace v until limit p columns = reads (List ℕ) third_slot v IsText BreaksNothing (λ file. gives (IsJudgementOf p.net columns until limit file))
+
+-- and before it a diagram and its input file
+abbrev pub judge_course : (d i v : List ℕ) (until limit : ℕ) → Course
+judge_course d i v until limit = reads_run d i (reads_trace v until limit)

@@ -1,5 +1,5 @@
 -- What the rules of a file make of its bytes.
-use Rattle.std.specs.Prelude.{ℕ, ◌≡◌, List, Result, Ok, Err, length}
+use Rattle.std.specs.Prelude.{ℕ, ◌≡◌, List, Result, Ok, Err, length, Vec}
 use Rattle.sci_base.specs.Plain.{Violation}
 use Rattle.c_ast.specs.declared.Program.{Program}
 use Rattle.c_ast.specs.View.{whole_of}
@@ -9,13 +9,19 @@ use Rattle.sci_sched.specs.Text.{plan_text}
 use Rattle.sci_commands.specs.Map.{map_text}
 use Rattle.sci_verdict.specs.Verdict.{Plan, Accepts, plan_of}
 use Rattle.sci_verdict.specs.declared.checked.Checked.{Checked}
-use Rattle.sci_commands.specs.Answer.{counts_line, report_text}
-use Rattle.sci_commands.specs.Program.{AcceptsC}
+use Rattle.sci_commands.specs.Report.{counts_line, report_text}
+use Rattle.sci_commands.specs.RunC.{AcceptsC}
 use Rattle.sci_base.specs.Stops.{StopsBy}
 use Rattle.sci_commands.specs.declared.command.Report.{Report}
 use Rattle.sci_base.specs.declared.stop.Stop.{Stop}
 use Rattle.sci_commands.specs.declared.told.Told.{Told}
 use Rattle.sci_commands.specs.declared.told.Told.TheVariants.{Check, Map, Schedule}
+use Rattle.std.specs.declared.alloc.Global.{Global}
+use Rattle.sci_net.specs.Parts.{Parts}
+use Rattle.sci_reaction.specs.Memory.{Columns}
+use Rattle.sci_save.specs.declared.image.Image.{Image}
+use Rattle.sci_save.specs.Saved.{saved_of}
+use Rattle.sci_commands.specs.Resume.{AcceptsSaved}
 
 -- what is made of the bytes, or the first rule that they break; want of memory may come at any time
 abbrev pub IsJudged : {A : Type 0} → (List ℕ → A → Type 0) → (List ℕ → Violation → Type 0) → List ℕ → Result A Stop → Type 0
@@ -49,3 +55,11 @@ AcceptsChecked bytes c = Accepts bytes (plan_of c)
 -- the bytes spell this program
 abbrev pub AcceptsProgram : List ℕ → Program → Type 0
 AcceptsProgram bytes p = AcceptsC bytes (whole_of p)
+
+-- a file that may hold any bytes
+abbrev pub IsBytes : List ℕ → Vec ℕ Global → Type 0
+IsBytes bytes made = made.items ≡ bytes
+
+-- the bytes are the text of what this saves
+abbrev pub AcceptsImage : Parts → Columns → List ℕ → Image → Type 0
+AcceptsImage n i bytes m = AcceptsSaved n i bytes (saved_of m)

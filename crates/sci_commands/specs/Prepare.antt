@@ -17,17 +17,20 @@ use Rattle.c_ast.specs.View.{whole_of}
 use Rattle.c_ast.specs.Spelling.{spelling}
 use Rattle.c_ast.specs.Bounds.{IsWhole}
 use Rattle.c_mean.specs.Meaning.{meaning}
-use Rattle.sci_commands.specs.Answer.{Answer, usage, prints, refused, read_fault, no_memory, IsTraceOf, c_ran}
-use Rattle.sci_commands.specs.Bulk.{counted_line}
+use Rattle.sci_commands.specs.Answer.{Answer, usage, prints, refused, read_fault, no_memory}
+use Rattle.sci_commands.specs.RunC.{c_ran}
+use Rattle.sci_commands.specs.Simulate.{IsTraceOf}
+use Rattle.sci_commands.specs.BulkCounted.{counted_line}
 use Rattle.sci_commands.specs.Judge.{judged}
-use Rattle.sci_commands.specs.Save.{IsRestOf}
-use Rattle.sci_commands.specs.Dump.{IsDumpAnswer, values_text}
+use Rattle.sci_commands.specs.Resume.{IsRestOf}
+use Rattle.sci_commands.specs.Dump.{IsDumpAnswer}
+use Rattle.sci_commands.specs.DumpAt.{values_text}
 use Rattle.sci_run.specs.Laws.{AreLoopFree}
 use Rattle.sci_vcd.specs.Writing.{Writing, IsOutset}
 use Rattle.sci_commands.specs.Words.{Request}
 use Rattle.sci_commands.specs.Due.{course_of}
 use Rattle.sci_commands.specs.Counts.{CountsRun}
-use Rattle.sci_commands.specs.Reached.{ReachesTo, ReachesCounting}
+use Rattle.sci_commands.specs.Coming.{ReachesTo, ReachesCounting}
 use Rattle.sci_commands.specs.Judged.{told_text, HasRows}
 use Rattle.sci_commands.specs.declared.look.LookStop.{LookStop}
 use Rattle.sci_commands.specs.declared.look.LookStop.TheVariants as stops

@@ -3,11 +3,9 @@ use Rattle.std.specs.Prelude.{ℕ, ◌≡◌, ◌⊎◌, ◌++◌, List, ◌∷�
 use Rattle.sci_io.specs.Causes.{Rose}
 use Rattle.sci_io.specs.Files.{FolderState}
 use Rattle.sci_commands.specs.Words.{Request, Spells, NoCommand, files_of}
-use Rattle.sci_bank.specs.Bank.{Meaning}
-use Rattle.sci_commands.specs.Answer.{Answer, IsDone, usage, read_fault, no_memory}
+use Rattle.sci_commands.specs.Answer.{Answer, usage, read_fault, no_memory}
 use Rattle.sci_commands.specs.Course.{Course, TakesMemory, DueOn, AsksFront}
 use Rattle.sci_commands.specs.Due.{course_of}
-use Rattle.sci_commands.specs.Counts.{CountsRunOf, HaveCounted}
 
 -- the answer that is due of the files' bytes
 abbrev pub ReachesDue : FolderState → FolderState → Course → List (List ℕ) → Answer → Type 0
@@ -22,37 +20,14 @@ ReadFault old new course bytes a =
 abbrev pub OutOfMemory : FolderState → FolderState → Course → List (List ℕ) → Answer → Type 0
 OutOfMemory old new course bytes a = (new.faults ≡ old.faults) × (names : List (List ℕ)) × AsksFront old.files course bytes names × (new.asked ≡ old.asked ++ names) × (a ≡ no_memory)
 
--- what a course comes to, where its files have these bytes; memory may lack
-abbrev pub ComesBy : FolderState → FolderState → Course → List (List ℕ) → Answer → Type 0
-ComesBy old new course bytes a = ReachesDue old new course bytes a ⊎ (ReadFault old new course bytes a ⊎ OutOfMemory old new course bytes a)
-
-abbrev pub ComesTo : FolderState → FolderState → Course → Answer → Type 0
-ComesTo old new course a = (bytes : List (List ℕ)) × ComesBy old new course bytes a
-
 -- the same of a whole command, for which memory may lack only where it takes some
 abbrev pub ReachesOf : FolderState → FolderState → Course → List (List ℕ) → Answer → Type 0
 ReachesOf old new course bytes a = ReachesDue old new course bytes a ⊎ (ReadFault old new course bytes a ⊎ (TakesMemory course × OutOfMemory old new course bytes a))
-
-abbrev pub ReachesTo : FolderState → FolderState → Course → Answer → Type 0
-ReachesTo old new course a = (bytes : List (List ℕ)) × ReachesOf old new course bytes a
 
 -- Before it writes, a call comes to the answer that is due, or to a read fault, or to want of memory.
 abbrev pub ReachesBy : List (List ℕ) → FolderState → FolderState → List (List ℕ) → Answer → Type 0
 ReachesBy words old new bytes a =
     (NoCommand words × (a ≡ usage) × (new.asked ≡ old.asked) × (new.faults ≡ old.faults)) ⊎ ((c : Request) × Spells words c × ReachesOf old new (course_of c) bytes a)
-
-abbrev pub Reaches : List (List ℕ) → FolderState → FolderState → Answer → Type 0
-Reaches words old new a = (bytes : List (List ℕ)) × ReachesBy words old new bytes a
-
--- The same of a command; and banks that are left so behind an answer by which it is done have counted its run.
-abbrev pub ReachesCounting : FolderState → FolderState → Request → Answer → (Left : List Meaning → Type 0) → Type 0
-ReachesCounting old new c a Left =
-    (bytes : List (List ℕ)) × ReachesOf old new (course_of c) bytes a × ((banks : List Meaning) → IsDone a.status → Left banks → CountsRunOf c bytes banks)
-
--- and of the words
-abbrev pub ReachesCounted : List (List ℕ) → FolderState → FolderState → Answer → (Left : List Meaning → Type 0) → Type 0
-ReachesCounted words old new a Left =
-    (bytes : List (List ℕ)) × ReachesBy words old new bytes a × ((banks : List Meaning) → IsDone a.status → Left banks → HaveCounted words bytes banks)
 
 -- the names asked for are a front of the files of the command, a later one only where the earlier pass their rules
 abbrev pub AsksFrontOf : FolderState → FolderState → List (List ℕ) → Request → Type 0

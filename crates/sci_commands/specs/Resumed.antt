@@ -6,7 +6,8 @@ use Rattle.sci_io.specs.Files.{Files}
 use Rattle.sci_trace.specs.Lines.{text}
 use Rattle.sci_resume.specs.Laws.{AreParted}
 use Rattle.sci_commands.specs.Words.{simulate, save, resume, spelled}
-use Rattle.sci_commands.specs.Answer.{Answer, IsDone, ran}
+use Rattle.sci_commands.specs.Answer.{Answer, IsDone}
+use Rattle.sci_commands.specs.Simulate.{ran}
 use Rattle.sci_commands.specs.Course.{Holds}
 use Rattle.sci_commands.specs.Due.{Due}
 

@@ -5,7 +5,8 @@ use Rattle.sci_base.specs.declared.observation.Obs.{Obs}
 use Rattle.sci_io.specs.Files.{Files}
 use Rattle.sci_run.specs.Observed.{reactions}
 use Rattle.sci_commands.specs.Words.{simulate, save, dump, spelled}
-use Rattle.sci_commands.specs.Answer.{Answer, IsDone, refused, ran}
+use Rattle.sci_commands.specs.Answer.{Answer, IsDone, refused}
+use Rattle.sci_commands.specs.Simulate.{ran}
 use Rattle.sci_commands.specs.Save.{run_ended}
 use Rattle.sci_commands.specs.Due.{Due}
 

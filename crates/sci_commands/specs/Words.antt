@@ -1,12 +1,8 @@
 -- The words of the command line.
-use Rattle.std.specs.Prelude.{ℕ, ◌≡◌, ◌+◌, ◌≤◌, List, [], ◌∷◌, Option, Some, None, codes, decimal}
+use Rattle.std.specs.Prelude.{ℕ, ◌≡◌, ◌+◌, ◌≤◌, List, [], ◌∷◌, codes, decimal}
 use Rattle.sci_base.specs.declared.limits.TheConstants.{TICKS, EVENTS}
 use Rattle.sci_commands.specs.declared.command.Report.{Report}
 use Rattle.sci_commands.specs.declared.command.Report.TheVariants.{Check, Map, Schedule}
-use Rattle.sci_commands.specs.declared.words.Runs.{Runs}
-use Rattle.sci_commands.specs.declared.words.Runs.TheVariants.{Simulate as Simulating, RunC as RunningC, Dump as Dumping}
-use Rattle.sci_commands.specs.declared.command.Command.{Command}
-use Rattle.sci_commands.specs.declared.command.Command.TheVariants.{Report as Tell, Simulate, Judge, Save, Resume, Code, RunC, Host, Bulk, Dump, DumpAt}
 
 -- what a command line asks for: to tell something of the diagram of a file; to simulate it, with an input file, the last date and the
 -- most events; to judge whether a file is its trace; to save its run behind a reaction; to go on with it from what a file saves; for the C of
@@ -30,11 +26,6 @@ abbrev pub report_word : Report → List ℕ
 report_word Check = codes "check"
 report_word Map = codes "map"
 report_word Schedule = codes "schedule"
-
-abbrev pub run_word : Runs → List ℕ
-run_word Simulating = codes "simulate"
-run_word RunningC = codes "crun"
-run_word Dumping = codes "vcd"
 
 -- the words that spell a command; a number has its decimal digits alone
 abbrev pub spelled : Request → List (List ℕ)
@@ -85,21 +76,3 @@ files_of host = []
 files_of (bulk seed size) = []
 files_of (dump d i until limit) = d ∷ i ∷ []
 files_of (dump_at v tick) = v ∷ []
-
--- what the code's command asks for
-abbrev pub asked_by : Command → Request
-asked_by (Tell r d) = report r d.now
-asked_by (Simulate d i until limit) = simulate d.now i.now until limit
-asked_by (Judge d i v until limit) = judge d.now i.now v.now until limit
-asked_by (Save d i until limit k) = save d.now i.now until limit k
-asked_by (Resume d i s until limit) = resume d.now i.now s.now until limit
-asked_by (Code d) = code d.now
-asked_by (RunC c i until limit) = run_c c.now i.now until limit
-asked_by Host = host
-asked_by (Bulk seed size) = bulk seed size
-asked_by (Dump d i until limit) = dump d.now i.now until limit
-asked_by (DumpAt v tick) = dump_at v.now tick
-
-abbrev pub Parses : List (List ℕ) → Option Command → Type 0
-Parses words None = NoCommand words
-Parses words (Some c) = Spells words (asked_by c)

@@ -9,7 +9,7 @@ ghost use Rattle.sci_sched.specs.Plain.{rows_of};
 ghost use Rattle.sci_sim.specs.At.{IsTallied};
 ghost use Rattle.sci_verdict.specs.Verdict.{IsTreeChecked};
 ghost use Rattle.sci_bank.specs.Library.{IsFull};
-ghost use Rattle.sci_commands.specs.Bulk.{IsCounted};
+ghost use Rattle.sci_commands.specs.BulkCounted.{IsCounted};
 ghost use Rattle.sci_commands.specs.Counts.{CountsRun, CountsBulk};
 
 use sci_bank::Bank;

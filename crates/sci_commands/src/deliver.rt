@@ -9,15 +9,17 @@ ghost use Rattle.c_ast.specs.Spelling.{spelling};
 ghost use Rattle.c_ast.specs.Bounds.{IsWhole};
 ghost use Rattle.c_mean.specs.Meaning.{meaning};
 ghost use Rattle.sci_commands.specs.declared.told.Told.TheVariants.{Check};
-ghost use Rattle.sci_commands.specs.Answer.{IsDone, prints, write_fault_line, usage_line, read_fault_line, no_memory_line, undefined_line};
-ghost use Rattle.sci_commands.specs.Bulk.{counted_line};
+ghost use Rattle.sci_commands.specs.Answer.{IsDone, prints, write_fault_line, usage_line, read_fault_line, no_memory_line};
+ghost use Rattle.sci_commands.specs.RunC.{undefined_line};
+ghost use Rattle.sci_commands.specs.BulkCounted.{counted_line};
 ghost use Rattle.sci_commands.specs.Counts.{CountsRun};
-ghost use Rattle.sci_commands.specs.Dump.{values_text};
+ghost use Rattle.sci_commands.specs.DumpAt.{values_text};
 ghost use Rattle.sci_commands.specs.Judge.{judged};
 ghost use Rattle.sci_save.specs.Saved.{saved_of};
 ghost use Rattle.sci_save.specs.Text.{saved_text};
 ghost use Rattle.sci_save.specs.Valid.{IsShaped};
 ghost use Rattle.sci_commands.specs.Judged.{told_text, HasRows};
+ghost use Rattle.sci_commands.specs.Numbers.{numbers_line};
 ghost use Rattle.sci_commands.specs.Written.{Written};
 ghost use Rattle.sci_commands.specs.Deliver.{Gives, Said, PrintsTrace, Finished, RunsOut, RanC, FinishedC, Delivers};
 ghost use Rattle.sci_commands.specs.Prepare.{IsReadyToRun, IsPrepared, LeavesBanks};
@@ -25,6 +27,7 @@ ghost use Rattle.sci_commands.specs.Prepare.{IsReadyToRun, IsPrepared, LeavesBan
 use crate::bulk::BulkCounts;
 use crate::judged::{give_verdict, status_of};
 use crate::net_map::write_map;
+use crate::numbers::{give_line, put_line};
 use crate::prepare::{Prepared, Simulation};
 use crate::probe::silent_end;
 use crate::report::put_refused;
@@ -177,23 +180,15 @@ fn print<O: Sink, E: Sink>(text: &str, out: &mut O, err: &mut E) -> u8
 fn put_counts<O: Sink>(measured: &Measured, out: &mut O) -> Result<(), Failed>
     ensures { Writes (O.state out.old) (O.state out.new) (told_text (Check measured.now)) result }
 {
-    let mut blocks = Buffer::new();
-    let mut sources = Buffer::new();
-    let mut entries = Buffer::new();
-    let mut guards = Buffer::new();
-    put_all(
-        out,
+    put_line(
+        "ok",
         &[
-            "ok ".as_bytes(),
-            blocks.format(measured.net.len()).as_bytes(),
-            " ".as_bytes(),
-            sources.format(measured.net.source_count()).as_bytes(),
-            " ".as_bytes(),
-            entries.format(measured.size.entries).as_bytes(),
-            " ".as_bytes(),
-            guards.format(measured.size.guards).as_bytes(),
-            "\n".as_bytes(),
+            measured.net.len() as u64,
+            measured.net.source_count() as u64,
+            measured.size.entries,
+            measured.size.guards,
         ],
+        out,
     )
 }
 
@@ -244,51 +239,35 @@ fn tell<O: Sink, E: Sink>(told: &Told, out: &mut O, err: &mut E) -> u8
     }
 }
 
-fn put_bulk<O: Sink>(counts: &BulkCounts, out: &mut O) -> Result<(), Failed>
-    ensures { Writes (O.state out.old) (O.state out.new) (counted_line counts.now) result }
+// Prints the line of a word and numbers, or tells the failure of out.
+fn print_line<O: Sink, E: Sink>(word: &str, numbers: &[u64], out: &mut O, err: &mut E) -> u8
+    requires { 0 < length word.now }
+    ensures { Written (prints (numbers_line word.now numbers.now)) (O.state out.old) (O.state out.new) (E.state err.old) (E.state err.new) result }
 {
-    let mut blocks = Buffer::new();
-    let mut sources = Buffer::new();
-    let mut entries = Buffer::new();
-    let mut guards = Buffer::new();
-    let mut lines = Buffer::new();
-    let mut sum = Buffer::new();
-    put_all(
-        out,
-        &[
-            "bulk ".as_bytes(),
-            blocks.format(counts.blocks).as_bytes(),
-            " ".as_bytes(),
-            sources.format(counts.sources).as_bytes(),
-            " ".as_bytes(),
-            entries.format(counts.entries).as_bytes(),
-            " ".as_bytes(),
-            guards.format(counts.guards).as_bytes(),
-            " ".as_bytes(),
-            lines.format(counts.lines).as_bytes(),
-            " ".as_bytes(),
-            sum.format(counts.sum).as_bytes(),
-            "\n".as_bytes(),
-        ],
-    )
-}
-
-fn give_bulk<O: Sink>(counts: &BulkCounts, out: &mut O) -> Result<(), Failed>
-    ensures { Gives (O.state out.old) (O.state out.new) (counted_line counts.now) result }
-{
-    put_bulk(counts, out)?;
-    out.flush()
-}
-
-// Prints what is counted of a bulk diagram, or tells the failure of out.
-#[tactic(auto, using(crate::proofs::Silent::bulk_some, crate::proofs::Giving::told_written, crate::proofs::Giving::told_cut))]
-fn print_bulk<O: Sink, E: Sink>(counts: &BulkCounts, out: &mut O, err: &mut E) -> u8
-    ensures { Written (prints (counted_line counts.now)) (O.state out.old) (O.state out.new) (E.state err.old) (E.state err.new) result }
-{
-    match give_bulk(counts, out) {
+    match give_line(word, numbers, out) {
         Ok(()) => 0,
         Err(_) => say_write_fault(err),
     }
+}
+
+// Prints what is counted of a bulk diagram, or tells the failure of out.
+#[tactic(auto, unfolding(crate::specs::Bulk::bulk_line))]
+fn print_bulk<O: Sink, E: Sink>(counts: &BulkCounts, out: &mut O, err: &mut E) -> u8
+    ensures { Written (prints (counted_line counts.now)) (O.state out.old) (O.state out.new) (E.state err.old) (E.state err.new) result }
+{
+    print_line(
+        "bulk",
+        &[
+            counts.blocks as u64,
+            counts.sources as u64,
+            counts.entries,
+            counts.guards,
+            counts.lines,
+            counts.sum as u64,
+        ],
+        out,
+        err,
+    )
 }
 
 fn give_code<O: Sink>(program: &Program, out: &mut O) -> Result<(), Failed>

@@ -1,7 +1,7 @@
 // The file of a value change dump.
 ghost use Rattle.std.specs.Prelude.{◌≤◌, length};
 ghost use Rattle.sci_base.specs.declared.limits.TheConstants.{TEXT_BYTES};
-ghost use Rattle.sci_commands.specs.Dump.{AcceptsDump, BreaksDump};
+ghost use Rattle.sci_commands.specs.DumpAt.{AcceptsDump, BreaksDump};
 ghost use Rattle.sci_commands.specs.Judged.{IsJudged};
 
 use crate::rules::{Rules, blame};
@@ -27,7 +27,7 @@ pub struct DumpRules;
 
 impl Rules for DumpRules {
     ghost use Rattle.std.proofs.Common.{rules};
-    ghost use Rattle.sci_commands.specs.Dump.{AcceptsDump, BreaksDump};
+    ghost use Rattle.sci_commands.specs.DumpAt.{AcceptsDump, BreaksDump};
 
     type Made = Dump;
 

@@ -1,4 +1,5 @@
 ghost use Rattle.sci_commands.specs.Laws.{OneAnswer, OneAnswerOfBytes};
+ghost use Rattle.sci_commands.specs.Defined.{DefinedCodeIsDue};
 ghost use Rattle.sci_commands.specs.BulkRuns.{BulkEndsByEvents};
 ghost use Rattle.sci_commands.specs.Ran.{CodeIsDefined, CodeRunsAlike, CodeRunsOnlySo};
 ghost use Rattle.sci_commands.specs.DumpRuns.{DumpTellsRun};
@@ -6,10 +7,15 @@ ghost use Rattle.sci_commands.specs.Resumed.{ResumeIsDue, ResumesAlike};
 ghost use Rattle.sci_commands.specs.RunsDue.{DumpIsDue, SaveIsDue};
 
 /// Of the words and the files' bytes at most one answer is due, with one list of names that are read for it, and the files tell their bytes;
-/// but that any loop of the least source that has one may be told.
+/// but that any loop of the least source that has one may be told, and of `ccode` the text of any such program of the plan.
 pub fn one_answer_is_due()
     ensures told { OneAnswer }
     ensures bytes { OneAnswerOfBytes }
+{}
+
+/// The text of the program that `sci_cgen` defines for the plan of a diagram is one of those that are due of `ccode`. It is the one that `top` gives.
+pub fn defined_code_is_due()
+    ensures { DefinedCodeIsDue }
 {}
 
 /// Where `simulate` on a diagram and an input file is due to run, and the bytes that are due of `ccode` on this diagram are no more than a C file

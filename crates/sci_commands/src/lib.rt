@@ -10,6 +10,7 @@ mod judged;
 pub mod laws;
 mod look;
 mod net_map;
+mod numbers;
 mod prepare;
 mod probe;
 pub mod report;

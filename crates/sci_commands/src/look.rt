@@ -2,7 +2,8 @@
 ghost use Rattle.std.specs.Prelude.{◌≡◌, ◌≤◌, []};
 ghost use Rattle.sci_base.specs.declared.limits.TheConstants.{TEXT_BYTES};
 ghost use Rattle.sci_commands.specs.Course.{third_slot};
-ghost use Rattle.sci_commands.specs.Judge.{IsBytes, BreaksNothing};
+ghost use Rattle.sci_commands.specs.Judge.{BreaksNothing};
+ghost use Rattle.sci_commands.specs.Judged.{IsBytes};
 ghost use Rattle.sci_commands.specs.Look.{IsFile, IsLooked, IsRefusal, IsTooLong};
 
 use crate::rules::Rules;

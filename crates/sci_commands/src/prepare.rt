@@ -4,12 +4,14 @@ ghost use Rattle.sci_base.specs.declared.limits.TheConstants.{TICKS, EVENTS};
 ghost use Rattle.sci_bank.specs.Bank.{Meaning};
 ghost use Rattle.sci_bank.specs.Library.{IsFull};
 ghost use Rattle.sci_io.specs.Files.{FolderState};
-ghost use Rattle.sci_commands.specs.Words.{report as tell, simulate, judge, save, resume, code, run_c, bulk, dump, dump_at, InBounds, asked_by};
-ghost use Rattle.sci_commands.specs.Reached.{Reaches, ReachesCounted};
+ghost use Rattle.sci_commands.specs.Words.{report as tell, simulate, judge, save, resume, code, run_c, bulk, dump, dump_at, InBounds};
+ghost use Rattle.sci_commands.specs.Parsed.{asked_by};
+ghost use Rattle.sci_commands.specs.Coming.{Reaches, ReachesCounted};
 ghost use Rattle.sci_commands.specs.Answer.{Answer, no_memory};
 ghost use Rattle.sci_commands.specs.Look.{IsRefusal};
 ghost use Rattle.sci_commands.specs.Save.{run_ended};
 ghost use Rattle.sci_commands.specs.Prepare.{IsAnswerOf, stop_answer, IsPrepared, LeavesBanks, MayLack, LooksAt};
+ghost use Rattle.sci_commands.specs.Defined.{LooksAtCode, LooksDefined, PreparesDefined};
 
 use crate::bulk::{BulkCounts, count_bulk};
 use crate::command::{Command, Report};
@@ -224,6 +226,7 @@ fn for_resume<F: Folder, B: Bank>(
 
 fn for_code<F: Folder>(alloc: Global, folder: &mut F, file: &str) -> Result<Prepared, LookStop>
     ensures looks { (banks : List Meaning) → LooksAt (F.state folder.old) (F.state folder.new) banks (code file.now) result }
+    ensures coded { LooksAtCode (F.state folder.old) (F.state folder.new) file.now result }
     ensures kept { (F.state folder.new).files ≡ (F.state folder.old).files }
 {
     let checked = look(alloc, folder, file, 1, &PlanRules)?;
@@ -322,6 +325,7 @@ fn for_command<F: Folder, B: Bank>(
     requires bounds { InBounds (asked_by command) }
     requires full { IsFull lib.old }
     ensures looks { LooksAt (F.state folder.old) (F.state folder.new) lib.new (asked_by command.entry) result }
+    ensures coded { LooksDefined (F.state folder.old) (F.state folder.new) (asked_by command.entry) result }
     ensures kept { (F.state folder.new).files ≡ (F.state folder.old).files }
     ensures full { IsFull lib.new }
 {
@@ -404,6 +408,7 @@ pub fn prepare<F: Folder, B: Bank>(
         (LeavesBanks result lib.new) }
     ensures prepared { IsPrepared lib.new result }
     ensures lacks { MayLack result → Reaches (map string_bytes words.now) (F.state folder.old) (F.state folder.new) no_memory }
+    ensures coded { PreparesDefined (map string_bytes words.now) (F.state folder.old) (F.state folder.new) result }
     ensures kept { (F.state folder.new).files ≡ (F.state folder.old).files }
     ensures full { IsFull lib.new }
 {

@@ -1,7 +1,7 @@
 // The rules of each kind of file.
 ghost use Rattle.std.specs.Prelude.{◌≤◌, ◌<◌, ◌^◌, pos, [], ◌∷◌, length};
 ghost use Rattle.sci_base.specs.declared.limits.TheConstants.{DIAGRAM_BYTES, INPUT_BYTES, TEXT_BYTES};
-ghost use Rattle.sci_commands.specs.Program.{BreaksC};
+ghost use Rattle.sci_commands.specs.RunC.{BreaksC};
 ghost use Rattle.sci_base.specs.Stops.{IsViolation};
 ghost use Rattle.sci_commands.specs.Judged.{IsJudged, AcceptsProgram};
 
@@ -122,7 +122,7 @@ pub struct CRules;
 
 impl Rules for CRules {
     ghost use Rattle.std.proofs.Common.{rules};
-    ghost use Rattle.sci_commands.specs.Program.{BreaksC};
+    ghost use Rattle.sci_commands.specs.RunC.{BreaksC};
     ghost use Rattle.sci_commands.specs.Judged.{AcceptsProgram};
 
     type Made = Program;

@@ -5,8 +5,8 @@ ghost use Rattle.sci_save.specs.Saved.{saved_of};
 ghost use Rattle.sci_save.specs.Text.{saved_text};
 ghost use Rattle.sci_save.specs.Valid.{IsShaped};
 ghost use Rattle.sci_commands.specs.Deliver.{Gives};
-ghost use Rattle.sci_commands.specs.Judged.{IsJudged};
-ghost use Rattle.sci_commands.specs.Save.{AcceptsImage, BreaksSaved};
+ghost use Rattle.sci_commands.specs.Judged.{IsJudged, AcceptsImage};
+ghost use Rattle.sci_commands.specs.Resume.{BreaksSaved};
 
 use crate::rules::{Rules, blame};
 use sci_base::{Rule, Stop, limits};
@@ -46,7 +46,8 @@ pub struct SavedRules {
 
 impl Rules for SavedRules {
     ghost use Rattle.std.proofs.Common.{rules};
-    ghost use Rattle.sci_commands.specs.Save.{AcceptsImage, BreaksSaved};
+    ghost use Rattle.sci_commands.specs.Judged.{AcceptsImage};
+    ghost use Rattle.sci_commands.specs.Resume.{BreaksSaved};
 
     type Made = Image;
 

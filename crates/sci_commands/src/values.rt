@@ -3,7 +3,7 @@ ghost use Rattle.std.specs.Prelude.{◌≤◌, ◌-◌, ◌++◌, codes, length,
 ghost use Rattle.std.specs.Fmt.{signed_decimal};
 ghost use Rattle.sci_io.specs.Taken.{Writes};
 ghost use Rattle.sci_vcd.specs.Waveforms.{no_signal, value_at};
-ghost use Rattle.sci_commands.specs.Dump.{signal_text, values_text};
+ghost use Rattle.sci_commands.specs.DumpAt.{signal_text, values_text};
 
 use itoa::Buffer;
 use sci_io::{Failed, Sink, put_all};

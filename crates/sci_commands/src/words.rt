@@ -2,7 +2,8 @@ ghost use Rattle.std.specs.Prelude.{◌≡◌, ◌≢◌, ◌≤◌, [], ◌∷�
 ghost use Rattle.sci_base.specs.declared.limits.TheConstants.{TICKS, EVENTS};
 ghost use Rattle.sci_commands.specs.declared.command.Report.{Report};
 ghost use Rattle.sci_commands.specs.declared.words.Runs.{Runs};
-ghost use Rattle.sci_commands.specs.Words.{Parses, report_word, run_word};
+ghost use Rattle.sci_commands.specs.Words.{report_word};
+ghost use Rattle.sci_commands.specs.Parsed.{Parses, run_word};
 
 use crate::command::{Command, Report};
 use itoa::Buffer;

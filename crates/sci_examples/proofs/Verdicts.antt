@@ -10,9 +10,13 @@ use Rattle.sci_agree.specs.Lines.{lines_of, first_lines, AgreeOn, IsAgreement, f
 use Rattle.sci_agree.specs.Verdict.{IsVerdict}
 use Rattle.sci_agree.specs.Compared.{Compared, taken_by, WasGiven}
 use Rattle.c_mean.specs.declared.start.CEnd.TheVariants as ends
-use Rattle.sci_commands.specs.Answer.{usage, ran, c_status, counts_line}
+use Rattle.sci_commands.specs.Answer.{usage}
+use Rattle.sci_commands.specs.RunC.{c_status}
+use Rattle.sci_commands.specs.Simulate.{ran}
+use Rattle.sci_commands.specs.Report.{counts_line}
 use Rattle.sci_commands.specs.Course.{Slot, Passes, Fails}
 use Rattle.sci_commands.specs.Judge.{verdict_line, verdict_status}
+use Rattle.sci_commands.specs.Numbers.{spaced, numbers_line}
 use Rattle.sci_commands.specs.Line.{step_text, detail_text, head_text, refused_line}
 use Rattle.sci_commands.specs.Save.{run_ended}
 use Rattle.sci_commands.specs.Words.{save, simulate, InBounds, spelled}
@@ -120,7 +124,7 @@ usage_status = refl
 
 -- blocks, sources, entries, guards
 counts : counts_line 1 2 3 4 ≡ codes "ok 1 2 3 4\n"
-unfolding counts_line digits
+unfolding counts_line numbers_line spaced digits
 counts = refl
 
 -- the reaction that was asked for, and how many there are

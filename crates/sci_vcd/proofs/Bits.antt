@@ -1,5 +1,5 @@
 -- Binary digits, and the numbers of a type that they stand for.
-use Rattle.std.proofs.Common.{◌≡◌, ℕ, zero, suc, ◌+◌, ◌-◌, ◌*◌, ◌/◌, ◌%◌, ◌^◌, ◌<◌, ◌≤◌, ℤ, pos, negsuc, ◌-ℤ◌, ◌≤ℤ◌, ◌<ℤ◌, List, [], ◌∷◌, ◌++◌, length, take, drop, get_or, ⊎_elim, Option, Some, None, Bool, true, false, cond, refl, sym, ap, ◌∙◌, subst, arith, append_assoc}
+use Rattle.std.proofs.Common.{◌≡◌, ℕ, zero, suc, ◌+◌, ◌-◌, ◌*◌, ◌/◌, ◌%◌, ◌^◌, ◌<◌, ◌≤◌, ℤ, pos, negsuc, ◌-ℤ◌, ◌≤ℤ◌, ◌<ℤ◌, List, [], ◌∷◌, ◌++◌, length, take, drop, get_or, ⊎_elim, Option, Some, None, Bool, true, false, cond, refl, sym, ap, ap₂, ◌∙◌, subst, arith, append_assoc, append-nil}
 use Rattle.std.specs.Prelude.{nat_eq, nat_le, int_le, unsigned_abs}
 use Rattle.std.specs.Char.{is_ascii_digit}
 use Rattle.std.specs.Str.{all_ascii_digits}
@@ -89,13 +89,41 @@ binary_last p =
     ∙ ap (λ (d : ℕ). (48 + p / 2 / 2 / 2 % 2) ∷ (48 + p / 2 / 2 % 2) ∷ (48 + d) ∷ (48 + p % 16 % 2) ∷ []) d1
     ∙ ap (λ (d : ℕ). (48 + p / 2 / 2 / 2 % 2) ∷ (48 + p / 2 / 2 % 2) ∷ (48 + p / 2 % 2) ∷ (48 + d) ∷ []) d0
 
-pub width_fours : (t : Ty) → 4 * (width t / 4) ≡ width t
-width_fours I32 = refl
-width_fours I16 = refl
-width_fours I8 = refl
-width_fours U32 = refl
-width_fours U16 = refl
-width_fours U8 = refl
+-- eight of them are four and four
+pub eight_fours : (p : ℕ) → binary 4 (p / 16) ++ (binary 4 p ++ []) ≡ binary 8 p
+eight_fours p = binary_steps 2 0 p [] (omega arith) ∙ append-nil (binary 8 p)
+
+eight_halves : (p : ℕ) → binary 8 p ≡ binary 4 (p / 16) ++ binary 4 p
+eight_halves p = sym (eight_fours p) ∙ ap (λ (l : List ℕ). binary 4 (p / 16) ++ l) (append-nil (binary 4 p))
+
+-- eight at once
+pub eight_steps : (g k left : ℕ) (tail : List ℕ) → k < g → binary (8 * g - 8 * (k + 1)) (left / 256) ++ (binary 8 left ++ tail) ≡ binary (8 * g - 8 * k) left ++ tail
+eight_steps g k left tail h =
+    let same : left / 256 ≡ left / 16 / 16 = omega arith in
+    let end : 8 * g - 8 * (k + 1) ≡ 4 * (2 * g) - 4 * (2 * k + 1 + 1) = omega arith in
+    let start : 4 * (2 * g) - 4 * (2 * k) ≡ 8 * g - 8 * k = omega arith in
+    ap₂ (λ (j n : ℕ). binary j n ++ (binary 8 left ++ tail)) end same
+    ∙ (ap (λ (l : List ℕ). binary (4 * (2 * g) - 4 * (2 * k + 1 + 1)) (left / 16 / 16) ++ (l ++ tail)) (eight_halves left)
+    ∙ (ap (λ (l : List ℕ). binary (4 * (2 * g) - 4 * (2 * k + 1 + 1)) (left / 16 / 16) ++ l) (append_assoc (binary 4 (left / 16)) (binary 4 left) tail)
+    ∙ (binary_steps (2 * g) (2 * k + 1) (left / 16) (binary 4 left ++ tail) (omega (arith, h))
+    ∙ (binary_steps (2 * g) (2 * k) left tail (omega (arith, h)) ∙ ap (λ (j : ℕ). binary j left ++ tail) start))))
+
+-- the last eight are those of what is left by 256
+pub eight_last : (p : ℕ) → binary 8 (p % 256) ≡ binary 8 p
+eight_last p =
+    let high : p % 256 / 16 ≡ p / 16 % 16 = omega arith in
+    let low : p % 256 % 16 ≡ p % 16 = omega arith in
+    eight_halves (p % 256)
+    ∙ (ap₂ (λ (x y : List ℕ). x ++ y) (ap (binary 4) high ∙ binary_last (p / 16)) (sym (binary_last (p % 256)) ∙ (ap (binary 4) low ∙ binary_last p))
+    ∙ sym (eight_halves p))
+
+pub width_eights : (t : Ty) → 8 * (width t / 8) ≡ width t
+width_eights I32 = refl
+width_eights I16 = refl
+width_eights I8 = refl
+width_eights U32 = refl
+width_eights U16 = refl
+width_eights U8 = refl
 
 pub binary_over : (w k left : ℕ) (tail : List ℕ) → w ≤ k → binary (w - k) left ++ tail ≡ tail
 unfolding binary

@@ -1,7 +1,8 @@
 -- What changes at a tick, part by part.
-use Rattle.std.proofs.Common.{◌≡◌, ℕ, suc, ◌+◌, ◌-◌, ◌<◌, ◌≤◌, ℤ, List, [], ◌∷◌, ◌++◌, take, drop, length, get_or, true, false, refl, sym, ap, ◌∙◌, subst, arith, append_assoc, append-nil, length-drop}
+use Rattle.std.proofs.Common.{◌≡◌, ℕ, suc, ◌+◌, ◌-◌, ◌<◌, ◌≤◌, ℤ, List, [], ◌∷◌, ◌++◌, take, drop, length, get_or, true, false, inl, inr, refl, sym, ap, ◌∙◌, subst, arith, append_assoc, append-nil, length-drop}
 use Rattle.std.proofs.Math.Seq.{take-add, take-length}
 use Rattle.std.proofs.lemmas.List.{get_or-take, get_or-drop, drop_more, length-take, drop-drop}
+use Rattle.std.proofs.lemmas.Bool.{cases_Bool}
 use Rattle.sci_base.specs.Fit.{int_eq}
 use Rattle.sci_vcd.specs.declared.signal.Signal.{Signal}
 use Rattle.sci_vcd.specs.declared.signal.Change.{Change}
@@ -18,6 +19,14 @@ unchanged_here t k v w e = rw e refl
 
 pub changed_here : (t k : ℕ) (v w : ℤ) → int_eq v w ≡ false → change_here t k v w ≡ change_by t k w ∷ []
 changed_here t k v w e = rw e refl
+
+-- the tick is told behind it, where it was told before
+pub told_here : (t k : ℕ) (v w : ℤ) → told_behind t (change_here t k v w) ≡ t
+told_here t k v w =
+    elim (cases_Bool (int_eq v w)) [
+      | inl e ↦ ap (told_behind t) (unchanged_here t k v w e)
+      | inr e ↦ ap (told_behind t) (changed_here t k v w e)
+    ]
 
 -- ---- parts
 

@@ -26,7 +26,7 @@ all_zero count k = elim (cases_lt (k - 1) count) [
 
 -- nothing was noted yet
 pub kept_outset : (o : Writing) (marked : List Bool) → AreSignals o.signals → 1 ≤ length o.starts → length o.starts ≤ 2049 → o.written ≡ replicate (length o.signals) (pos 0) → o.noted ≡ replicate (length o.signals) (pos 0)
-    → marked ≡ replicate (length o.signals / 64 + 1) false → IsKept o marked
+    → marked ≡ replicate (length o.signals / 32 + 1) false → IsKept o marked
 kept_outset o marked signals some few written noted marks =
     let count = length o.signals in
     let lw : length o.written ≡ count = ap length written ∙ length-replicate count (pos 0) in
@@ -43,14 +43,14 @@ kept_outset o marked signals some few written noted marks =
         };
       };
       marks = record {
-        pages = ap length marks ∙ length-replicate (count / 64 + 1) false ∙ ap (λ (n : ℕ). n / 64 + 1) (sym lw);
+        pages = ap length marks ∙ length-replicate (count / 32 + 1) false ∙ ap (λ (n : ℕ). n / 32 + 1) (sym lw);
         same = λ k h e. ap (λ (l : List ℤ). get_or l k (pos 0)) (written ∙ sym noted);
       };
     }
 
 -- one value more is noted, and its page is marked
 pub kept_note : (o : Writing) (marked : List Bool) (k : ℕ) (v : ℤ) → IsKept o marked → 1 ≤ k → k ≤ length o.signals → in_range (type_of o.signals k) v ≡ true
-    → IsKept (with_note o k v) (set marked ((k - 1) / 64) true)
+    → IsKept (with_note o k v) (set marked ((k - 1) / 32) true)
 kept_note o marked k v h least most fits =
     let w = h.writing in
     let lw = w.written in
@@ -74,17 +74,17 @@ kept_note o marked k v h least most fits =
         };
       };
       marks = record {
-        pages = length-set marked ((k - 1) / 64) true ∙ h.marks.pages;
-        same = λ i within e. elim (cases_Bool (nat_eq (i / 64) ((k - 1) / 64))) [
+        pages = length-set marked ((k - 1) / 32) true ∙ h.marks.pages;
+        same = λ i within e. elim (cases_Bool (nat_eq (i / 32) ((k - 1) / 32))) [
           | inl page ↦
-              let here : i / 64 ≡ (k - 1) / 64 = eqb-true (i / 64) ((k - 1) / 64) page in
+              let here : i / 32 ≡ (k - 1) / 32 = eqb-true (i / 32) ((k - 1) / 32) page in
               let pages = h.marks.pages in
-              let yes : get_or (set marked ((k - 1) / 64) true) (i / 64) false ≡ true = get_or-set_at marked ((k - 1) / 64) (i / 64) true false here (in_pages (k - 1) (length o.written) (length marked) (omega (arith, lw, least, most)) pages) in
+              let yes : get_or (set marked ((k - 1) / 32) true) (i / 32) false ≡ true = get_or-set_at marked ((k - 1) / 32) (i / 32) true false here (in_pages (k - 1) (length o.written) (length marked) (omega (arith, lw, least, most)) pages) in
               absurd (both (sym yes ∙ e))
           | inr page ↦
-              let there = eqb-false (i / 64) ((k - 1) / 64) page in
-              let apart : i ≢ k - 1 = λ same. there (ap (λ (j : ℕ). j / 64) same) in
-              h.marks.same i within (sym (get_or-set_other marked ((k - 1) / 64) (i / 64) true false there) ∙ e) ∙ sym (get_or-set_other o.noted (k - 1) i v (pos 0) apart)
+              let there = eqb-false (i / 32) ((k - 1) / 32) page in
+              let apart : i ≢ k - 1 = λ same. there (ap (λ (j : ℕ). j / 32) same) in
+              h.marks.same i within (sym (get_or-set_other marked ((k - 1) / 32) (i / 32) true false there) ∙ e) ∙ sym (get_or-set_other o.noted (k - 1) i v (pos 0) apart)
         ];
       };
     }
@@ -92,5 +92,5 @@ kept_note o marked k v h least most fits =
     both : true ≡ false → ⊥
     both e = cc e
 
-    in_pages : (i count pages : ℕ) → i < count → pages ≡ count / 64 + 1 → i / 64 < pages
+    in_pages : (i count pages : ℕ) → i < count → pages ≡ count / 32 + 1 → i / 32 < pages
     in_pages i count pages h e = omega (arith, h, e)

@@ -12,6 +12,7 @@ pub mod Links
 pub mod Standing
 pub mod Changed
 pub mod Putting
+pub mod PageLines
 pub mod Paged
 pub mod OfNet
 pub mod Kept

@@ -11,7 +11,7 @@ use Rattle.sci_text.specs.Lines.{with_lf, joined}
 use Rattle.sci_vcd.specs.Spelling.{signal_line, signal_lines, value_line, value_lines, tick_line, next_tick, change_lines, signals_part, opening, values_part, head_part}
 use Rattle.sci_vcd.specs.Writing.{change_here, changes_within, told_behind}
 use Rattle.sci_text.proofs.Splits.{joined-append}
-use Rattle.sci_vcd.proofs.Changed.{unchanged_here, changed_here, within_split, within_one, change_lines-append, told_behind-append}
+use Rattle.sci_vcd.proofs.Changed.{told_here, unchanged_here, changed_here, within_split, within_one, change_lines-append}
 use Rattle.sci_base.specs.Fit.{int_eq}
 use Rattle.sci_vcd.proofs.Leading.{told_tick, new_tick}
 
@@ -51,11 +51,11 @@ change_text gs told t i v w e =
     ∙ joined-append (next_tick told t) (value_line (type_of gs (i + 1)) (i + 1) w ∷ [])
     ∙ ap (λ ty. joined (next_tick told t) ++ (with_lf (value_line ty (i + 1) w) ++ [])) (type_here gs i)
 
-pub changed_told : (told t k : ℕ) (v w : ℤ) → int_eq v w ≡ false → t ≡ told_behind told (change_here t k v w)
-changed_told told t k v w e = ap (told_behind told) (sym (changed_here t k v w e))
-
-pub same_told : (told t k : ℕ) (v w : ℤ) → int_eq v w ≡ true → told ≡ told_behind told (change_here t k v w)
-same_told told t k v w e = ap (told_behind told) (sym (unchanged_here t k v w e))
+-- the line of a change at a tick that is told
+pub change_alone : (gs : List Signal) (t i : ℕ) (v w : ℤ) → int_eq v w ≡ false → joined (change_lines gs t (change_here t (i + 1) v w)) ≡ with_lf (value_line (get_or gs i no_signal).ty (i + 1) w)
+change_alone gs t i v w e =
+    let line : List ℕ = with_lf (value_line (get_or gs i no_signal).ty (i + 1) w) in
+    change_text gs t t i v w e ∙ (ap (λ (l : List ℕ). l ++ (line ++ [])) (told_text t t refl) ∙ append-nil line)
 
 pub same_here : (gs : List Signal) (told t k : ℕ) (v w : ℤ) → int_eq v w ≡ true → joined (change_lines gs told (change_here t k v w)) ≡ []
 same_here gs told t k v w e = ap (λ cs. joined (change_lines gs told cs)) (unchanged_here t k v w e)
@@ -70,13 +70,19 @@ one_text gs told t a c vs ws d h g e =
     parts_text gs told t a (a + 1) c vs ws (omega arith) (omega (arith, h)) g e
     ∙ ap (λ cs. joined (change_lines gs told cs) ++ joined (change_lines gs (told_behind told cs) (changes_within t (a + 1) c vs ws))) one
 
-pub one_told : (told t a c : ℕ) (vs ws : List ℤ) (d : ℤ) → a < c → c ≤ length vs → length ws ≡ length vs
-    → told_behind told (changes_within t a c vs ws) ≡ told_behind (told_behind told (change_here t (a + 1) (get_or vs a d) (get_or ws a d))) (changes_within t (a + 1) c vs ws)
-one_told told t a c vs ws d h g e =
-    let one = within_one t a vs ws (get_or vs a d) (get_or ws a d) d (omega (arith, h, g)) e refl refl in
-    ap (told_behind told) (within_split t a (a + 1) c vs ws (omega arith) (omega (arith, h)) g e)
-    ∙ told_behind-append told (changes_within t a (a + 1) vs ws) (changes_within t (a + 1) c vs ws)
-    ∙ ap (λ cs. told_behind (told_behind told cs) (changes_within t (a + 1) c vs ws)) one
+-- the line of a change before those of the later signals, at a tick that is told
+pub lines_back : (gs : List Signal) (t i a b c : ℕ) (vs ws : List ℤ) (d : ℤ) → i < c → c ≤ length vs → length ws ≡ length vs → a ≡ i + 1 → b ≡ i → (new old : List ℕ)
+    → new ≡ joined (change_lines gs t (change_here t (i + 1) (get_or vs i d) (get_or ws i d))) ++ old → old ≡ joined (change_lines gs t (changes_within t a c vs ws))
+    → new ≡ joined (change_lines gs t (changes_within t b c vs ws))
+lines_back gs t i a b c vs ws d h g e next here new old put before =
+    let line : List ℕ = joined (change_lines gs t (change_here t (i + 1) (get_or vs i d) (get_or ws i d))) in
+    let rest : old ≡ joined (change_lines gs (told_behind t (change_here t (i + 1) (get_or vs i d) (get_or ws i d))) (changes_within t (i + 1) c vs ws)) =
+    before
+    ∙ (ap (λ (j : ℕ). joined (change_lines gs t (changes_within t j c vs ws))) next
+    ∙ ap (λ (told : ℕ). joined (change_lines gs told (changes_within t (i + 1) c vs ws))) (sym (told_here t (i + 1) (get_or vs i d) (get_or ws i d)))) in
+    put
+    ∙ (ap (λ (l : List ℕ). line ++ l) rest
+    ∙ (sym (one_text gs t t i c vs ws d h g e) ∙ ap (λ (j : ℕ). joined (change_lines gs t (changes_within t j c vs ws))) (sym here)))
 
 -- ---- the head
 

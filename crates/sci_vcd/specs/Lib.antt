@@ -1,5 +1,6 @@
 pub mod Waveforms
 pub mod Spelling
+pub mod LaidDown
 pub mod Reading
 pub mod Draft
 pub mod Machine

@@ -32,14 +32,14 @@ pub record IsWriting (o : Writing) : Type 0 where
   pub written : length o.written ≡ length o.signals
   pub noted : AreOf o.signals o.noted
 
--- the place behind the last of a page of 64
+-- the place behind the last of a page of 32
 abbrev pub page_end : (page count : ℕ) → ℕ
-page_end page count = min count (page * 64 + 64)
+page_end page count = min count (page * 32 + 32)
 
 -- where a page isn't marked, its old values are its new ones
 pub record AreMarked (old new : List ℤ) (marked : List Bool) : Type 0 where
-  pub pages : length marked ≡ length old / 64 + 1
-  pub same : (k : ℕ) → k < length old → slice_index_or marked (k / 64) false ≡ false → slice_index_or old k (pos 0) ≡ slice_index_or new k (pos 0)
+  pub pages : length marked ≡ length old / 32 + 1
+  pub same : (k : ℕ) → k < length old → slice_index_or marked (k / 32) false ≡ false → slice_index_or old k (pos 0) ≡ slice_index_or new k (pos 0)
 
 -- the new values from place a up to place b, and else the old
 abbrev pub settled : (old new : List ℤ) → (a b : ℕ) → List ℤ

@@ -5,12 +5,14 @@ mod draft;
 mod dump;
 mod laws;
 mod line;
+mod line_end;
 mod machine;
 mod net_signals;
 mod pages;
 mod put;
 mod read;
 mod signal;
+mod signal_lines;
 mod spell;
 mod writer;
 

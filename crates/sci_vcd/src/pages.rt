@@ -1,30 +1,57 @@
-// Old and new values of all signals, by pages of 64 of which some are marked: those of the others are the same.
+// Old and new values of all signals, by pages of 32 of which some are marked: those of the others are the same.
 
-ghost use Rattle.std.specs.Prelude.{◌≡◌, ◌≤◌, ◌<◌, ◌*◌, ◌+◌, min, length, IfOk, All, false};
+ghost use Rattle.std.specs.Prelude.{◌≡◌, ℕ, ◌≤◌, ◌<◌, ◌*◌, ◌+◌, min, drop, length, IfOk, All, false};
 ghost use Rattle.sci_base.specs.declared.limits.TheConstants.{ALL_ELEMENTS};
 ghost use Rattle.sci_io.specs.Taken.{Writes};
 ghost use Rattle.sci_text.specs.Lines.{joined};
 ghost use Rattle.sci_vcd.specs.Spelling.{change_lines};
 ghost use Rattle.sci_vcd.specs.Writing.{changes_at, changes_within, told_behind, page_end, settled, AreMarked};
 
-use crate::Signal;
-use crate::put::put_change;
+use crate::put::{TEXT, change_before, next_tick_before, text_from};
+use crate::signal_lines::SignalLines;
 use sci_io::{Failed, Sink};
 
-pub const PAGE: usize = 64;
+pub const PAGE: usize = 32;
 
 /// The place behind the last value of a page.
 fn page_end(page: usize, count: usize) -> usize
-    requires within { page * 64 ≤ count }
+    requires within { page * 32 ≤ count }
     requires few { count ≤ ALL_ELEMENTS }
     ensures { result ≡ page_end page count }
 {
     count.min(page * PAGE + PAGE)
 }
 
+/// The lines of the changes of a page at a tick that is told, at the end of a text.
+fn changes_before(
+    text: &mut [u8; TEXT],
+    signals: &SignalLines,
+    old: &[i64],
+    new: &[i64],
+    page: usize,
+) -> usize
+    requires few { length signals.now ≤ ALL_ELEMENTS }
+    requires old { length old.now ≡ length signals.now }
+    requires new { length new.now ≡ length signals.now }
+    requires within { page * 32 ≤ length signals.now }
+    ensures text { (t : ℕ) → drop result text.new
+        ≡ joined (change_lines signals.now t (changes_within t (page * 32) (page_end page (length signals.now)) old.now new.now)) }
+    ensures room { 22 ≤ result }
+    ensures start { result ≤ 1856 }
+{
+    let start = page * PAGE;
+    let end = page_end(page, old.len());
+    let mut at = TEXT;
+    for turn in 0..end - start {
+        let place = end - 1 - turn;
+        at = change_before(text, at, signals, place, old[place], new[place]);
+    }
+    at
+}
+
 /// Writes the changes of a page at a tick, where `told` is the tick that was told last; and tells that behind them.
 fn put_page<S: Sink>(
-    signals: &[Signal],
+    signals: &SignalLines,
     old: &[i64],
     new: &[i64],
     page: usize,
@@ -35,22 +62,24 @@ fn put_page<S: Sink>(
     requires few { length signals.now ≤ ALL_ELEMENTS }
     requires old { length old.now ≡ length signals.now }
     requires new { length new.now ≡ length signals.now }
-    requires within { page * 64 ≤ length signals.now }
+    requires within { page * 32 ≤ length signals.now }
     ensures written { Writes (S.state out.old) (S.state out.new) (joined
-        (change_lines signals.now told (changes_within tick (page * 64) (page_end page (length signals.now)) old.now new.now))) result }
-    ensures told { IfOk result (λ t. t ≡ told_behind told (changes_within tick (page * 64) (page_end page (length signals.now)) old.now new.now)) }
+        (change_lines signals.now told (changes_within tick (page * 32) (page_end page (length signals.now)) old.now new.now))) result }
+    ensures told { IfOk result (λ t. t ≡ told_behind told (changes_within tick (page * 32) (page_end page (length signals.now)) old.now new.now)) }
 {
-    let end = page_end(page, signals.len());
-    let mut last = told;
-    for at in page * PAGE..end {
-        last = put_change(signals, at, old[at], new[at], last, tick, out)?;
+    let mut text = [0; TEXT];
+    let at = changes_before(&mut text, signals, old, new, page);
+    if at == TEXT {
+        return Ok(told);
     }
-    Ok(last)
+    let start = next_tick_before(&mut text, at, told, tick);
+    out.put(text_from(&text, start))?;
+    Ok(tick)
 }
 
 /// The same, of a page that may not be marked.
 fn put_any_page<S: Sink>(
-    signals: &[Signal],
+    signals: &SignalLines,
     old: &[i64],
     new: &[i64],
     marked: &[bool],
@@ -65,8 +94,8 @@ fn put_any_page<S: Sink>(
     requires marked { AreMarked old.now new.now marked.now }
     requires page { page < length marked.now }
     ensures written { Writes (S.state out.old) (S.state out.new) (joined
-        (change_lines signals.now told (changes_within tick (page * 64) (page_end page (length signals.now)) old.now new.now))) result }
-    ensures told { IfOk result (λ t. t ≡ told_behind told (changes_within tick (page * 64) (page_end page (length signals.now)) old.now new.now)) }
+        (change_lines signals.now told (changes_within tick (page * 32) (page_end page (length signals.now)) old.now new.now))) result }
+    ensures told { IfOk result (λ t. t ≡ told_behind told (changes_within tick (page * 32) (page_end page (length signals.now)) old.now new.now)) }
 {
     if !marked[page] {
         return Ok(told);
@@ -76,7 +105,7 @@ fn put_any_page<S: Sink>(
 
 /// Writes all changes at a tick, where `told` is the tick that was told last.
 pub fn put_changes<S: Sink>(
-    signals: &[Signal],
+    signals: &SignalLines,
     old: &[i64],
     new: &[i64],
     marked: &[bool],
@@ -101,8 +130,8 @@ pub fn put_changes<S: Sink>(
 fn settle_page(old: &mut [i64], new: &[i64], page: usize)
     requires few { length old.old ≤ ALL_ELEMENTS }
     requires one_each { length new.now ≡ length old.old }
-    requires within { page * 64 ≤ length old.old }
-    ensures { old.new ≡ settled old.old new.now (page * 64) (page_end page (length old.old)) }
+    requires within { page * 32 ≤ length old.old }
+    ensures { old.new ≡ settled old.old new.now (page * 32) (page_end page (length old.old)) }
 {
     let start = page * PAGE;
     let end = page_end(page, old.len());

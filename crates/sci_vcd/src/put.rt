@@ -1,18 +1,22 @@
 // Putting the lines of a dump.
 
-ghost use Rattle.std.specs.Prelude.{◌≡◌, ◌≤◌, ◌<◌, ◌+◌, length, IfOk};
+ghost use Rattle.std.specs.Prelude.{◌≡◌, ℕ, ◌≤◌, ◌<◌, ◌+◌, ◌++◌, drop, length, slice_index_or};
 ghost use Rattle.sci_base.specs.declared.limits.TheConstants.{ALL_ELEMENTS};
 ghost use Rattle.sci_io.specs.Taken.{Writes};
+ghost use Rattle.sci_vcd.specs.Waveforms.{no_signal};
 ghost use Rattle.sci_vcd.specs.Spelling as spelling;
 ghost use Rattle.sci_text.specs.Lines.{with_lf, joined};
 ghost use Rattle.sci_vcd.specs.Spelling.{value_lines, head_part, next_tick, change_lines};
-ghost use Rattle.sci_vcd.specs.Writing.{change_here, told_behind};
+ghost use Rattle.sci_vcd.specs.Writing.{change_here};
 
 use crate::Signal;
 use crate::machine::is_equal;
-use crate::spell::{ROOM, line_from, signal_line, tick_line, value_line};
-use sci_base::Ty;
+use crate::signal_lines::SignalLines;
+use crate::spell::{ROOM, line_from, signal_line, tick_before};
 use sci_io::{Failed, Sink};
+
+/// The room for the lines of a page: 32 of at most 57 bytes, and that of a tick of at most 22.
+pub const TEXT: usize = 1856;
 
 fn put_signal<S: Sink>(number: u32, signal: &Signal, out: &mut S) -> Result<(), Failed>
     ensures { Writes (S.state out.old) (S.state out.new) (with_lf (spelling.signal_line number signal.now)) result }
@@ -22,20 +26,18 @@ fn put_signal<S: Sink>(number: u32, signal: &Signal, out: &mut S) -> Result<(), 
     out.put(line_from(&line, at))
 }
 
-fn put_value<S: Sink>(ty: Ty, number: u32, value: i64, out: &mut S) -> Result<(), Failed>
-    ensures { Writes (S.state out.old) (S.state out.new) (with_lf (spelling.value_line ty number value)) result }
+fn put_value<S: Sink>(
+    signals: &SignalLines,
+    at: usize,
+    value: i64,
+    out: &mut S,
+) -> Result<(), Failed>
+    requires { at < length signals.now }
+    ensures { Writes (S.state out.old) (S.state out.new) (with_lf (spelling.value_line (slice_index_or signals.now at no_signal).ty (at + 1) value)) result }
 {
     let mut line = [0; ROOM];
-    let at = value_line(&mut line, ty, number, value);
-    out.put(line_from(&line, at))
-}
-
-fn put_tick<S: Sink>(tick: u64, out: &mut S) -> Result<(), Failed>
-    ensures { Writes (S.state out.old) (S.state out.new) (with_lf (spelling.tick_line tick)) result }
-{
-    let mut line = [0; ROOM];
-    let at = tick_line(&mut line, tick);
-    out.put(line_from(&line, at))
+    let start = signals.value_line(&mut line, at, value);
+    out.put(line_from(&line, start))
 }
 
 fn put_signals<S: Sink>(signals: &[Signal], out: &mut S) -> Result<(), Failed>
@@ -48,59 +50,68 @@ fn put_signals<S: Sink>(signals: &[Signal], out: &mut S) -> Result<(), Failed>
     Ok(())
 }
 
-fn put_values<S: Sink>(signals: &[Signal], values: &[i64], out: &mut S) -> Result<(), Failed>
-    requires few { length signals.now ≤ ALL_ELEMENTS }
-    requires one_each { length values.now ≡ length signals.now }
+fn put_values<S: Sink>(signals: &SignalLines, values: &[i64], out: &mut S) -> Result<(), Failed>
+    requires { length values.now ≡ length signals.now }
     ensures { Writes (S.state out.old) (S.state out.new) (joined (value_lines signals.now 1 values.now)) result }
 {
-    for at in 0..signals.len() {
-        put_value(signals[at].ty, at as u32 + 1, values[at], out)?;
+    for at in 0..values.len() {
+        put_value(signals, at, values[at], out)?;
     }
     Ok(())
 }
 
 /// All that stands before the changes: the signals, and their first values.
-pub fn put_head<S: Sink>(signals: &[Signal], values: &[i64], out: &mut S) -> Result<(), Failed>
+pub fn put_head<S: Sink>(signals: &SignalLines, values: &[i64], out: &mut S) -> Result<(), Failed>
     requires few { length signals.now ≤ ALL_ELEMENTS }
     requires one_each { length values.now ≡ length signals.now }
     ensures { Writes (S.state out.old) (S.state out.new) (joined (head_part signals.now values.now)) result }
 {
     out.put(b"$timescale 1 ns $end\n$scope module scicos $end\n")?;
-    put_signals(signals, out)?;
+    put_signals(signals.signals(), out)?;
     out.put(b"$upscope $end\n$enddefinitions $end\n#0\n$dumpvars\n")?;
     put_values(signals, values, out)?;
     out.put(b"$end\n")
 }
 
-/// The line of a tick, but where it is told already.
-fn put_next_tick<S: Sink>(told: u64, tick: u64, out: &mut S) -> Result<(), Failed>
-    ensures { Writes (S.state out.old) (S.state out.new) (joined (next_tick told tick)) result }
+/// The line of a tick, but where it is told already, before the bytes from `end` on.
+pub fn next_tick_before(text: &mut [u8; TEXT], end: usize, told: u64, tick: u64) -> usize
+    requires room { 22 ≤ end }
+    requires within { end ≤ 1856 }
+    ensures text { drop result text.new ≡ joined (next_tick told tick) ++ drop end text.old }
+    ensures start { result ≤ end }
 {
     if told == tick {
-        return Ok(());
+        return end;
     }
-    put_tick(tick, out)
+    tick_before(text, end, tick)
 }
 
-/// The change of the signal at a place, counted from 0, at a tick, where `told` is the tick that was told last; and that behind it.
-pub fn put_change<S: Sink>(
-    signals: &[Signal],
+/// The line of the change of the signal at a place, counted from 0, at a tick that is told, before the bytes from `end` on.
+pub fn change_before(
+    text: &mut [u8; TEXT],
+    end: usize,
+    signals: &SignalLines,
     at: usize,
     old: i64,
     new: i64,
-    told: u64,
-    tick: u64,
-    out: &mut S,
-) -> Result<u64, Failed>
-    requires few { length signals.now ≤ ALL_ELEMENTS }
-    requires within { at < length signals.now }
-    ensures written { Writes (S.state out.old) (S.state out.new) (joined (change_lines signals.now told (change_here tick (at + 1) old new))) result }
-    ensures told { IfOk result (λ t. t ≡ told_behind told (change_here tick (at + 1) old new)) }
+) -> usize
+    requires place { at < length signals.now }
+    requires room { 57 ≤ end }
+    requires within { end ≤ 1856 }
+    ensures text { (t : ℕ) → drop result text.new ≡ joined (change_lines signals.now t (change_here t (at + 1) old new)) ++ drop end text.old }
+    ensures room { end ≤ result + 57 }
+    ensures start { result ≤ end }
 {
     if is_equal(old, new) {
-        return Ok(told);
+        return end;
     }
-    put_next_tick(told, tick, out)?;
-    put_value(signals[at].ty, at as u32 + 1, new, out)?;
-    Ok(tick)
+    signals.value_before(text, end, at, new)
+}
+
+/// What stands from a place on.
+pub fn text_from(text: &[u8; TEXT], start: usize) -> &[u8]
+    requires { start ≤ 1856 }
+    ensures { result.now ≡ drop start text.now }
+{
+    &text[start..]
 }

@@ -3,13 +3,12 @@
 ghost use Rattle.std.specs.Prelude.{◌≡◌, ◌≤◌, ◌<◌, ◌^◌, ◌+◌, ◌*◌, ◌++◌, ◌∷◌, codes, drop, length};
 ghost use Rattle.std.specs.Fmt.{decimal};
 ghost use Rattle.sci_io.specs.Taken.{Writes};
-ghost use Rattle.sci_vcd.specs.Spelling.{binary, type_text, name_text, signal_line, value_line, tick_line};
+ghost use Rattle.sci_vcd.specs.Spelling.{binary, type_text, name_text, signal_line, tick_line};
 ghost use Rattle.sci_text.specs.Lines.{with_lf};
 
 use crate::Signal;
 use itoa::write_digits;
 use sci_base::Ty;
-use sci_base::bits::pattern;
 use sci_io::{Failed, Sink};
 
 /// The room for a line. The longest has three words and four numbers of 20 characters.
@@ -27,9 +26,9 @@ pub fn end_line(line: &mut [u8; ROOM]) -> usize
 }
 
 /// A byte.
-pub fn byte_before(line: &mut [u8; ROOM], end: usize, byte: u8) -> usize
+pub fn byte_before(line: &mut [u8], end: usize, byte: u8) -> usize
     requires room { 1 ≤ end }
-    requires within { end ≤ 128 }
+    requires within { end ≤ length line.old }
     ensures text { drop result line.new ≡ byte ∷ drop end line.old }
     ensures start { result + 1 ≡ end }
 {
@@ -38,9 +37,9 @@ pub fn byte_before(line: &mut [u8; ROOM], end: usize, byte: u8) -> usize
 }
 
 /// The digits of a number, at most 20.
-pub fn digits_before(line: &mut [u8; ROOM], end: usize, n: u64) -> usize
+pub fn digits_before(line: &mut [u8], end: usize, n: u64) -> usize
     requires room { 20 ≤ end }
-    requires within { end ≤ 128 }
+    requires within { end ≤ length line.old }
     ensures text { drop result line.new ≡ decimal n ++ drop end line.old }
     ensures room { end ≤ result + 20 }
     ensures within { result ≤ end }
@@ -52,9 +51,9 @@ pub fn digits_before(line: &mut [u8; ROOM], end: usize, n: u64) -> usize
 }
 
 /// A word.
-pub fn word_before(line: &mut [u8; ROOM], end: usize, word: &str) -> usize
+pub fn word_before(line: &mut [u8], end: usize, word: &str) -> usize
     requires room { length word.now ≤ end }
-    requires within { end ≤ 128 }
+    requires within { end ≤ length line.old }
     ensures text { drop result line.new ≡ word.now ++ drop end line.old }
     ensures start { result + length word.now ≡ end }
 {
@@ -88,9 +87,9 @@ fn four_digits(n: u64) -> [u8; 4]
 }
 
 /// Four digits.
-fn four_before(line: &mut [u8; ROOM], end: usize, digits: [u8; 4]) -> usize
+fn four_before(line: &mut [u8], end: usize, digits: [u8; 4]) -> usize
     requires room { 4 ≤ end }
-    requires within { end ≤ 128 }
+    requires within { end ≤ length line.old }
     ensures text { drop result line.new ≡ digits ++ drop end line.old }
     ensures start { result + 4 ≡ end }
 {
@@ -99,27 +98,40 @@ fn four_before(line: &mut [u8; ROOM], end: usize, digits: [u8; 4]) -> usize
     start
 }
 
-/// The last binary digits of a number, in so many groups of four.
-pub fn bits_before(line: &mut [u8; ROOM], end: usize, groups: u32, bits: u64) -> usize
-    requires room { 32 ≤ end }
-    requires within { end ≤ 128 }
-    requires narrow { groups ≤ 8 }
-    ensures text { drop result line.new ≡ binary (4 * groups) bits ++ drop end line.old }
-    ensures start { result + 4 * groups ≡ end }
+/// Puts the last eight binary digits of a number into a text. The answer is 0, where they begin.
+fn eight_into(text: &mut [u8; 8], n: u64) -> usize
+    ensures text { text.new ≡ binary 8 n }
+    ensures start { result ≡ 0 }
 {
-    let mut at = end;
-    let mut left = bits;
-    for _ in 0..groups {
-        at = four_before(line, at, four_digits(left));
-        left /= 16;
-    }
-    at
+    let at = four_before(text, 8, four_digits(n));
+    four_before(text, at, four_digits(n / 16))
+}
+
+/// The last eight binary digits of a number.
+pub fn eight_digits(n: u64) -> [u8; 8]
+    ensures { result ≡ binary 8 n }
+{
+    let mut text = [0; 8];
+    let _start = eight_into(&mut text, n);
+    text
+}
+
+/// Eight digits.
+pub fn eight_before(line: &mut [u8], end: usize, digits: &[u8; 8]) -> usize
+    requires room { 8 ≤ end }
+    requires within { end ≤ length line.old }
+    ensures text { drop result line.new ≡ digits.now ++ drop end line.old }
+    ensures start { result + 8 ≡ end }
+{
+    let start = end - 8;
+    line[start..end].copy_from_slice(digits);
+    start
 }
 
 /// A signal's name.
-pub fn name_before(line: &mut [u8; ROOM], end: usize, signal: &Signal) -> usize
+pub fn name_before(line: &mut [u8], end: usize, signal: &Signal) -> usize
     requires room { 63 ≤ end }
-    requires within { end ≤ 128 }
+    requires within { end ≤ length line.old }
     ensures text { drop result line.new ≡ name_text signal.now ++ drop end line.old }
     ensures room { end ≤ result + 63 }
     ensures within { result ≤ end }
@@ -164,25 +176,14 @@ pub fn signal_line(line: &mut [u8; ROOM], number: u32, signal: &Signal) -> usize
     word_before(line, at, "$var ")
 }
 
-/// The line of a signal's value, by its type and number.
-#[tactic(auto, using(crate::proofs::Bits::width_fours, crate::proofs::Bits::width_most))]
-pub fn value_line(line: &mut [u8; ROOM], ty: Ty, number: u32, value: i64) -> usize
-    ensures text { drop result line.new ≡ with_lf (value_line ty number value) }
-    ensures within { result < 128 }
+/// The line of a tick, before the bytes from `end` on.
+pub fn tick_before(line: &mut [u8], end: usize, tick: u64) -> usize
+    requires room { 22 ≤ end }
+    requires within { end ≤ length line.old }
+    ensures text { drop result line.new ≡ with_lf (tick_line tick) ++ drop end line.old }
+    ensures start { result < end }
 {
-    let at = end_line(line);
-    let at = digits_before(line, at, u64::from(number));
-    let at = word_before(line, at, " v");
-    let at = bits_before(line, at, ty.width() / 4, pattern(ty, value));
-    byte_before(line, at, b'b')
-}
-
-/// The line of a tick.
-pub fn tick_line(line: &mut [u8; ROOM], tick: u64) -> usize
-    ensures text { drop result line.new ≡ with_lf (tick_line tick) }
-    ensures within { result < 128 }
-{
-    let at = end_line(line);
+    let at = byte_before(line, end, b'\n');
     let at = digits_before(line, at, tick);
     byte_before(line, at, b'#')
 }

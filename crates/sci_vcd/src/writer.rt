@@ -7,10 +7,10 @@ ghost use Rattle.sci_io.specs.Taken.{Writes};
 ghost use Rattle.sci_vcd.specs.Waveforms.{type_of};
 ghost use Rattle.sci_vcd.specs.Writing.{IsWriting, IsOutset, unwritten, MayClose, with_note, closed_at, tick_text};
 
-use crate::Signal;
 use crate::net_signals::net_signals;
 use crate::pages::{PAGE, put_changes, settle};
 use crate::put::put_head;
+use crate::signal_lines::SignalLines;
 use sci_base::NoMemory;
 use sci_io::{Failed, Sink};
 use sci_net::Net;
@@ -20,7 +20,7 @@ use std::marker::Model;
 /// Writes a dump tick by tick, from the values that are noted. Signals are numbered from 1 on, and have the value 0 until another is noted.
 #[derive(Drop)]
 pub struct VcdOut {
-    signals: Vec<Signal>,
+    signals: SignalLines,
     starts: Vec<u32>,
     written: Vec<i64>,
     noted: Vec<i64>,
@@ -34,10 +34,10 @@ impl Model for VcdOut {
 
     ghost Value = { Writing };
 
-    ghost view = { λ o. record { signals = o.signals.items; starts = o.starts.items; written = o.written.items; noted = o.noted.items; closed = o.closed } };
+    ghost view = { λ o. record { signals = o.signals; starts = o.starts.items; written = o.written.items; noted = o.noted.items; closed = o.closed } };
 
     ghost invariant = { λ o. IsKept (record {
-      signals = o.signals.items;
+      signals = o.signals;
       starts = o.starts.items;
       written = o.written.items;
       noted = o.noted.items;
@@ -54,9 +54,11 @@ impl VcdOut {
         net.well_formed();
         let found = net_signals(alloc, net)?;
         let count = found.signals.len();
+        let starts = found.starts;
+        let signals = SignalLines::new(alloc, found.signals)?;
         Ok(VcdOut {
-            signals: found.signals,
-            starts: found.starts,
+            signals,
+            starts,
             written: vec![in alloc; 0; count]?,
             noted: vec![in alloc; 0; count]?,
             marked: vec![in alloc; false; count / PAGE + 1]?,
@@ -68,7 +70,7 @@ impl VcdOut {
     pub fn well_formed(&self)
         ensures { IsWriting self.now }
     {
-        let _signals = self.signals.len();
+        let _starts = self.starts.len();
     }
 
     /// How many blocks the net has, at most 2,048.

@@ -1,18 +1,20 @@
-use Rattle.std.proofs.Common.{rules, ℕ, ◌+◌, take, get_or, ap, ◌∙◌, arith}
-use Rattle.std.proofs.lemmas.List.{get_or_default}
-use Rattle.sci_agree.specs.Lines.{lines_of}
-use Rattle.sci_agree.proofs.Taking.{few_within, lines_next}
+use Rattle.std.proofs.Common.{rules, ◌≡◌, length, arith}
+use Rattle.sci_agree.proofs.Lines.{lines-within}
+use Rattle.sci_agree.proofs.Taking.{counted_on}
 use Rattle.sci_agree.proofs.comparing.lines_within.Goals as goal
 
 pub overflow_add-lines : goal.overflow_add-lines
 overflow_add-lines c =
-    let few = few_within c.loop-byte.byte-index c.args.piece.now (omega (arith, c.loop-byte-test.true)) in search (rules, few)
+    let halves = c.split_at.ensures in
+    let on = counted_on c.args.piece.now c.loop-rest.rest.now c.split_at.result.0.now c.split_at.result.1.now c.min.result c.loop-rest.lines c.front_lines-few.result halves.front halves.back c.loop-rest.invariant c.front_lines-few.ensures in
+    let most = lines-within c.args.piece.now in search (rules, on, most)
 
-pub loop-byte-preserved : goal.loop-byte-preserved
-loop-byte-preserved c =
-    let piece = c.args.piece.now in
-    let i = c.loop-byte.byte-index in
-    let b : ℕ = get_or piece i 0 in
-    ap (λ (n : ℕ). n + c.lines_ended-lines.result) c.loop-byte.invariant
-    ∙ (ap (λ (n : ℕ). lines_of (take i piece) + n) c.lines_ended-lines.ensures.value
-    ∙ lines_next piece i b c.loop-byte-test.true (get_or_default piece i 0 b c.loop-byte-test.true))
+pub loop-rest-preserved : goal.loop-rest-preserved
+loop-rest-preserved c =
+    let halves = c.split_at.ensures in
+    counted_on c.args.piece.now c.loop-rest.rest.now c.split_at.result.0.now c.split_at.result.1.now c.min.result c.loop-rest.lines c.front_lines-few.result halves.front halves.back c.loop-rest.invariant c.front_lines-few.ensures
+
+pub returns : goal.returns
+returns c =
+    let none : length c.loop-rest.rest.now ≡ 0 = search rules in
+    let few = lines-within c.loop-rest.rest.now in omega (arith, none, few, c.loop-rest.invariant)

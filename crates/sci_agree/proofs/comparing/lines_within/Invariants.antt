@@ -1,7 +1,10 @@
-use Rattle.std.proofs.Common.{◌≡◌, take}
+use Rattle.std.proofs.Common.{◌≡◌, ◌+◌, length}
 use Rattle.sci_agree.specs.Lines.{lines_of}
 use Rattle.sci_agree.proofs.comparing.lines_within.Given as goal
 
--- the lines that the bytes so far end
-abbrev pub invariant-loop-byte : goal.invariant-loop-byte
-invariant-loop-byte l = l.lines ≡ lines_of (take l.byte-index l.piece)
+-- the lines that are counted, and those that what is left ends
+abbrev pub invariant-loop-rest : goal.invariant-loop-rest
+invariant-loop-rest l = l.lines + lines_of l.rest ≡ lines_of l.piece
+
+abbrev pub decreases-loop-rest : goal.decreases-loop-rest
+decreases-loop-rest l = length l.rest

@@ -1,4 +1,5 @@
-use Rattle.std.proofs.Common.{arith, ◌≡◌, ◌<◌, ◌++◌, map, length, ap, ◌∙◌}
+use Rattle.std.proofs.Common.{arith, ◌≡◌, ◌<◌, ◌++◌, Bool, List, [], map, length, slice_index_or, ap, ◌∙◌}
+use Rattle.sci_reaction.specs.Schedule.{Entry}
 use Rattle.c_ast.specs.View.{function_of}
 use Rattle.sci_net.specs.Sources.{sources_of, source_of}
 use Rattle.sci_sched.specs.Plain.{rows_of}
@@ -17,12 +18,16 @@ pub loop-source-init : goal.loop-source-init
 loop-source-init c = (none_yet _, omega arith)
 
 pub loop-source-preserved : goal.loop-source-preserved
-loop-source-preserved c = (
-  function_more (source_function c.args.net.now (rows_of c.args.schedule.now)) c.loop-source.source _ _ _ _ c.in_ok-push.ensures.items
-      (c.in_ok-source_function.ensures ∙ ap (λ row. let f : Function = record { name = source_name c.loop-source.source; body = row_text c.args.net.now (source_of c.args.net.now c.loop-source.source) row } in f) c.row-row.ensures)
-      c.loop-source.invariant.0,
-  omega arith,
-)
+loop-source-preserved c =
+    let n = c.args.net.now in
+    let rows = rows_of c.args.schedule.now in
+    let i = c.loop-source.source in
+    let reacts = λ (t : Bool) (row : List Entry). let f : Function = record { name = source_name i; body = row_text t n (source_of n i) row } in f in (
+      function_more (source_function n rows) i _ _ _ _ c.in_ok-push.ensures.items
+          (c.in_ok-source_function.ensures ∙ ap (reacts c.args.own) c.row-row.ensures ∙ ap (λ t. reacts t (slice_index_or rows i [])) c.requires.own)
+          c.loop-source.invariant.0,
+      omega arith,
+    )
 
 pub returns : goal.returns
 returns c =

@@ -12,10 +12,10 @@ push_entry-requires-clause-named c =
 
 pub loop-entry-preserved : goal.loop-entry-preserved
 loop-entry-preserved c =
-    texts_pushed (entry_text c.args.net.now) entry_of c.args.row.now c.loop-entry.entry-index _ _ _ _
+    texts_pushed (entry_text c.args.own c.args.net.now) entry_of c.args.row.now c.loop-entry.entry-index _ _ _ _
     (drop_item c.args.row.now c.loop-entry.entry-index c.entry-item.result c.loop-entry-test.true c.entry-item.is) c.in_ok-push_entry.ensures c.loop-entry.invariant
 
 pub returns : goal.returns
 returns c =
     let most : length c.args.row.now ≤ c.loop-entry.entry-index = omega arith in
-    all_pushed (entry_text c.args.net.now) entry_of c.args.row.now c.loop-entry.entry-index _ _ most c.loop-entry.invariant
+    all_pushed (entry_text c.args.own c.args.net.now) entry_of c.args.row.now c.loop-entry.entry-index _ _ most c.loop-entry.invariant

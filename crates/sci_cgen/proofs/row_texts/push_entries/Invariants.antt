@@ -8,5 +8,5 @@ use Rattle.sci_cgen.proofs.row_texts.push_entries.Given as goal
 
 abbrev pub invariant-loop-entry : goal.invariant-loop-entry
 invariant-loop-entry l =
-    joined (statements_of l.out.items) (texts (entry_text l.net) (row_of (drop l.entry-index l.row)))
-    ≡ joined (statements_of l.fn.out.items) (texts (entry_text l.net) (row_of l.row))
+    joined (statements_of l.out.items) (texts (entry_text l.own l.net) (row_of (drop l.entry-index l.row)))
+    ≡ joined (statements_of l.fn.out.items) (texts (entry_text l.own l.net) (row_of l.row))

@@ -1,9 +1,10 @@
 use Rattle.std.proofs.Common.{ap, ◌∙◌}
-use Rattle.c_ast.specs.View.{statements_of}
+use Rattle.sci_sched.specs.Plain.{row_of}
 use Rattle.c_steps.specs.Texts.{joined}
-use Rattle.sci_cgen.proofs.RowLemmas.{joined_new}
+use Rattle.sci_cgen.specs.Program.{following_text}
 use Rattle.sci_cgen.proofs.row_texts.row_text.Goals as goal
 
 pub returns : goal.returns
 returns c =
-    joined_new _ _ _ _ _ c.new-out.ensures.items (c.in_ok-push.ensures ∙ ap (joined (statements_of c.new-out.result.items)) c.header.ensures) c.in_ok-push_entries.ensures
+    c.in_ok-push_following.ensures
+    ∙ ap (λ t. joined t (following_text c.args.own c.args.net.now (row_of c.args.row.now))) c.in_ok-out.ensures

@@ -1,13 +1,17 @@
-use Rattle.std.proofs.Common.{pos, ap, ◌∙◌}
+use Rattle.std.proofs.Common.{arith, pos, not, ap, ◌∙◌}
 use Rattle.c_ast.specs.Syntax.{num, var, neg, scalar, cell, set, call, done, next}
 use Rattle.c_ast.specs.View.{statements_of}
 use Rattle.c_steps.specs.Texts.{joined}
 use Rattle.sci_due.specs.Due.{best, dates, now}
 use Rattle.sci_due.specs.Texts.{at_best}
-use Rattle.sci_cgen.specs.Names.{clear_name, settle_name, choose_name}
-use Rattle.sci_cgen.specs.Program.{one, each_port}
-use Rattle.sci_cgen.proofs.RunLemmas.{follows, behind, reacting}
+use Rattle.sci_cgen.specs.Names.{clear_name, choose_name}
+use Rattle.sci_cgen.specs.Program.{one, text_where, port_count, react_step, react_deep}
+use Rattle.sci_cgen.proofs.RunLemmas.{follows, behind}
+use Rattle.sci_cgen.proofs.Sizes.{few_ports}
 use Rattle.sci_cgen.proofs.run_texts.push_fire.Goals as goal
+
+pub react-requires-clause-few : goal.react-requires-clause-few
+react-requires-clause-few c = let few = few_ports c.args.net.now c.well_formed-2.ensures in omega (arith, few, c.port_count.ensures)
 
 pub returns : goal.returns
 returns c =
@@ -15,12 +19,10 @@ returns c =
     (c.in_ok-push.ensures ∙ ap (λ s. joined (statements_of c.args.out.now.items) (next s done)) c.in_ok-dated.ensures) in
     let free = follows (statements_of c.push.new.out.items) (one (set (cell dates (var best)) (neg (num (pos 1)))))
     (c.in_ok-push-2.ensures ∙ ap (λ s. joined (statements_of c.push.new.out.items) (next s done)) c.in_ok-freed.ensures) in
-    let clear = follows (statements_of c.push-2.new.out.items) (one (call clear_name))
-    (c.in_ok-push-3.ensures ∙ ap (λ x. joined (statements_of c.push-2.new.out.items) (next (call x) done)) c.clear.ensures) in
-    let react = follows (statements_of c.push-3.new.out.items)
-    (each_port reacting c.args.net.now) c.in_ok-push_sources.ensures in
-    let settle = follows (statements_of c.push_sources.new.out.items) (one (call settle_name))
-    (c.in_ok-push-4.ensures ∙ ap (λ x. joined (statements_of c.push_sources.new.out.items) (next (call x) done)) c.settle.ensures) in
-    let choose = follows (statements_of c.push-4.new.out.items) (one (call choose_name))
-    (c.in_ok-push-5.ensures ∙ ap (λ x. joined (statements_of c.push-4.new.out.items) (next (call x) done)) c.choose.ensures) in
-    (behind date (behind free (behind clear (behind react (behind settle choose))))).is
+    let before = follows (statements_of c.push-2.new.out.items) (text_where (not c.args.own) (one (call clear_name))) c.in_ok-push_before.ensures in
+    let react = follows (statements_of c.push_before.new.out.items) (one (react_step react_deep 0 (port_count c.args.net.now)))
+    (c.in_ok-push-3.ensures ∙ ap (λ s. joined (statements_of c.push_before.new.out.items) (next s done))
+    (c.in_ok-react.ensures ∙ ap (react_step react_deep 0) c.port_count.ensures)) in
+    let choose = follows (statements_of c.push-3.new.out.items) (one (call choose_name))
+    (c.in_ok-push-4.ensures ∙ ap (λ x. joined (statements_of c.push-3.new.out.items) (next (call x) done)) c.choose.ensures) in
+    (behind date (behind free (behind before (behind react choose)))).is

@@ -4,7 +4,7 @@ use Rattle.c_ast.specs.Syntax.{call, loop, tell, finish, done, next}
 use Rattle.c_ast.specs.View.{statements_of}
 use Rattle.c_steps.specs.Texts.{joined}
 use Rattle.sci_cgen.specs.Names.{limit_name, fired_name, event_name}
-use Rattle.sci_cgen.specs.Program.{natural, one, halted_text}
+use Rattle.sci_cgen.specs.Program.{natural, one, halted_or}
 use Rattle.sci_cgen.proofs.RunLemmas.{follows, behind}
 use Rattle.sci_cgen.proofs.run_texts.push_run.Goals as goal
 
@@ -12,7 +12,5 @@ pub returns : goal.returns
 returns c =
     let turns = follows (statements_of c.args.out.now.items) (one (loop fired_name (bounds.Var limit_name) (one (call event_name))))
     (c.in_ok-push.ensures ∙ ap (λ s. joined (statements_of c.args.out.now.items) (next s done)) c.in_ok-turns.ensures) in
-    let halted = follows (statements_of c.push.new.out.items) (halted_text c.args.net.now) c.in_ok-push_halted.ensures in
-    let finished = follows (statements_of c.push_halted.new.out.items) (one (tell (finish (natural 1))))
-    (c.in_ok-push-2.ensures ∙ ap (λ s. joined (statements_of c.push_halted.new.out.items) (next s done)) c.finish.ensures) in
-    (behind turns (behind halted finished)).is
+    let ended = follows (statements_of c.push.new.out.items) (halted_or c.args.net.now (one (tell (finish (natural 1))))) c.in_ok-push_end.ensures in
+    (behind turns ended).is

@@ -2,7 +2,7 @@ use Rattle.std.proofs.Common.{ap, ◌∙◌}
 use Rattle.c_ast.specs.Syntax.{scalar, ask, limit, call, done, next}
 use Rattle.c_ast.specs.View.{statements_of}
 use Rattle.c_steps.specs.Texts.{joined}
-use Rattle.sci_cgen.specs.Names.{limit_name, source_name, settle_name}
+use Rattle.sci_cgen.specs.Names.{limit_name, source_name}
 use Rattle.sci_cgen.specs.Program.{one, first_text}
 use Rattle.sci_cgen.proofs.RunLemmas.{follows, behind}
 use Rattle.sci_cgen.proofs.run_texts.push_start.Goals as goal
@@ -13,7 +13,5 @@ returns c =
     (c.in_ok-push.ensures ∙ ap (λ x. joined (statements_of c.args.out.now.items) (next (ask (scalar x) limit) done)) c.limit.ensures) in
     let start = follows (statements_of c.push.new.out.items) (one (call (source_name 0)))
     (c.in_ok-push-2.ensures ∙ ap (λ x. joined (statements_of c.push.new.out.items) (next (call x) done)) c.source_function.ensures) in
-    let settle = follows (statements_of c.push-2.new.out.items) (one (call settle_name))
-    (c.in_ok-push-3.ensures ∙ ap (λ x. joined (statements_of c.push-2.new.out.items) (next (call x) done)) c.settle.ensures) in
-    let first = follows (statements_of c.push-3.new.out.items) (first_text c.args.net.now) c.in_ok-push_first.ensures in
-    (behind bound (behind start (behind settle first))).is
+    let first = follows (statements_of c.push-2.new.out.items) (first_text c.args.net.now) c.in_ok-push_first.ensures in
+    (behind bound (behind start first)).is

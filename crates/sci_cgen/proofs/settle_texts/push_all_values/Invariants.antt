@@ -3,10 +3,11 @@ use Rattle.std.proofs.Common.{◌≡◌, ◌≤◌, suc, length}
 use Rattle.c_ast.specs.View.{statements_of}
 use Rattle.c_steps.specs.Texts.{joined, upto}
 use Rattle.sci_cgen.specs.Program.{values_shown}
+use Rattle.sci_cgen.specs.Built.{takes}
 use Rattle.sci_cgen.proofs.settle_texts.push_all_values.Given as goal
 
 abbrev pub invariant-loop-at : goal.invariant-loop-at
 invariant-loop-at l = record {
-  so_far : statements_of l.out.items ≡ joined (statements_of l.fn.out.items) (upto (λ k. values_shown l.net (suc k)) l.at);
+  so_far : statements_of l.out.items ≡ joined (statements_of l.fn.out.items) (upto (λ k. values_shown l.net (takes l.taking) (suc k)) l.at);
   within : l.at ≤ length l.net.specs;
 }

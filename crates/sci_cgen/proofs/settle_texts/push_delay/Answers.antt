@@ -1,4 +1,5 @@
 use Rattle.std.proofs.Common.{sym, ◌∙◌}
+use Rattle.sci_cgen.specs.Built.{takes}
 use Rattle.sci_cgen.proofs.SettleLemmas.{port_source, start_absent}
 use Rattle.sci_cgen.proofs.settle_texts.push_delay.Goals as goal
 
@@ -7,4 +8,4 @@ push_port_delay-requires-clause-port c =
     port_source c.args.net.now c.in-Port.q c.args.source c.requires.least c.requires.most (sym c.source.ensures ∙ c.in-Port.is)
 
 pub returns-in-Start : goal.returns-in-Start
-returns-in-Start c = start_absent c.args.net.now c.args.source _ _ (sym c.source.ensures ∙ c.in-Start.is)
+returns-in-Start c = start_absent c.args.net.now (takes c.args.taking.now) c.args.source _ _ (sym c.source.ensures ∙ c.in-Start.is)

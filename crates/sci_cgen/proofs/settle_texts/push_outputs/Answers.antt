@@ -9,7 +9,7 @@ loop-port-preserved c =
     let more : c.loop-port.port < length c.args.outs.now = omega arith in
     let is : c.elements-count.result ≡ elements (port_at c.args.outs.now c.loop-port.port) = c.elements-count.ensures ∙ ap elements c.get.ensures in
     record {
-      shown = output_done c.args.block c.loop-port.place c.loop-port.port c.elements-count.result c.args.outs.now _ _ _ more is c.in_ok-push_elements.ensures
+      shown = output_done c.args.block c.loop-port.place c.loop-port.port c.elements-count.result c.args.outs.now _ _ _ more is c.in_ok-push_output.ensures
           c.loop-port.invariant.shown;
       places = omega (arith, total_step c.args.outs.now c.loop-port.port more, is, c.loop-port.invariant.places);
     }

@@ -1,6 +1,7 @@
 use Rattle.std.proofs.Common.{arith, ◌≡◌, suc, length, sym}
 use Rattle.sci_cgen_blocks.proofs.Written.{joined_done}
 use Rattle.sci_cgen.specs.Program.{state_text}
+use Rattle.sci_cgen.specs.Built.{takes}
 use Rattle.sci_cgen.proofs.SettleLemmas.{each_turn, each_done}
 use Rattle.sci_cgen.proofs.settle_texts.push_states.Goals as goal
 
@@ -9,11 +10,11 @@ loop-at-init c = record { so_far = sym (joined_done _); within = omega arith }
 
 pub loop-at-preserved : goal.loop-at-preserved
 loop-at-preserved c = record {
-  so_far = each_turn (state_text c.args.net.now) c.loop-at.at _ _ _ c.loop-at.invariant.so_far c.in_ok-push_state.ensures;
+  so_far = each_turn (state_text c.args.net.now (takes c.args.taking.now)) c.loop-at.at _ _ _ c.loop-at.invariant.so_far c.in_ok-push_state.ensures;
   within = omega arith;
 }
 
 pub returns : goal.returns
 returns c =
     let all : c.loop-at.at ≡ length c.args.net.now.specs = omega (arith, c.loop-at.invariant.within) in
-    each_done (λ k. state_text c.args.net.now (suc k)) c.loop-at.at _ _ _ all c.loop-at.invariant.so_far
+    each_done (λ k. state_text c.args.net.now (takes c.args.taking.now) (suc k)) c.loop-at.at _ _ _ all c.loop-at.invariant.so_far

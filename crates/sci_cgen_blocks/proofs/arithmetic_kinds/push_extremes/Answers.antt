@@ -6,4 +6,4 @@ use Rattle.sci_cgen_blocks.proofs.arithmetic_kinds.push_extremes.Goals as goal
 pub loop-port-preserved : goal.loop-port-preserved
 loop-port-preserved c =
     let lt : c.loop-port.port < c.args.count = omega arith in
-    step_done (extremes c.args.op c.args.e) _ _ _ _ _ _ _ lt c.in_ok-push.ensures.items c.in_ok-compared.ensures (λ m. refl) c.loop-port.invariant
+    step_done (extremes c.args.op) _ _ _ _ _ _ _ lt c.in_ok-push.ensures.items c.in_ok-compared.ensures (λ m. refl) c.loop-port.invariant

@@ -1,20 +1,14 @@
-use Rattle.std.proofs.Common.{arith, ◌≡◌, ap, ◌∙◌}
-use Rattle.c_steps.specs.Texts.{upto}
-use Rattle.sci_cgen_blocks.specs.Terms.{input}
-use Rattle.sci_cgen_blocks.specs.Recipes.{plain}
-use Rattle.sci_cgen_blocks.specs.Texts.{recipe_text}
-use Rattle.sci_cgen_blocks.specs.Plain.{plain_places}
-use Rattle.sci_cgen_blocks.proofs.Written.{pushed, upto_more}
+use Rattle.std.proofs.Common.{◌≡◌, sym, subst, IfOk}
+use Rattle.c_ast.specs.View.{statements_of}
+use Rattle.sci_cgen_blocks.specs.Terms.{Recipe, all}
+use Rattle.sci_cgen_blocks.specs.Texts.{way_text}
+use Rattle.sci_cgen_blocks.specs.Plain.{plain_places, IsRecipeSpelled}
 use Rattle.sci_cgen_blocks.proofs.choice_texts.copied.Goals as goal
 
-pub loop-e-preserved : goal.loop-e-preserved
-loop-e-preserved c = (
-  upto_more (λ e. recipe_text (plain_places c.args.at.now) e (plain (input c.args.port e))) c.loop-e.e _ _
-      (pushed _ _ _ _ c.in_ok-push.ensures.items c.in_ok-assigned.ensures) c.loop-e.invariant.0,
-  omega arith,
-)
+pub all_elements-requires-clause-spelled : goal.all_elements-requires-clause-spelled
+all_elements-requires-clause-spelled c = λ some. subst IsRecipeSpelled (sym c.plain.ensures) (tt, tt)
 
 pub returns : goal.returns
 returns c =
-    let same : c.loop-e.e ≡ c.args.count = omega (arith, c.loop-e.invariant.1) in
-    c.loop-e.invariant.0 ∙ ap (upto (λ e. recipe_text (plain_places c.args.at.now) e (plain (input c.args.port e)))) same
+    subst (λ (r : Recipe). IfOk c.all_elements.result (λ v. statements_of v.items ≡ way_text (plain_places c.args.at.now) c.args.count (all 0 r))) c.plain.ensures
+    c.all_elements.ensures

@@ -7,4 +7,4 @@ use Rattle.sci_cgen_blocks.proofs.logical_kinds.push_bits.Goals as goal
 pub loop-port-preserved : goal.loop-port-preserved
 loop-port-preserved c =
     let lt : c.loop-port.port < c.args.n = omega arith in
-    work_done (counted (bit_term c.args.ty c.args.e)) _ _ _ _ _ _ _ lt c.in_ok-push.ensures.items c.in_ok-bit_counted.ensures (λ m. refl) c.loop-port.invariant
+    work_done (counted (bit_term c.args.ty)) _ _ _ _ _ _ _ lt c.in_ok-push.ensures.items c.in_ok-bit_counted.ensures (λ m. refl) c.loop-port.invariant

@@ -4,7 +4,7 @@ use Rattle.c_ast.specs.Syntax.{num, set, cell}
 use Rattle.c_steps.specs.Texts.{upto}
 use Rattle.sci_cgen_blocks.specs.Terms.{Term, constant}
 use Rattle.sci_cgen_blocks.specs.Recipes.{plain, entry}
-use Rattle.sci_cgen_blocks.specs.Texts.{values, expression, recipe_text}
+use Rattle.sci_cgen_blocks.specs.Texts.{fixed, written, values, expression, recipe_text}
 use Rattle.sci_cgen_blocks.specs.Plain.{plain_places, AreSpelled}
 use Rattle.sci_cgen_blocks.proofs.Written.{pushed, upto_more}
 use Rattle.sci_cgen_blocks.proofs.TableKind.{entry_spelled}
@@ -21,9 +21,9 @@ assigned-requires c =
 pub loop-e-preserved : goal.loop-e-preserved
 loop-e-preserved c =
     let p = plain_places c.args.at.now in (
-      upto_more (λ e. recipe_text p e (plain (constant (entry c.args.s.now c.args.number e)))) c.loop-e.e _ _
+      upto_more (λ e. recipe_text (written p (fixed e)) (plain (constant (entry c.args.s.now c.args.number e)))) c.loop-e.e _ _
           (pushed _ _ _ _ c.in_ok-push.ensures.items
-          (c.in_ok-assigned.ensures ∙ ap (λ (t : Term). set (cell values (num (pos (p.outs + c.loop-e.e)))) (expression p t)) c.entry_term.ensures))
+          (c.in_ok-assigned.ensures ∙ ap (λ (t : Term). set (cell values (num (pos (p.outs + c.loop-e.e)))) (expression (written p (fixed c.loop-e.e)) t)) c.entry_term.ensures))
           c.loop-e.invariant.0,
       omega arith,
     )
@@ -31,4 +31,4 @@ loop-e-preserved c =
 pub returns : goal.returns
 returns c =
     let same : c.loop-e.e ≡ total c.args.s.now.outs = omega (arith, c.loop-e.invariant.1) in
-    c.loop-e.invariant.0 ∙ ap (upto (λ e. recipe_text (plain_places c.args.at.now) e (plain (constant (entry c.args.s.now c.args.number e))))) same
+    c.loop-e.invariant.0 ∙ ap (upto (λ e. recipe_text (written (plain_places c.args.at.now) (fixed e)) (plain (constant (entry c.args.s.now c.args.number e))))) same

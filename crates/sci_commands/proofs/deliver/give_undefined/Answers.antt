@@ -1,5 +1,5 @@
 use Rattle.std.proofs.Common.{rules}
-use Rattle.sci_commands.specs.Answer.{undefined_line}
+use Rattle.sci_commands.specs.RunC.{undefined_line}
 use Rattle.sci_commands.proofs.Giving.{flushed, not_flushed}
 use Rattle.sci_commands.proofs.deliver.give_undefined.Goals as goal
 

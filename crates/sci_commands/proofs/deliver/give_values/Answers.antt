@@ -1,5 +1,5 @@
 use Rattle.std.proofs.Common.{rules}
-use Rattle.sci_commands.specs.Dump.{values_text}
+use Rattle.sci_commands.specs.DumpAt.{values_text}
 use Rattle.sci_commands.proofs.Giving.{flushed, not_flushed}
 use Rattle.sci_commands.proofs.deliver.give_values.Goals as goal
 

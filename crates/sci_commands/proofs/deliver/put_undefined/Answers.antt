@@ -1,5 +1,5 @@
 use Rattle.std.proofs.lemmas.List.{append-nil}
-use Rattle.sci_commands.specs.Answer.{undefined_line}
+use Rattle.sci_commands.specs.RunC.{undefined_line}
 use Rattle.sci_commands.proofs.deliver.put_undefined.Goals as goal
 
 pub returns : goal.returns

@@ -4,11 +4,13 @@ use Rattle.sci_verdict.specs.Verdict.{Plan, Accepts, Breaks}
 use Rattle.sci_verdict.specs.declared.checked.Checked.{Checked}
 use Rattle.sci_commands.specs.Course.{diagram_slot, gives}
 use Rattle.sci_commands.specs.Code.{IsCodeOf}
+use Rattle.sci_commands.specs.Defined.{IsDefinedCode}
 use Rattle.sci_commands.specs.Judged.{AcceptsChecked}
 use Rattle.sci_commands.specs.declared.look.LookStop.TheVariants.{Memory}
 use Rattle.sci_commands.specs.Words.{code}
 use Rattle.sci_commands.proofs.Looking.{stopped_looks, without_run, first_stops}
-use Rattle.sci_commands.proofs.Coded.{is_code, lacks_code, gives_code}
+use Rattle.sci_commands.proofs.Coded.{is_code, lacks_code, gives_code, gives_defined, lacks_defined}
+use Rattle.sci_commands.proofs.Defined.{stopped_code}
 use Rattle.sci_commands.proofs.prepare.for_code.Goals as goal
 
 pub returns-in_err-checked-clause-looks : goal.returns-in_err-checked-clause-looks
@@ -34,5 +36,30 @@ returns-clause-looks g c = λ banks.
       reaches = λ a is. without_run old mid (code c.args.file.now) a _ (λ bytes after. tt)
           (gives_code c.args.file.now old mid c.in_ok-checked.checked c.look.result c.in_ok-checked.was c.look.ensures.looked c.look.ensures.kept (whole_of c.in_ok-program.program) a c.in_ok-program.ensures is);
       prepared = made.whole;
+      lacks = λ may. absurd may;
+    }
+
+pub returns-in_err-checked-clause-coded : goal.returns-in_err-checked-clause-coded
+returns-in_err-checked-clause-coded g c =
+    let old = g.F.Folder.state c.args.folder.now in
+    let mid = g.F.Folder.state c.look.new.folder in
+    stopped_code old mid c.args.file.now c.from_residual.result _ (search rules)
+    (first_stops Plan diagram_slot c.args.file.now Accepts Breaks (λ p. gives (IsDefinedCode p)) Checked AcceptsChecked old mid c.look.result _
+    c.in_err-checked.was c.look.ensures.looked)
+
+pub returns-in_err-program-clause-coded : goal.returns-in_err-program-clause-coded
+returns-in_err-program-clause-coded g c =
+    let old = g.F.Folder.state c.args.folder.now in
+    let mid = g.F.Folder.state c.look.new.folder in
+    stopped_code old mid c.args.file.now c.from_residual-in_err-program.result Memory (search rules)
+    (lacks_defined c.args.file.now old mid c.in_ok-checked.checked c.look.result c.in_ok-checked.was c.look.ensures.looked c.look.ensures.kept)
+
+pub returns-clause-coded : goal.returns-clause-coded
+returns-clause-coded g c =
+    let old = g.F.Folder.state c.args.folder.now in
+    let mid = g.F.Folder.state c.look.new.folder in
+    record {
+      reaches = λ a is. gives_defined c.args.file.now old mid c.in_ok-checked.checked c.look.result c.in_ok-checked.was c.look.ensures.looked
+          c.look.ensures.kept (whole_of c.in_ok-program.program) a c.in_ok-program.ensures is;
       lacks = λ may. absurd may;
     }

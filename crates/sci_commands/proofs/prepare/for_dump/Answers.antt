@@ -4,7 +4,7 @@ use Rattle.sci_net.specs.Parts.{Parts}
 use Rattle.sci_run.specs.Laws.{AreLoopFree}
 use Rattle.sci_vcd.specs.Writing.{IsOutset}
 use Rattle.sci_commands.specs.Counts.{CountsRun}
-use Rattle.sci_commands.specs.Due.{gives_dump}
+use Rattle.sci_commands.specs.Dump.{gives_dump}
 use Rattle.sci_commands.specs.Words.{dump}
 use Rattle.sci_commands.specs.declared.look.LookStop.TheVariants.{Memory}
 use Rattle.sci_commands.proofs.Looking.{stopped_looks}

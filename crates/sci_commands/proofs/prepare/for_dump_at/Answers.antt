@@ -2,7 +2,7 @@ use Rattle.std.proofs.Common.{rules, ◌≡◌}
 use Rattle.sci_vcd.specs.Waveforms.{Waveforms}
 use Rattle.sci_commands.specs.Answer.{Answer, prints}
 use Rattle.sci_commands.specs.Course.{dump_slot, gives}
-use Rattle.sci_commands.specs.Dump.{AcceptsDump, BreaksDump, values_text}
+use Rattle.sci_commands.specs.DumpAt.{AcceptsDump, BreaksDump, values_text}
 use Rattle.sci_commands.specs.Words.{dump_at}
 use Rattle.sci_commands.proofs.Courses.{due_now, of_files}
 use Rattle.sci_commands.proofs.Looking.{stopped_looks, without_run, first_stops, first_passes}

@@ -1,5 +1,5 @@
 use Rattle.std.proofs.Common.{rules}
-use Rattle.sci_commands.specs.Due.{reads_trace}
+use Rattle.sci_commands.specs.Judge.{reads_trace}
 use Rattle.sci_commands.specs.Words.{judge}
 use Rattle.sci_commands.specs.declared.look.LookStop.TheVariants.{Memory}
 use Rattle.sci_commands.proofs.Judging.{trace_stops, lacks_judge, judged_looks}

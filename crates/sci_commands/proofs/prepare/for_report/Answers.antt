@@ -1,6 +1,7 @@
 use Rattle.std.proofs.Common.{rules, ◌≡◌, sym, ap, ◌∙◌}
 use Rattle.sci_verdict.specs.Verdict.{Plan, Accepts, Breaks}
-use Rattle.sci_commands.specs.Answer.{Answer, prints, report_text}
+use Rattle.sci_commands.specs.Answer.{Answer, prints}
+use Rattle.sci_commands.specs.Report.{report_text}
 use Rattle.sci_commands.specs.Course.{diagram_slot, gives}
 use Rattle.sci_commands.specs.Judged.{AcceptsTold}
 use Rattle.sci_commands.specs.declared.told.Told.{Told}

@@ -1,5 +1,5 @@
 use Rattle.std.proofs.Common.{rules}
-use Rattle.sci_commands.specs.Due.{reads_saved}
+use Rattle.sci_commands.specs.Resume.{reads_saved}
 use Rattle.sci_commands.specs.Words.{resume}
 use Rattle.sci_commands.specs.declared.look.LookStop.TheVariants.{Memory}
 use Rattle.sci_commands.proofs.Looking.{stopped_looks}

@@ -4,13 +4,12 @@ use Rattle.c_ast.specs.Syntax.{Whole}
 use Rattle.c_ast.specs.View.{whole_of}
 use Rattle.c_ast.specs.declared.Program.{Program}
 use Rattle.c_mean.specs.Meaning.{meaning}
-use Rattle.sci_commands.specs.Answer.{Answer, c_ran, no_memory}
+use Rattle.sci_commands.specs.Answer.{Answer, no_memory}
+use Rattle.sci_commands.specs.RunC.{c_ran, AcceptsC, BreaksC, behind_program}
 use Rattle.sci_commands.specs.Course.{c_slot, inputs_slot, Course, gives}
-use Rattle.sci_commands.specs.Due.{behind_program}
 use Rattle.sci_commands.specs.Inputs.{AcceptsColumns, BreaksColumns}
 use Rattle.sci_commands.specs.Judged.{AcceptsProgram}
-use Rattle.sci_commands.specs.Program.{AcceptsC, BreaksC}
-use Rattle.sci_commands.specs.Reached.{ComesTo}
+use Rattle.sci_commands.specs.Coming.{ComesTo}
 use Rattle.sci_commands.proofs.Courses.{due_now, lacks_now, of_files}
 use Rattle.sci_commands.specs.Words.{run_c}
 use Rattle.sci_commands.proofs.Looking.{stopped_looks, without_run, first_stops, first_passes, next_stops, looked_for}

@@ -5,7 +5,7 @@ use Rattle.sci_store.specs.Frame.{Fixed}
 use Rattle.sci_save.specs.Saved.{saved_of}
 use Rattle.sci_resume.specs.Behind.{IsSavedBehind, HasEnded, IsReached}
 use Rattle.sci_resume.specs.declared.Reached.{Reached}
-use Rattle.sci_commands.specs.Due.{gives_save}
+use Rattle.sci_commands.specs.Save.{gives_save}
 use Rattle.sci_commands.specs.Words.{save}
 use Rattle.sci_commands.specs.declared.look.LookStop.TheVariants.{Memory}
 use Rattle.sci_commands.proofs.Looking.{stopped_looks}

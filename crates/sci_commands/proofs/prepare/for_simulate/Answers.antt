@@ -1,7 +1,7 @@
 use Rattle.std.proofs.Common.{rules, List}
 use Rattle.sci_bank.specs.Bank.{Meaning}
 use Rattle.sci_commands.specs.Counts.{CountsRun}
-use Rattle.sci_commands.specs.Due.{gives_trace}
+use Rattle.sci_commands.specs.Simulate.{gives_trace}
 use Rattle.sci_commands.specs.Words.{simulate}
 use Rattle.sci_commands.specs.declared.look.LookStop.TheVariants.{Memory}
 use Rattle.sci_commands.proofs.Looking.{stopped_looks}

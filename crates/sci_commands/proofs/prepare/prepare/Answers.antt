@@ -1,7 +1,8 @@
 use Rattle.std.proofs.Common.{map, string_bytes}
 use Rattle.sci_commands.specs.Answer.{no_memory}
-use Rattle.sci_commands.specs.Words.{asked_by}
+use Rattle.sci_commands.specs.Parsed.{asked_by}
 use Rattle.sci_commands.proofs.Looking.{spelled_reaches, spelled_counts, usage_counts}
+use Rattle.sci_commands.proofs.Defined.{prepared_code, stopped_prepares, unspelled_prepares}
 use Rattle.sci_commands.proofs.prepare.prepare.Goals as goal
 
 pub returns-in-Ok-clause-lacks : goal.returns-in-Ok-clause-lacks
@@ -24,3 +25,16 @@ returns-in-Err-clause-reaches g c = λ a is.
 
 pub returns-in-Err-clause-prepared : goal.returns-in-Err-clause-prepared
 returns-in-Err-clause-prepared g c = c.stopped.ensures.prepared _
+
+pub returns-in-None-clause-coded : goal.returns-in-None-clause-coded
+returns-in-None-clause-coded g c = unspelled_prepares _ _ _ _ c.in-None.ensures
+
+pub returns-in-Ok-clause-coded : goal.returns-in-Ok-clause-coded
+returns-in-Ok-clause-coded g c =
+    prepared_code (map string_bytes c.args.words.now) (g.F.Folder.state c.args.folder.now) (g.F.Folder.state c.for_command.new.folder)
+    (asked_by c.in-Some.command) c.in-Ok.prepared c.in-Some.ensures c.in-Ok.ensures.coded
+
+pub returns-in-Err-clause-coded : goal.returns-in-Err-clause-coded
+returns-in-Err-clause-coded g c =
+    stopped_prepares (map string_bytes c.args.words.now) (g.F.Folder.state c.args.folder.now) (g.F.Folder.state c.for_command.new.folder)
+    (asked_by c.in-Some.command) c.in-Err.stop c.stopped.result c.in-Some.ensures c.in-Err.ensures.coded c.stopped.ensures.answer c.stopped.ensures.lacks

@@ -5,7 +5,7 @@ use Rattle.sci_io.specs.Taken.{Writes}
 use Rattle.sci_io.proofs.Advance.{then_writes, stopped}
 use Rattle.sci_vcd.specs.Waveforms.{no_signal, value_at}
 use Rattle.sci_vcd.specs.Spelling.{name_text}
-use Rattle.sci_commands.specs.Dump.{signal_text}
+use Rattle.sci_commands.specs.DumpAt.{signal_text}
 use Rattle.sci_commands.proofs.values.put_signal.Goals as goal
 
 pub returns-in_err-write_name : goal.returns-in_err-write_name

@@ -2,7 +2,7 @@ use Rattle.std.proofs.Common.{rules, ◌≡◌, ◌+◌, ◌-◌, drop, get_or, 
 use Rattle.sci_io.specs.Taken.{Writes, UnderWay}
 use Rattle.sci_io.proofs.Advance.{cut_off, next_front}
 use Rattle.sci_vcd.specs.Waveforms.{no_signal, value_at}
-use Rattle.sci_commands.specs.Dump.{signal_text, texts_from, values_text}
+use Rattle.sci_commands.specs.DumpAt.{signal_text, texts_from, values_text}
 use Rattle.sci_commands.proofs.Dumped.{next_text}
 use Rattle.sci_commands.proofs.values.write_values.Goals as goal
 

@@ -1,6 +1,6 @@
 use Rattle.std.proofs.Common.{drop, ◌+◌}
 use Rattle.sci_io.specs.Taken.{UnderWay}
-use Rattle.sci_commands.specs.Dump.{texts_from, values_text}
+use Rattle.sci_commands.specs.DumpAt.{texts_from, values_text}
 use Rattle.sci_commands.proofs.values.write_values.Given as goal
 
 -- the lines so far are handed on, and the others are due still

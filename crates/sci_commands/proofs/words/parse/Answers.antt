@@ -1,5 +1,5 @@
 use Rattle.std.proofs.Common.{rules, List, ℕ, ◌≡◌, ◌∷◌, [], map, string_bytes, subst, sym}
-use Rattle.sci_commands.specs.Words.{Parses}
+use Rattle.sci_commands.specs.Parsed.{Parses}
 use Rattle.sci_commands.proofs.Spoken.{five_words, six_words}
 use Rattle.sci_commands.proofs.words.parse.Goals as goal
 

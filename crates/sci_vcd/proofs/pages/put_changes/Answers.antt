@@ -37,5 +37,5 @@ loop-page-preserved g c =
     let due = subst (λ (l : List ℕ). UnderWay (g.S.Sink.state c.args.out.now) (g.S.Sink.state c.loop-page.out) all l)
     (page_text gs c.loop-page.last c.args.tick page (length gs) vs ws c.requires.old c.requires.new starts) c.loop-page.invariant in
     let next = next_front _ _ c.put_any_page.result _ c.in_ok-last.was due c.put_any_page.ensures.written in
-    subst (λ (t : ℕ). UnderWay (g.S.Sink.state c.args.out.now) (g.S.Sink.state c.put_any_page.new.out) all (joined (change_lines gs t (changes_within c.args.tick (min (length gs) ((page + 1) * 64)) (length gs) vs ws))))
+    subst (λ (t : ℕ). UnderWay (g.S.Sink.state c.args.out.now) (g.S.Sink.state c.put_any_page.new.out) all (joined (change_lines gs t (changes_within c.args.tick (min (length gs) ((page + 1) * 32)) (length gs) vs ws))))
     (sym c.in_ok-last.ensures.told) next

@@ -1,0 +1,126 @@
+-- What the function of a block does, from any memory that has the program's variables and what goes into the block.
+use Rattle.std.proofs.Common.{◌≡◌, ℕ, zero, suc, ◌+◌, ◌-◌, ◌<◌, ◌≤◌, inl, inr, List, [], length, true, refl, sym, ap, ◌∙◌, subst, arith, ℤ, pos}
+use Rattle.std.specs.Prelude.{unsigned_abs}
+use Rattle.std.proofs.lemmas.Bool.{cases_lt}
+use Rattle.sci_forms.specs.declared.Kind.TheVariants.{Sensor}
+use Rattle.sci_forms.specs.Ports.{port_at, elements, total, before}
+use Rattle.sci_kinds.specs.Table.{out}
+use Rattle.sci_net.specs.Parts.{Parts, IsBlock, IsInput, IsOutput, spec_of, wire_of, output_of, column_of}
+use Rattle.sci_net.specs.Net.{IsNet}
+use Rattle.sci_reaction.specs.Schedule.{Entry, IsSchedule}
+use Rattle.sci_run.specs.Laws.{AreLoopFree}
+use Rattle.sci_places.specs.Flat.{start_of}
+use Rattle.sci_places.proofs.Lists.{up_to}
+use Rattle.sci_places.proofs.Outputs.{block_within, blocks_apart}
+use Rattle.c_ast.specs.Syntax.{Block}
+use Rattle.c_mean.specs.Meaning.{World, Around, run_block, first_world}
+use Rattle.c_steps.specs.Places.{Has}
+use Rattle.sci_cgen_blocks.specs.Recipes.{scratch_of}
+use Rattle.sci_cgen_blocks.specs.Texts.{values, scratch_name, input_place, body_text}
+use Rattle.sci_cgen_blocks.specs.Meant.{Holds, IsFed, IsApart, Answers, Senses}
+use Rattle.sci_cgen_blocks.proofs.KindLaws.{cell_law, cell_reads_law}
+use Rattle.sci_cgen_blocks.proofs.Bodies.{body_answers}
+use Rattle.sci_cgen_blocks.proofs.Sensing.{sensor_takes, sensor_column, sensor_out, body_senses}
+use Rattle.sci_cgen.specs.Program.{places_of, is_scheduled, scratch_count, program}
+use Rattle.sci_cgen.proofs.Blank.{IsBlank, blank_first}
+use Rattle.sci_cgen.proofs.Bodies.{enough_scratch}
+use Rattle.sci_cgen.proofs.Sizes.{in_bounds}
+use Rattle.sci_cgen_laws.specs.Places.{HasVariables, IsGiven, DoesBlock}
+use Rattle.sci_cgen_laws.proofs.Places.{starts_at, fed_by_other}
+
+module _ (n : Parts) (rows : List (List Entry)) (net : IsNet n) (b : ℕ) (block : IsBlock n b) (has : is_scheduled rows b ≡ true) where
+  -- ---- what is there
+
+  blank : IsBlank n (scratch_count n rows (length n.specs)) [] (first_world (program n rows) [])
+  blank = blank_first n rows []
+
+  module _ (w : World) (variables : HasVariables (program n rows) w) where
+    scratch_there : (k : ℕ) → 1 ≤ k → k ≤ scratch_of (spec_of n b).kind (spec_of n b) → Has w (scratch_name k) 0
+    scratch_there k lo hi =
+        let enough = enough_scratch n rows b block has in
+        let zero_there = blank.scratch_names k lo (omega (arith, hi, enough)) in
+        let first : Has (first_world (program n rows) []) (scratch_name k) 0 = record { holds = pos 0; is = zero_there } in
+        variables.there (scratch_name k) 0 first
+
+    value_there : (j : ℕ) → j < start_of n b + total (spec_of n b).outs → Has w values j
+    value_there j l =
+        let fits = block_within n b block in
+        let first : Has (first_world (program n rows) []) values j = record { holds = pos 0; is = blank.values j (omega (arith, fits, l)) } in
+        variables.there values j first
+
+  holds : (x : List ℤ) (m : ℕ) (u : List ℤ) (w : World) → IsGiven n (program n rows) b x m u w
+      → Holds (spec_of n b) (places_of n b) (IsFed (spec_of n b)) x m u w
+  holds x m u w g = record {
+    ins = λ k e a r f. g.ins k e a r f;
+    state = λ i a. g.state i a;
+    mask = g.mask;
+    outs = λ e a. value_there w g.variables (start_of n b + e) (omega (arith, a));
+  }
+
+  -- ---- an input with feedthrough comes from another block
+
+  apart : AreLoopFree n → IsSchedule n rows → IsApart (spec_of n b) (places_of n b)
+  apart free schedule k e l r through = elim (cases_lt c b) [
+    | inl q ↦ let far = blocks_apart n c b leads.block block q in inl (omega (arith, far, place, inside))
+    | inr q ↦
+        let less : b < c = omega (arith, q, differ) in
+        let far = blocks_apart n b c block leads.block less in
+        inr (omega (arith, far, place))
+  ]
+    where
+      within : IsInput n b (suc k)
+      within = record { block = block; least = omega arith; most = omega (arith, l) }
+
+      c : ℕ
+      c = (wire_of n b (suc k)).block
+
+      leads : IsOutput n (wire_of n b (suc k)).block (wire_of n b (suc k)).port
+      leads = net.wired.wires_lead b (suc k) within
+
+      differ : (wire_of n b (suc k)).block ≡ b → ⊥
+      differ q = fed_by_other n net rows free schedule b k block has l through q
+
+      place : input_place (places_of n b) k e
+          ≡ start_of n (wire_of n b (suc k)).block + before (spec_of n (wire_of n b (suc k)).block).outs ((wire_of n b (suc k)).port - 1) + e
+      place = ap (λ (j : ℕ). j + e) (starts_at n net b k block l)
+
+      inside : before (spec_of n (wire_of n b (suc k)).block).outs ((wire_of n b (suc k)).port - 1) + e < total (spec_of n (wire_of n b (suc k)).block).outs
+      inside = by_port (wire_of n b (suc k)).port refl
+        where
+          by_port : (p : ℕ) → (wire_of n b (suc k)).port ≡ p
+              → before (spec_of n (wire_of n b (suc k)).block).outs (p - 1) + e < total (spec_of n (wire_of n b (suc k)).block).outs
+          by_port zero q = absurd (let some = leads.least in omega (arith, some, q))
+          by_port (suc j) q =
+              let outs = (spec_of n (wire_of n b (suc k)).block).outs in
+              let same : suc j - 1 ≡ j = omega arith in
+              let size : elements (port_at outs j) ≡ elements (port_at (spec_of n b).ins k) =
+              ap (λ (i : ℕ). elements (output_of n (wire_of n b (suc k)).block i)) (sym q) ∙ ap elements (net.joined b (suc k) within) in
+              let most = leads.most in
+              let fits = up_to outs j (omega (arith, most, q)) in
+              subst (λ (i : ℕ). before outs i + e < total outs) (sym same) (omega (arith, fits, size, r))
+
+  -- ---- a SENSOR
+
+  sensing : (env : Around) (number c : ℕ) (w : World) → (spec_of n b).kind ≡ Sensor → column_of (spec_of n b) ≡ suc c → HasVariables (program n rows) w
+      → Senses (places_of n b) c w (run_block env number (body_text (spec_of n b) (places_of n b)) w)
+  sensing env number c w kind column variables =
+      let own = sensor_column (spec_of n b) (net.typed_specs b block) kind in
+      let there : column_of (spec_of n b) ≡ suc own.0 = ap unsigned_abs own.1.0 in
+      let same : own.0 ≡ c = omega (arith, there, column) in
+      let one = sensor_out (spec_of n b) (net.typed_specs b block) kind in
+      let some = sensor_takes (spec_of n b).kind (spec_of n b) kind in
+      subst (λ (d : ℕ). Senses (places_of n b) d w (run_block env number (body_text (spec_of n b) (places_of n b)) w)) same
+      (body_senses env (spec_of n b) (places_of n b) own.0 number w kind own.1.0 (value_there w variables (start_of n b) (omega (arith, one)))
+      (scratch_there w variables 1 (omega arith) some))
+
+  -- ---- the body
+
+  pub does_block : AreLoopFree n → IsSchedule n rows → (body : Block) → body ≡ body_text (spec_of n b) (places_of n b) → DoesBlock n (program n rows) b body
+  does_block free schedule body is = record {
+    computes = λ env number x m u w other g.
+        subst (λ (t : Block). Answers (spec_of n b) (places_of n b) w (out (spec_of n b) x m u) (run_block env number t w)) (sym is)
+        (body_answers cell_law cell_reads_law env (spec_of n b) (places_of n b) x m u number w (net.typed_specs b block) other g.state_in_range
+        g.mask_in_range g.ins_in_range (holds x m u w g) (scratch_there w g.variables) (in_bounds n net b block) (apart free schedule));
+    senses = λ env number c w kind column variables.
+        subst (λ (t : Block). Senses (places_of n b) c w (run_block env number t w)) (sym is) (sensing env number c w kind column variables);
+  }

@@ -1,0 +1,9 @@
+pub mod Wires
+pub mod Answering
+pub mod Sensing
+pub mod Reading
+pub mod Reacting
+pub mod Knowing
+pub mod Programming
+pub mod Following
+pub mod Running

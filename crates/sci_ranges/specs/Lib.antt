@@ -1,0 +1,6 @@
+pub mod Columns
+pub mod Table
+pub mod Reads
+pub mod Closed
+pub mod Holds
+pub mod Laws

@@ -1,0 +1,10 @@
+pub mod Handing
+pub mod Arithmetic
+pub mod Deciding
+pub mod Feeding
+pub mod Patterned
+pub mod Joining
+pub mod Bitwise
+pub mod Covers
+pub mod Turning
+pub mod Typing
