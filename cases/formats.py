@@ -190,7 +190,7 @@ def wrong_mistakes(program, page):
 def kinds_shown(page):
     """Each kind has a row, and an example of its own."""
     rows = set(re.findall(r'`(\w+)`', ' '.join(line.split('|')[1] for line in page.splitlines() if line.startswith('| `'))))
-    with open(os.path.join(HERE, '..', 'crates', 'sci_forms', 'specs', 'Names.antt')) as file:
+    with open(os.path.join(HERE, '..', 'crates', 'sci_names', 'specs', 'Names.antt')) as file:
         names = set(re.findall(r'codes "(\w+)"', file.read()))
     examples = set(re.findall(r'"gui": "(\w+)"', ' '.join(body for words, body in parts(page) if words[0] == 'block')))
     return ['no row of %s' % name for name in sorted(names - rows)] + ['no example of %s' % name for name in sorted(names - examples)]

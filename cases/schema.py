@@ -154,7 +154,7 @@ def wrong_changes(program, judge, bases, count, seed):
 def wrong_names(judge):
     """The names of kinds are those of the program, and each has its line."""
     names = judge.schema['$defs']['kind']['properties']['gui']
-    with open(os.path.join(HERE, '..', 'crates', 'sci_forms', 'specs', 'Names.antt')) as file:
+    with open(os.path.join(HERE, '..', 'crates', 'sci_names', 'specs', 'Names.antt')) as file:
         kinds = [line.split('"')[1] for line in file if line.startswith('name_of ')]
     same = names['enum'][:len(kinds)] == kinds and len(names['enum']) == len(kinds) + 12 == len(names['enumDescriptions'])
     return [] if same else ['the names of kinds']

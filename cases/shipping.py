@@ -17,6 +17,7 @@ TOP = os.path.join(HERE, '..')
 EXAMPLES = os.path.join(TOP, 'examples')
 FLAGS = ['-std=c99', '-Wall', '-Wextra', '-pedantic', '-Werror', '-O2']
 SPARE = ['-Wno-unused-function', '-Wno-unused-variable']
+FROM_LOOPS = {'memcpy', 'memmove', 'memset'}  # what gcc makes of a loop that copies, moves or clears elements
 QUADRATURE = os.path.join(EXAMPLES, 'quadrature', 'diagram.json')  # which has two sensors
 PROGRAMS = sorted(glob.glob(os.path.join(EXAMPLES, '*', 'program.c')))
 DIAGRAMS = sorted(glob.glob(os.path.join(EXAMPLES, '*', 'diagram.json')))
@@ -111,14 +112,14 @@ def targets(program):
 
 
 def wrong_object(path, declared):
-    """What is wrong with what the compiler makes of a program: there is no warning, it calls none but the functions that it declares, and defines for others
-    `sci_main` alone, which has no declaration."""
+    """What is wrong with what the compiler makes of a program: there is no warning, it calls none but the functions that it declares (and those that gcc
+    makes of loops over elements), and defines for others `sci_main` alone, which has no declaration."""
     with tempfile.TemporaryDirectory() as work:
         told = compiled(FLAGS + SPARE + ['-c', '-o', 'o', path], work)
         bare = re.findall(r': error: (.*)', compiled(['-std=c99', '-Werror', '-Wmissing-prototypes', '-fsyntax-only', path], work))
         names = [line.split() for line in subprocess.run(['nm', '-g', 'o'], cwd=work, capture_output=True, text=True, timeout=120).stdout.splitlines()]
     called, defined = ({name for *_, kind, name in names if (kind == 'U') == is_called} for is_called in (True, False))
-    same = called <= set(declared) and defined == {'sci_main'} and len(bare) == 1 and 'sci_main' in bare[0]
+    same = called <= set(declared) | FROM_LOOPS and defined == {'sci_main'} and len(bare) == 1 and 'sci_main' in bare[0]
     return [told] * bool(told) + ([] if same else ['it calls %r, defines %r, and is told %r' % (called, defined, bare)])
 
 
@@ -195,8 +196,7 @@ def wrong_said(path):
     for more in ([], ['-I', '/usr/include']):
         found = re.findall(r'^(\w+) (\d+)$', subprocess.run(words + more, capture_output=True, timeout=120).stderr.decode(), re.M)
         given.append({(name, lines[int(line) - 1].strip()) for name, line in found if name != 'missingIncludeSystem'})
-    host = ('unusedFunction', 'void sci_main(void) {')
-    due = [{host}, {host, ('knownConditionTrueFalse', 'if ((int64_t)(e1 >= INT64_C(0))) {')}]
+    due = [{('unusedFunction', 'void sci_main(void) {')}] * 2
     return [] if given == due or given[0] == due[0] and not os.path.exists('/usr/include/stdint.h') else ['%r in place of %r' % (given, due)]
 
 

@@ -194,12 +194,9 @@ static void s1(void) {
   if (v4[INT64_C(19)]) {
     sci_val(INT64_C(20), INT64_C(1), INT64_C(1), v1[INT64_C(16)]);
   }
-  e1 = INT64_C(10);
-  if ((int64_t)(e1 >= INT64_C(0))) {
-    v6[INT64_C(0)] = (d1 + e1);
-    v7[INT64_C(0)] = o1;
-    o1 = (o1 + INT64_C(1));
-  }
+  v6[INT64_C(0)] = (d1 + INT64_C(10));
+  v7[INT64_C(0)] = o1;
+  o1 = (o1 + INT64_C(1));
   e1 = (((int64_t)(v1[INT64_C(15)] >= INT64_C(0)) * (((int64_t)(v1[INT64_C(15)] <= INT64_C(2147483647)) * v1[INT64_C(15)]) + ((int64_t)(v1[INT64_C(15)] > INT64_C(2147483647)) * INT64_C(2147483647)))) - (int64_t)(v1[INT64_C(15)] < INT64_C(0)));
   if ((int64_t)(e1 >= INT64_C(0))) {
     v6[INT64_C(1)] = (d1 + e1);

@@ -399,19 +399,13 @@ static void s1(void) {
   sci_val(INT64_C(35), INT64_C(1), INT64_C(1), v1[INT64_C(30)]);
   sci_val(INT64_C(36), INT64_C(1), INT64_C(1), v1[INT64_C(31)]);
   sci_val(INT64_C(37), INT64_C(1), INT64_C(1), v1[INT64_C(32)]);
-  e1 = INT64_C(200);
-  if ((int64_t)(e1 >= INT64_C(0))) {
-    v6[INT64_C(0)] = (d1 + e1);
-    v7[INT64_C(0)] = o1;
-    o1 = (o1 + INT64_C(1));
-  }
+  v6[INT64_C(0)] = (d1 + INT64_C(200));
+  v7[INT64_C(0)] = o1;
+  o1 = (o1 + INT64_C(1));
   if (v4[INT64_C(28)]) {
-    e1 = INT64_C(3000);
-    if ((int64_t)(e1 >= INT64_C(0))) {
-      v6[INT64_C(1)] = (d1 + e1);
-      v7[INT64_C(1)] = o1;
-      o1 = (o1 + INT64_C(1));
-    }
+    v6[INT64_C(1)] = (d1 + INT64_C(3000));
+    v7[INT64_C(1)] = o1;
+    o1 = (o1 + INT64_C(1));
   }
   v2[INT64_C(0)] = v1[INT64_C(18)];
   v2[INT64_C(1)] = v1[INT64_C(32)];

@@ -115,16 +115,7 @@ static void f10(void) {
   v1[INT64_C(49)] = t1;
 }
 static void g3(void) {
-  b1 = (-INT64_C(1));
-  for (k1 = INT64_C(0); k1 < INT64_C(1); k1 = k1 + INT64_C(1)) {
-    if ((int64_t)((int64_t)(v6[k1] >= INT64_C(0)) && (int64_t)((int64_t)(b1 < INT64_C(0)) || (int64_t)((int64_t)(v6[k1] < v6[b1]) || (int64_t)((int64_t)(v6[k1] == v6[b1]) && (int64_t)(v7[k1] < v7[b1])))))) {
-      b1 = k1;
-    }
-  }
-  d2 = (-INT64_C(1));
-  if ((int64_t)(b1 >= INT64_C(0))) {
-    d2 = v6[b1];
-  }
+  d2 = v6[INT64_C(0)];
 }
 static void s0(void) {
   sci_start();
@@ -167,20 +158,12 @@ static void s1(void) {
   sci_val(INT64_C(9), INT64_C(7), INT64_C(1), v1[INT64_C(47)]);
   sci_val(INT64_C(9), INT64_C(8), INT64_C(1), v1[INT64_C(48)]);
   sci_val(INT64_C(10), INT64_C(1), INT64_C(1), v1[INT64_C(49)]);
-  e1 = INT64_C(1);
-  if ((int64_t)(e1 >= INT64_C(0))) {
-    v6[INT64_C(0)] = (d1 + e1);
-    v7[INT64_C(0)] = o1;
-    o1 = (o1 + INT64_C(1));
+  v6[INT64_C(0)] = (d1 + INT64_C(1));
+  v7[INT64_C(0)] = o1;
+  o1 = (o1 + INT64_C(1));
+  for (t1 = INT64_C(0); t1 < INT64_C(8); t1 = t1 + INT64_C(1)) {
+    v2[(t1 + INT64_C(0))] = v1[(t1 + INT64_C(17))];
   }
-  v2[INT64_C(0)] = v1[INT64_C(17)];
-  v2[INT64_C(1)] = v1[INT64_C(18)];
-  v2[INT64_C(2)] = v1[INT64_C(19)];
-  v2[INT64_C(3)] = v1[INT64_C(20)];
-  v2[INT64_C(4)] = v1[INT64_C(21)];
-  v2[INT64_C(5)] = v1[INT64_C(22)];
-  v2[INT64_C(6)] = v1[INT64_C(23)];
-  v2[INT64_C(7)] = v1[INT64_C(24)];
 }
 static void g4(void) {
   if ((int64_t)(d2 < INT64_C(0))) {
@@ -189,8 +172,8 @@ static void g4(void) {
     if ((int64_t)(d2 > u1)) {
       sci_end(INT64_C(3));
     } else {
-      d1 = v6[b1];
-      v6[b1] = (-INT64_C(1));
+      d1 = v6[INT64_C(0)];
+      v6[INT64_C(0)] = (-INT64_C(1));
       s1();
       g3();
     }

@@ -291,12 +291,9 @@ static void s1(void) {
   sci_val(INT64_C(27), INT64_C(1), INT64_C(1), v1[INT64_C(23)]);
   sci_val(INT64_C(28), INT64_C(1), INT64_C(1), v1[INT64_C(24)]);
   sci_val(INT64_C(29), INT64_C(1), INT64_C(1), v1[INT64_C(25)]);
-  e1 = INT64_C(1);
-  if ((int64_t)(e1 >= INT64_C(0))) {
-    v6[INT64_C(0)] = (d1 + e1);
-    v7[INT64_C(0)] = o1;
-    o1 = (o1 + INT64_C(1));
-  }
+  v6[INT64_C(0)] = (d1 + INT64_C(1));
+  v7[INT64_C(0)] = o1;
+  o1 = (o1 + INT64_C(1));
   v2[INT64_C(0)] = v1[INT64_C(19)];
   v2[INT64_C(1)] = v1[INT64_C(25)];
 }

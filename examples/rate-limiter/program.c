@@ -94,12 +94,9 @@ static void s1(void) {
   f1();
   f3();
   sci_val(INT64_C(3), INT64_C(1), INT64_C(1), v1[INT64_C(0)]);
-  e1 = INT64_C(40);
-  if ((int64_t)(e1 >= INT64_C(0))) {
-    v6[INT64_C(0)] = (d1 + e1);
-    v7[INT64_C(0)] = o1;
-    o1 = (o1 + INT64_C(1));
-  }
+  v6[INT64_C(0)] = (d1 + INT64_C(40));
+  v7[INT64_C(0)] = o1;
+  o1 = (o1 + INT64_C(1));
 }
 static void s2(void) {
   sci_event(d1, INT64_C(2), INT64_C(1));
@@ -116,12 +113,9 @@ static void s2(void) {
   sci_val(INT64_C(7), INT64_C(1), INT64_C(1), v1[INT64_C(4)]);
   sci_val(INT64_C(8), INT64_C(1), INT64_C(1), v1[INT64_C(5)]);
   sci_val(INT64_C(9), INT64_C(1), INT64_C(1), v1[INT64_C(6)]);
-  e1 = INT64_C(10);
-  if ((int64_t)(e1 >= INT64_C(0))) {
-    v6[INT64_C(1)] = (d1 + e1);
-    v7[INT64_C(1)] = o1;
-    o1 = (o1 + INT64_C(1));
-  }
+  v6[INT64_C(1)] = (d1 + INT64_C(10));
+  v7[INT64_C(1)] = o1;
+  o1 = (o1 + INT64_C(1));
   v2[INT64_C(0)] = v1[INT64_C(4)];
 }
 static void g4(void) {

@@ -348,12 +348,9 @@ static void s1(void) {
   if (v4[INT64_C(14)]) {
     sci_val(INT64_C(15), INT64_C(1), INT64_C(1), v1[INT64_C(11)]);
   }
-  e1 = INT64_C(100);
-  if ((int64_t)(e1 >= INT64_C(0))) {
-    v6[INT64_C(0)] = (d1 + e1);
-    v7[INT64_C(0)] = o1;
-    o1 = (o1 + INT64_C(1));
-  }
+  v6[INT64_C(0)] = (d1 + INT64_C(100));
+  v7[INT64_C(0)] = o1;
+  o1 = (o1 + INT64_C(1));
   v2[INT64_C(0)] = v1[INT64_C(11)];
 }
 static void s2(void) {
@@ -422,12 +419,9 @@ static void s2(void) {
   sci_val(INT64_C(33), INT64_C(1), INT64_C(1), v1[INT64_C(28)]);
   sci_val(INT64_C(34), INT64_C(1), INT64_C(1), v1[INT64_C(29)]);
   sci_val(INT64_C(35), INT64_C(1), INT64_C(1), v1[INT64_C(30)]);
-  e1 = INT64_C(10);
-  if ((int64_t)(e1 >= INT64_C(0))) {
-    v6[INT64_C(1)] = (d1 + e1);
-    v7[INT64_C(1)] = o1;
-    o1 = (o1 + INT64_C(1));
-  }
+  v6[INT64_C(1)] = (d1 + INT64_C(10));
+  v7[INT64_C(1)] = o1;
+  o1 = (o1 + INT64_C(1));
   v2[INT64_C(1)] = v1[INT64_C(20)];
   v2[INT64_C(2)] = v1[INT64_C(27)];
   v2[INT64_C(3)] = v1[INT64_C(30)];

@@ -95,16 +95,7 @@ static void f14(void) {
   v1[INT64_C(12)] = (int64_t)(t1 > INT64_C(0));
 }
 static void g3(void) {
-  b1 = (-INT64_C(1));
-  for (k1 = INT64_C(0); k1 < INT64_C(1); k1 = k1 + INT64_C(1)) {
-    if ((int64_t)((int64_t)(v6[k1] >= INT64_C(0)) && (int64_t)((int64_t)(b1 < INT64_C(0)) || (int64_t)((int64_t)(v6[k1] < v6[b1]) || (int64_t)((int64_t)(v6[k1] == v6[b1]) && (int64_t)(v7[k1] < v7[b1])))))) {
-      b1 = k1;
-    }
-  }
-  d2 = (-INT64_C(1));
-  if ((int64_t)(b1 >= INT64_C(0))) {
-    d2 = v6[b1];
-  }
+  d2 = v6[INT64_C(0)];
 }
 static void s0(void) {
   sci_start();
@@ -138,12 +129,9 @@ static void s1(void) {
   sci_val(INT64_C(12), INT64_C(1), INT64_C(1), v1[INT64_C(10)]);
   sci_val(INT64_C(13), INT64_C(1), INT64_C(1), v1[INT64_C(11)]);
   sci_val(INT64_C(14), INT64_C(1), INT64_C(1), v1[INT64_C(12)]);
-  e1 = INT64_C(60);
-  if ((int64_t)(e1 >= INT64_C(0))) {
-    v6[INT64_C(0)] = (d1 + e1);
-    v7[INT64_C(0)] = o1;
-    o1 = (o1 + INT64_C(1));
-  }
+  v6[INT64_C(0)] = (d1 + INT64_C(60));
+  v7[INT64_C(0)] = o1;
+  o1 = (o1 + INT64_C(1));
   v2[INT64_C(0)] = v1[INT64_C(5)];
   v2[INT64_C(1)] = v1[INT64_C(10)];
 }
@@ -154,8 +142,8 @@ static void g4(void) {
     if ((int64_t)(d2 > u1)) {
       sci_end(INT64_C(3));
     } else {
-      d1 = v6[b1];
-      v6[b1] = (-INT64_C(1));
+      d1 = v6[INT64_C(0)];
+      v6[INT64_C(0)] = (-INT64_C(1));
       s1();
       g3();
     }

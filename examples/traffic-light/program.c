@@ -128,36 +128,24 @@ static void g2(void) {
     sci_val(INT64_C(12), INT64_C(1), INT64_C(1), v1[INT64_C(21)]);
   }
   if (v4[INT64_C(0)]) {
-    e1 = INT64_C(10);
-    if ((int64_t)(e1 >= INT64_C(0))) {
-      v6[INT64_C(0)] = (d1 + e1);
-      v7[INT64_C(0)] = o1;
-      o1 = (o1 + INT64_C(1));
-    }
+    v6[INT64_C(0)] = (d1 + INT64_C(10));
+    v7[INT64_C(0)] = o1;
+    o1 = (o1 + INT64_C(1));
   }
   if (v4[INT64_C(1)]) {
-    e1 = INT64_C(3);
-    if ((int64_t)(e1 >= INT64_C(0))) {
-      v6[INT64_C(1)] = (d1 + e1);
-      v7[INT64_C(1)] = o1;
-      o1 = (o1 + INT64_C(1));
-    }
+    v6[INT64_C(1)] = (d1 + INT64_C(3));
+    v7[INT64_C(1)] = o1;
+    o1 = (o1 + INT64_C(1));
   }
   if (v4[INT64_C(2)]) {
-    e1 = INT64_C(12);
-    if ((int64_t)(e1 >= INT64_C(0))) {
-      v6[INT64_C(2)] = (d1 + e1);
-      v7[INT64_C(2)] = o1;
-      o1 = (o1 + INT64_C(1));
-    }
+    v6[INT64_C(2)] = (d1 + INT64_C(12));
+    v7[INT64_C(2)] = o1;
+    o1 = (o1 + INT64_C(1));
   }
   if (v4[INT64_C(3)]) {
-    e1 = INT64_C(2);
-    if ((int64_t)(e1 >= INT64_C(0))) {
-      v6[INT64_C(3)] = (d1 + e1);
-      v7[INT64_C(3)] = o1;
-      o1 = (o1 + INT64_C(1));
-    }
+    v6[INT64_C(3)] = (d1 + INT64_C(2));
+    v7[INT64_C(3)] = o1;
+    o1 = (o1 + INT64_C(1));
   }
 }
 static void g1(void) {

@@ -86,12 +86,9 @@ static void s1(void) {
     v7[INT64_C(0)] = o1;
     o1 = (o1 + INT64_C(1));
   }
-  e1 = INT64_C(50);
-  if ((int64_t)(e1 >= INT64_C(0))) {
-    v6[INT64_C(1)] = (d1 + e1);
-    v7[INT64_C(1)] = o1;
-    o1 = (o1 + INT64_C(1));
-  }
+  v6[INT64_C(1)] = (d1 + INT64_C(50));
+  v7[INT64_C(1)] = o1;
+  o1 = (o1 + INT64_C(1));
 }
 static void s2(void) {
   sci_event(d1, INT64_C(3), INT64_C(1));

@@ -4,7 +4,3 @@ pub mod Spelling
 pub mod Bounds
 pub mod Events
 pub mod Rules
-pub mod Naming
-pub mod Assigning
-pub mod Bodies
-pub mod Knowing

@@ -4,10 +4,10 @@ use Rattle.std.specs.List.{list_any}
 use Rattle.c_ast.specs.declared.Name.{Name}
 use Rattle.c_ast.specs.declared.Bound.{Bound}
 use Rattle.c_ast.specs.declared.Bound.TheVariants as bounds
-use Rattle.c_ast.specs.declared.events.Kind.{Kind}
-use Rattle.c_ast.specs.declared.events.Kind.TheVariants as kinds
-use Rattle.c_ast.specs.declared.events.Event.{Event}
-use Rattle.c_ast.specs.declared.events.Event.TheVariants as events
+use Rattle.c_ast.specs.declared.events.NameKind.{NameKind}
+use Rattle.c_ast.specs.declared.events.NameKind.TheVariants as kinds
+use Rattle.c_ast.specs.declared.events.TextEvent.{TextEvent}
+use Rattle.c_ast.specs.declared.events.TextEvent.TheVariants as events
 use Rattle.c_ast.specs.declared.events.Opened.{Opened}
 use Rattle.c_ast.specs.declared.events.Opened.TheVariants as opened
 use Rattle.c_ast.specs.Syntax.{Whole}
@@ -27,7 +27,7 @@ pub record Routine : Type 0 where
 -- What the text did so far.
 pub record Scope : Type 0 where
   -- what was declared, the latest first
-  pub declared : List (Name × Kind)
+  pub declared : List (Name × NameKind)
   -- how many elements the arrays have
   pub elements : ℕ
   -- the functions that have ended, the latest first
@@ -44,7 +44,7 @@ pub record Scope : Type 0 where
 abbrev pub outset : Scope
 outset = record { declared = []; elements = 0; routines = []; blocks = []; owner = None; assigns = []; depth = 1 }
 
-abbrev pub kind_in : List (Name × Kind) → Name → Option Kind
+abbrev pub kind_in : List (Name × NameKind) → Name → Option NameKind
 kind_in [] x = None
 kind_in (d ∷ ds) x = if same_name d.0 x then Some d.1 else kind_in ds x
 
@@ -52,20 +52,20 @@ abbrev pub routine_in : List Routine → Name → Option Routine
 routine_in [] f = None
 routine_in (r ∷ rs) f = if same_name r.name f then Some r else routine_in rs f
 
-abbrev pub is_scalar : Option Kind → Bool
+abbrev pub is_scalar : Option NameKind → Bool
 is_scalar None = false
 is_scalar (Some kinds.Scalar) = true
 is_scalar (Some kinds.Array) = false
 is_scalar (Some kinds.Function) = false
 
-abbrev pub is_array : Option Kind → Bool
+abbrev pub is_array : Option NameKind → Bool
 is_array None = false
 is_array (Some kinds.Scalar) = false
 is_array (Some kinds.Array) = true
 is_array (Some kinds.Function) = false
 
 -- declared as what it is used as
-abbrev pub is_used_well : Kind → Option Kind → Bool
+abbrev pub is_used_well : NameKind → Option NameKind → Bool
 is_used_well kinds.Scalar k = is_scalar k
 is_used_well kinds.Array k = is_array k
 is_used_well kinds.Function k = false
@@ -102,7 +102,7 @@ is_too_large sum (Some n) = nat_lt 16777216 (sum + n)
 
 -- A name is blamed where it stands: it was declared before; it is used and was not declared before as what it is used as; it is assigned,
 -- or a function is called that assigns it, while it is the counter or the bound of an open loop; or its array is too large.
-abbrev pub is_blamed : Scope → Event → Bool
+abbrev pub is_blamed : Scope → TextEvent → Bool
 is_blamed s (events.Declare x size) = is_some (kind_in s.declared x) || is_too_large s.elements size
 is_blamed s (events.Function f) = is_some (kind_in s.declared f)
 is_blamed s events.Main = false
@@ -129,7 +129,7 @@ abbrev pub closing : Scope → Option ℕ
 closing s = if is_last s.blocks then too_deep s s.owner else None
 
 -- the number of the event that the rules blame at event i, which is i itself or a function's line
-abbrev pub blamed_at : ℕ → Scope → Event → Option ℕ
+abbrev pub blamed_at : ℕ → Scope → TextEvent → Option ℕ
 blamed_at i s events.Close = closing s
 blamed_at i s e = if is_blamed s e then Some i else None
 
@@ -141,7 +141,7 @@ abbrev pub depth_of : Option Routine → ℕ
 depth_of None = 0
 depth_of (Some r) = r.depth
 
-abbrev pub kind_of : Option ℕ → Kind
+abbrev pub kind_of : Option ℕ → NameKind
 kind_of None = kinds.Scalar
 kind_of (Some n) = kinds.Array
 
@@ -161,7 +161,7 @@ abbrev pub opens_body : Scope → Option (Name × ℕ) → Scope
 opens_body s owner = record s { blocks = s.blocks ++ opened.Branch ∷ []; owner = owner; assigns = []; depth = 1 }
 
 -- the scope behind an event
-abbrev pub behind : ℕ → Scope → Event → Scope
+abbrev pub behind : ℕ → Scope → TextEvent → Scope
 behind i s (events.Declare x size) = record s { declared = (x, kind_of size) ∷ s.declared; elements = s.elements + elements_of size }
 behind i s (events.Function f) = opens_body (record s { declared = (f, kinds.Function) ∷ s.declared }) (Some (f, i))
 behind i s events.Main = opens_body s None
@@ -179,12 +179,12 @@ earlier (Some i) None = Some i
 earlier (Some i) (Some j) = Some (min i j)
 
 -- the first blamed event, from event i on
-abbrev pub first_blamed : ℕ → Scope → List Event → Option ℕ
+abbrev pub first_blamed : ℕ → Scope → List TextEvent → Option ℕ
 first_blamed i s [] = None
 first_blamed i s (e ∷ es) = earlier (blamed_at i s e) (first_blamed (i + 1) (behind i s e) es)
 
 -- the first event that the rules blame in a text
-abbrev pub blamed_event : List Event → Option ℕ
+abbrev pub blamed_event : List TextEvent → Option ℕ
 blamed_event es = first_blamed 0 outset es
 
 -- the static rules hold of a program: they blame no name

@@ -93,7 +93,7 @@ pub data Line : Type 0 where
   close_line : Line
 
 -- a line and its depth
-pub record Row : Type 0 where
+pub record IndentedLine : Type 0 where
   pub depth : ℕ
   pub line : Line
 
@@ -112,18 +112,18 @@ line_text (call_line f) = name_text f ++ codes "();"
 line_text (tell_line t) = told_text t ++ codes ";"
 line_text close_line = codes "}"
 
-abbrev pub row_of : ℕ → Line → Row
+abbrev pub row_of : ℕ → Line → IndentedLine
 row_of d l = record { depth = d; line = l }
 
-abbrev pub row_text : Row → List ℕ
+abbrev pub row_text : IndentedLine → List ℕ
 row_text r = replicate (2 * r.depth) 32 ++ (line_text r.line ++ codes "\n")
 
-abbrev pub at_depth : ℕ → Line → List Row
+abbrev pub at_depth : ℕ → Line → List IndentedLine
 at_depth d l = row_of d l ∷ []
 
 -- the lines of statements at this depth
 abbrev mutual
-  pub statement_rows : ℕ → Statement → List Row
+  pub statement_rows : ℕ → Statement → List IndentedLine
   statement_rows d (set p e) = at_depth d (set_line p e)
   statement_rows d (ask p a) = at_depth d (ask_line p a)
   statement_rows d (choice e a b) = at_depth d (if_line e) ++ (block_rows (suc d) a ++ else_rows d b)
@@ -131,12 +131,12 @@ abbrev mutual
   statement_rows d (call f) = at_depth d (call_line f)
   statement_rows d (tell t) = at_depth d (tell_line t)
 
-  pub block_rows : ℕ → Block → List Row
+  pub block_rows : ℕ → Block → List IndentedLine
   block_rows d done = []
   block_rows d (next s b) = statement_rows d s ++ block_rows d b
 
   -- the end of an If, with its second list
-  pub else_rows : ℕ → Block → List Row
+  pub else_rows : ℕ → Block → List IndentedLine
   else_rows d done = at_depth d close_line
   else_rows d (next s b) = at_depth d else_line ++ ((statement_rows (suc d) s ++ block_rows (suc d) b) ++ at_depth d close_line)
 
@@ -155,27 +155,27 @@ header_lines =
     ∷ codes "extern int64_t sci_limit(void);"
     ∷ []
 
-abbrev pub header_row : List ℕ → Row
+abbrev pub header_row : List ℕ → IndentedLine
 header_row t = row_of 0 (header_line t)
 
 abbrev pub declared_line : Name → Option ℕ → Line
 declared_line x None = scalar_line x
 declared_line x (Some n) = array_line x n
 
-abbrev pub declared_row : Declared → Row
+abbrev pub declared_row : Declared → IndentedLine
 declared_row d = row_of 0 (declared_line d.name d.size)
 
-abbrev pub function_rows : Function → List Row
+abbrev pub function_rows : Function → List IndentedLine
 function_rows f = at_depth 0 (function_line f.name) ++ (block_rows 1 f.body ++ at_depth 0 close_line)
 
-abbrev pub main_rows : Block → List Row
+abbrev pub main_rows : Block → List IndentedLine
 main_rows b = at_depth 0 main_line ++ (block_rows 1 b ++ at_depth 0 close_line)
 
 -- the lines of a program, in order
-abbrev pub program_rows : Whole → List Row
+abbrev pub program_rows : Whole → List IndentedLine
 program_rows p = map header_row header_lines ++ (map declared_row p.decls ++ (flat_map function_rows p.funcs ++ main_rows p.main))
 
-abbrev pub rows_text : List Row → List ℕ
+abbrev pub rows_text : List IndentedLine → List ℕ
 rows_text rows = flat_map row_text rows
 
 -- the one text of a program

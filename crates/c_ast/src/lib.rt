@@ -1,16 +1,11 @@
 //! The syntax of a small subset of C99: programs over `int64_t` variables and arrays, functions without parameters, and the calls
 //! by which a program asks for inputs and tells observations.
 //!
-//! What a program is spelled as stands in `specs/Spelling.antt`, which programs are in the subset in `specs/Bounds.antt`.
+//! What a program is spelled as stands in `specs/Spelling.antt`, which programs are in the subset in `specs/Bounds.antt`, and their static rules in
+//! `specs/Rules.antt`.
 #![tactic(auto)]
 
-mod bodies;
 pub mod events;
-pub mod names;
-mod rules;
-
-pub use names::Names;
-pub use rules::{fault, static_rules};
 
 /// A letter from `a` to `z` and a number, as `v12`.
 #[derive(Clone, Copy, PartialEq, Eq, Hash)]

@@ -1,8 +1,7 @@
-pub mod Elements
-pub mod Counts
-pub mod Progress
-pub mod Columns
-pub mod StepLemmas
-pub mod Weights
-pub mod Calls
-pub mod Wholes
+pub mod Memory
+pub mod Steps
+pub mod Values
+pub mod Frames
+pub mod Loops
+pub mod Programs
+pub mod Texts

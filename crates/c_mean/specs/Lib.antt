@@ -1,6 +1,6 @@
 pub mod Meaning
-pub mod Spans
-pub mod Layout
-pub mod Calls
-pub mod Running
-pub mod Answering
+pub mod Places
+pub mod Texts
+pub mod Runs
+pub mod Programs
+pub mod Laws

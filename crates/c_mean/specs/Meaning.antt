@@ -300,6 +300,10 @@ abbrev pub behind_functions : ℕ → List Function → ℕ
 behind_functions n [] = n
 behind_functions n (f ∷ fs) = behind_functions (later n (block_count f.body)) fs
 
+-- how many elements a variable has
+abbrev pub elements_of : Declared → ℕ
+elements_of d = unwrap_or d.size 1
+
 -- a declared variable at the beginning: all elements are 0
 abbrev pub first_slot : Declared → Slot
 first_slot d = record { name = d.name; cells = replicate (unwrap_or d.size 1) (pos 0) }

@@ -5,7 +5,7 @@ use Rattle.std.proofs.lemmas.Bool.{cond-true, eq-eqb, eqb-true, lt-ltb, ltb-true
 use Rattle.c_ast.specs.declared.Name.{Name}
 use Rattle.c_ast.specs.declared.Bound.{Bound}
 use Rattle.c_ast.specs.Syntax.{Exp, Place, Asked, Told, Statement, set, ask, choice, loop, call, tell, Block, done, next, start}
-use Rattle.c_ast.specs.Spelling.{Line, Row, at_depth, header_line, scalar_line, array_line, function_line, main_line, set_line, ask_line, if_line, else_line, for_line, call_line, tell_line, close_line, statement_rows, block_rows, else_rows}
+use Rattle.c_ast.specs.Spelling.{Line, IndentedLine, at_depth, header_line, scalar_line, array_line, function_line, main_line, set_line, ask_line, if_line, else_line, for_line, call_line, tell_line, close_line, statement_rows, block_rows, else_rows}
 use Rattle.c_ast.specs.Bounds.{IsName, IsExp, IsPlace, IsAsked, IsTold, IsBound, StatementFits, BlockFits}
 use Rattle.c_ast.proofs.Fits.{some_room, choice_parts, loop_part}
 use Rattle.sci_text.specs.Reading.{◌>>=◌}
@@ -13,7 +13,7 @@ use Rattle.sci_text.proofs.Parts.{bind_some, guarded, some_is}
 use Rattle.c_parse.specs.LineBounds.{IsLine}
 use Rattle.c_parse.specs.Machine.{Opened, first, second, turn, Open, bottom, inner, append, one, depth_of, outer_depth, add, closes, close, otherwise, step_line, expected_depth, is_close, has_room, step_row}
 
-abbrev pub steps : List Row → Open → Option Open
+abbrev pub steps : List IndentedLine → Open → Option Open
 steps [] o = Some o
 steps (r ∷ rs) o = step_row r o >>= steps rs
 
@@ -42,7 +42,7 @@ add_depth : (s : Statement) (o : Open) → depth_of (add s o) ≡ depth_of o
 add_depth s (bottom b) = refl
 add_depth s (inner b o k) = refl
 
-steps-append : (a b : List Row) (o p : Open) → steps a o ≡ Some p → steps (a ++ b) o ≡ steps b p
+steps-append : (a b : List IndentedLine) (o p : Open) → steps a o ≡ Some p → steps (a ++ b) o ≡ steps b p
 steps-append [] b o p e = ap (λ (q : Option Open). q >>= steps b) e
 steps-append (r ∷ rs) b o p e =
     let m = bind_some (step_row r o) (steps rs) p e in
@@ -98,12 +98,12 @@ pub body_steps : (b : Block) → BlockFits 16 b → steps (block_rows 1 b) (bott
 body_steps b f = block_steps b 1 (bottom done) refl f
 
 -- The lines that led to these open blocks.
-abbrev pub opening : ℕ → Opened → List Row
+abbrev pub opening : ℕ → Opened → List IndentedLine
 opening d (first e) = at_depth d (if_line e)
 opening d (second e a) = at_depth d (if_line e) ++ (block_rows (suc d) a ++ at_depth d else_line)
 opening d (turn x n) = at_depth d (for_line x n)
 
-abbrev pub so_far : Open → List Row
+abbrev pub so_far : Open → List IndentedLine
 so_far (bottom b) = block_rows 1 b
 so_far (inner b o k) = so_far k ++ (opening (depth_of k) o ++ block_rows (suc (depth_of k)) b)
 
@@ -119,7 +119,7 @@ add_rows s (inner b o k) =
     ap (λ l. so_far k ++ (opening (depth_of k) o ++ l)) more ∙ sym (simp append_assoc)
 
 -- What a row at its depth makes of the lines so far: they are one more.
-abbrev Grown : Row → Open → Open → Type 0
+abbrev Grown : IndentedLine → Open → Open → Type 0
 Grown r o p = so_far p ≡ so_far o ++ (r ∷ [])
 
 -- an If without a second list, and one with it, by their lines
@@ -166,7 +166,7 @@ line_rows (array_line x n) o p h = absurd cc
 line_rows (function_line x) o p h = absurd cc
 line_rows main_line o p h = absurd cc
 
-pub row_rows : (r : Row) (o p : Open) → step_row r o ≡ Some p → so_far p ≡ so_far o ++ r ∷ []
+pub row_rows : (r : IndentedLine) (o p : Open) → step_row r o ≡ Some p → so_far p ≡ so_far o ++ r ∷ []
 row_rows r o p h =
     let g = guarded (nat_eq (expected_depth r.line o) r.depth && has_room r.line o) (step_line r.line o) p h in
     let e = eqb-true (expected_depth r.line o) r.depth (and_parts (nat_eq (expected_depth r.line o) r.depth) (has_room r.line o) g.0).0 in
@@ -234,16 +234,16 @@ line_fits (array_line x n) o p g r f is = absurd cc
 line_fits (function_line x) o p g r f is = absurd cc
 line_fits main_line o p g r f is = absurd cc
 
-pub row_fits : (r : Row) (o p : Open) → IsLine r.line → OpenFits o → step_row r o ≡ Some p → OpenFits p
+pub row_fits : (r : IndentedLine) (o p : Open) → IsLine r.line → OpenFits o → step_row r o ≡ Some p → OpenFits p
 row_fits r o p g f h =
     let q = guarded (nat_eq (expected_depth r.line o) r.depth && has_room r.line o) (step_line r.line o) p h in
     line_fits r.line o p g (and_parts (nat_eq (expected_depth r.line o) r.depth) (has_room r.line o) q.0).1 f q.1
 
 -- more rows lead from these open blocks to a body
 abbrev pub Ends : Open → Type 0
-Ends o = (b : Block) × (more : List Row) × (block_rows 1 b ≡ so_far o ++ more) × BlockFits 16 b
+Ends o = (b : Block) × (more : List IndentedLine) × (block_rows 1 b ≡ so_far o ++ more) × BlockFits 16 b
 
-ends_by : (o p : Open) (rs : List Row) → so_far p ≡ so_far o ++ rs → Ends p → Ends o
+ends_by : (o p : Open) (rs : List IndentedLine) → so_far p ≡ so_far o ++ rs → Ends p → Ends o
 ends_by o p rs e f = (f.0, rs ++ f.1, f.2 ∙ ap (λ l. l ++ f.1) e ∙ append_assoc (so_far o) rs f.1, f.3)
 
 some_second : (b : Block) (e : Exp) (a : Block) (k : Open) → closes (append b (one (tell start))) (second e a) k ≡ Some (add (choice e a (append b (one (tell start)))) k)

@@ -8,7 +8,7 @@ use Rattle.c_ast.specs.declared.Bound.TheVariants as bounds
 use Rattle.c_ast.specs.declared.Op.{Op}
 use Rattle.c_ast.specs.declared.Op.TheVariants.{Add, Sub, Mul, Div, Rem, Lt, Le, Gt, Ge, Eq, Ne, And, Or}
 use Rattle.c_ast.specs.Syntax.{Exp, num, var, element, neg, not, bin, Place, scalar, cell, Asked, more, input, until, limit, Told, start, event, value, finish, stop}
-use Rattle.c_ast.specs.Spelling.{name_text, exp_text, op_open, op_text, is_arithmetic, place_text, asked_text, told_text, bound_text, line_text, Line, Row, header_line, scalar_line, array_line, function_line, main_line, set_line, ask_line, if_line, else_line, for_line, call_line, tell_line, close_line}
+use Rattle.c_ast.specs.Spelling.{name_text, exp_text, op_open, op_text, is_arithmetic, place_text, asked_text, told_text, bound_text, line_text, Line, IndentedLine, header_line, scalar_line, array_line, function_line, main_line, set_line, ask_line, if_line, else_line, for_line, call_line, tell_line, close_line}
 use Rattle.c_ast.specs.Bounds.{is_letter, IsName, IsNumber, IsExp, IsPlace, IsAsked, IsTold, IsBound, Fits}
 use Rattle.c_parse.specs.LineBounds.{IsLine, row_bytes}
 use Rattle.sci_text.specs.Lines.{has_lf}
@@ -107,5 +107,5 @@ blanks_clear : (n : ℕ) → has_lf (replicate n 32) ≡ false
 blanks_clear zero = refl
 blanks_clear (suc n) = blanks_clear n
 
-pub row_clear : (r : Row) → IsLine r.line → has_lf (row_bytes r) ≡ false
+pub row_clear : (r : IndentedLine) → IsLine r.line → has_lf (row_bytes r) ≡ false
 row_clear r f = both_clear (replicate (2 * r.depth) 32) (line_text r.line) (blanks_clear (2 * r.depth)) (line_clear r.line f)

@@ -6,7 +6,7 @@ use Rattle.c_ast.specs.declared.Name.{Name}
 use Rattle.c_ast.specs.declared.Bound.{Bound}
 use Rattle.c_ast.specs.declared.Bound.TheVariants as bounds
 use Rattle.c_ast.specs.Syntax.{Exp, Place, scalar, cell, Asked, more, input, until, limit, Told, start, event, value, finish, stop}
-use Rattle.c_ast.specs.Spelling.{name_text, exp_text, place_text, asked_text, told_text, bound_text, line_text, Line, Row, row_of, header_line, scalar_line, array_line, function_line, main_line, set_line, ask_line, if_line, else_line, for_line, call_line, tell_line, close_line}
+use Rattle.c_ast.specs.Spelling.{name_text, exp_text, place_text, asked_text, told_text, bound_text, line_text, Line, IndentedLine, row_of, header_line, scalar_line, array_line, function_line, main_line, set_line, ask_line, if_line, else_line, for_line, call_line, tell_line, close_line}
 use Rattle.c_ast.specs.Rules.{same_name}
 use Rattle.c_ast.specs.Bounds.{IsName, IsExp, IsPlace, IsAsked, IsTold, IsBound, Fits}
 use Rattle.sci_text.specs.Reading.{◌>>=◌, or_else, after, ended}
@@ -342,7 +342,7 @@ blanks_split [] = refl
 blanks_split (c ∷ cs) = blank_step (nat_eq c 32) c cs [] (unindented cs) (blanks cs) (eqb-true c 32) (blanks_split cs)
 
 -- a line with its depth
-pub row_takes : (bytes : List ℕ) (r : Row) → row_at bytes ≡ Some r → (bytes ≡ row_bytes r) × IsLine r.line
+pub row_takes : (bytes : List ℕ) (r : IndentedLine) → row_at bytes ≡ Some r → (bytes ≡ row_bytes r) × IsLine r.line
 unfolding row_at
 row_takes bytes r e =
     let g = guarded (nat_eq (blanks bytes % 2) 0) (line_at (unindented bytes) >>= λ l. Some (row_of (blanks bytes / 2) l)) r e in
@@ -351,5 +351,5 @@ row_takes bytes r e =
     let t = line_takes (unindented bytes) l.0 l.1 in
     let even = eqb-true (blanks bytes % 2) 0 g.0 in
     let twice : blanks bytes ≡ 2 * (blanks bytes / 2) = omega arith in
-    subst (λ (q : Row). (bytes ≡ row_bytes q) × IsLine q.line) p
+    subst (λ (q : IndentedLine). (bytes ≡ row_bytes q) × IsLine q.line) p
     (blanks_split bytes ∙ ap (λ (n : ℕ). replicate n 32 ++ unindented bytes) twice ∙ ap (λ (m : List ℕ). replicate (2 * (blanks bytes / 2)) 32 ++ m) t.0, t.1)

@@ -8,7 +8,7 @@ use Rattle.std.proofs.lemmas.Grind.{flat_map-append}
 use Rattle.std.proofs.lemmas.List.Elements.{All-nil, All-push, All-head, All-tail}
 use Rattle.c_ast.specs.declared.Name.{Name}
 use Rattle.c_ast.specs.Syntax.{Block, done, next, Declared, Function, Whole}
-use Rattle.c_ast.specs.Spelling.{Line, Row, row_of, row_text, rows_text, at_depth, line_text, header_line, scalar_line, array_line, function_line, main_line, set_line, ask_line, if_line, else_line, for_line, call_line, tell_line, close_line, block_rows, declared_line, declared_row, function_rows, main_rows, spelling}
+use Rattle.c_ast.specs.Spelling.{Line, IndentedLine, row_of, row_text, rows_text, at_depth, line_text, header_line, scalar_line, array_line, function_line, main_line, set_line, ask_line, if_line, else_line, for_line, call_line, tell_line, close_line, block_rows, declared_line, declared_row, function_rows, main_rows, spelling}
 use Rattle.c_ast.specs.Bounds.{IsName, IsDeclared, IsFunction, IsBody, IsWhole, BlockFits}
 use Rattle.sci_text.specs.Reading.{◌>>=◌, after}
 use Rattle.sci_text.specs.Lines.{with_lf}
@@ -25,13 +25,13 @@ owner_line None = main_line
 owner_line (Some f) = function_line f
 
 -- the lines behind the header so far
-abbrev pub outside_rows : List Declared → List Function → List Row
+abbrev pub outside_rows : List Declared → List Function → List IndentedLine
 outside_rows ds fs = map declared_row ds ++ flat_map function_rows fs
 
-abbrev pub body_rows : List Declared → List Function → Option Name → List Row → List Row
+abbrev pub body_rows : List Declared → List Function → Option Name → List IndentedLine → List IndentedLine
 body_rows ds fs owner rows = map declared_row ds ++ (flat_map function_rows fs ++ (at_depth 0 (owner_line owner) ++ rows))
 
-abbrev pub rows_so_far : State → List Row
+abbrev pub rows_so_far : State → List IndentedLine
 rows_so_far (heading t) = []
 rows_so_far (outside ds fs) = outside_rows ds fs
 rows_so_far (body ds fs owner o) = body_rows ds fs owner (so_far o)
@@ -55,17 +55,17 @@ IsBehind (body ds fs owner o) = Unit {0}
 IsBehind (over p) = Unit {0}
 
 -- one line more
-pub record Moved (rows : List Row) (r : Row) (s : State) : Type 0 where
+pub record Moved (rows : List IndentedLine) (r : IndentedLine) (s : State) : Type 0 where
   pub rows_are : rows_so_far s ≡ rows ++ r ∷ []
   pub fits : StateFits s
   pub behind : IsBehind s
 
-moved_to : (rows : List Row) (r : Row) (s t : State) → Some s ≡ Some t → Moved rows r s → Moved rows r t
+moved_to : (rows : List IndentedLine) (r : IndentedLine) (s t : State) → Some s ≡ Some t → Moved rows r s → Moved rows r t
 moved_to rows r s t e m = subst (Moved rows r) (some_is e) m
 
 declares_moved : (d : Declared) (ds : List Declared) (fs : List Function) (s : State) → IsDeclared d → All IsDeclared ds → declares d ds fs ≡ Some s → Moved (outside_rows ds fs) (declared_row d) s
 declares_moved d ds [] s f g e = moved_to _ _ _ s e (record {
-  rows_are = append-nil (map declared_row (ds ++ d ∷ [])) ∙ map-append declared_row ds (d ∷ []) ∙ ap (λ (l : List Row). l ++ declared_row d ∷ []) (sym (append-nil (map declared_row ds)));
+  rows_are = append-nil (map declared_row (ds ++ d ∷ [])) ∙ map-append declared_row ds (d ∷ []) ∙ ap (λ (l : List IndentedLine). l ++ declared_row d ∷ []) (sym (append-nil (map declared_row ds)));
   fits = (All-push IsDeclared ds d g f, All-nil IsFunction);
   behind = tt;
 })
@@ -101,14 +101,14 @@ pub fits_body : (b : Block) → IsBody b → BlockFits 16 b
 unfolding IsBody
 fits_body b f = f
 
-function_regroup : (a b : List Row) (f c : Row) (s : List Row) → a ++ (b ++ (f ∷ (s ++ c ∷ []))) ≡ (a ++ (b ++ (f ∷ s))) ++ c ∷ []
+function_regroup : (a b : List IndentedLine) (f c : IndentedLine) (s : List IndentedLine) → a ++ (b ++ (f ∷ (s ++ c ∷ []))) ≡ (a ++ (b ++ (f ∷ s))) ++ c ∷ []
 function_regroup a b f c s = simp append_assoc
 
 ends_moved : (owner : Option Name) (ds : List Declared) (fs : List Function) (b : Block) → OwnerFits owner → All IsDeclared ds → All IsFunction fs → BlockFits 16 b → Moved (body_rows ds fs owner (block_rows 1 b)) (row_of 0 close_line) (ends_body ds fs owner b)
 ends_moved (Some x) ds fs b f g h k =
     let func : Function = record { name = x; body = b } in
     record {
-      rows_are = ap (λ (l : List Row). map declared_row ds ++ l) (flat_map-append function_rows fs (func ∷ []) ∙ ap (λ (l : List Row). flat_map function_rows fs ++ l) (append-nil (function_rows func)))
+      rows_are = ap (λ (l : List IndentedLine). map declared_row ds ++ l) (flat_map-append function_rows fs (func ∷ []) ∙ ap (λ (l : List IndentedLine). flat_map function_rows fs ++ l) (append-nil (function_rows func)))
           ∙ function_regroup (map declared_row ds) (flat_map function_rows fs) (row_of 0 (function_line x)) (row_of 0 close_line) (block_rows 1 b);
       fits = (g, All-push IsFunction fs func h (f, body_fits b k));
       behind = tt;
@@ -134,20 +134,20 @@ close_is (for_line x n) e = absurd cc
 close_is (call_line x) e = absurd cc
 close_is (tell_line t) e = absurd cc
 
-row_is : (r : Row) (d : ℕ) (l : Line) → r.depth ≡ d → r.line ≡ l → r ≡ row_of d l
+row_is : (r : IndentedLine) (d : ℕ) (l : Line) → r.depth ≡ d → r.line ≡ l → r ≡ row_of d l
 row_is r d l e f = ap (λ (n : ℕ). row_of n r.line) e ∙ ap (λ (m : Line). row_of d m) f
 
-end_moved : (r : Row) (ds : List Declared) (fs : List Function) (owner : Option Name) (o : Open) (s : State) → StateFits (body ds fs owner o) → is_end r o ≡ true → Some (ends_body ds fs owner (body_of o)) ≡ Some s → Moved (body_rows ds fs owner (so_far o)) r s
+end_moved : (r : IndentedLine) (ds : List Declared) (fs : List Function) (owner : Option Name) (o : Open) (s : State) → StateFits (body ds fs owner o) → is_end r o ≡ true → Some (ends_body ds fs owner (body_of o)) ≡ Some s → Moved (body_rows ds fs owner (so_far o)) r s
 end_moved r ds fs owner (inner b w k) s f t e = absurd cc
 end_moved r ds fs owner (bottom b) s f t e =
     let p = and_parts (is_close r.line) (nat_eq r.depth 0) t in
     let is = row_is r 0 close_line (eqb-true r.depth 0 p.1) (close_is r.line p.0) in
-    subst (λ (q : Row). Moved (body_rows ds fs owner (block_rows 1 b)) q s) (sym is) (moved_to _ _ _ s e (ends_moved owner ds fs b f.1.0 f.0.0 f.0.1 f.1.1))
+    subst (λ (q : IndentedLine). Moved (body_rows ds fs owner (block_rows 1 b)) q s) (sym is) (moved_to _ _ _ s e (ends_moved owner ds fs b f.1.0 f.0.0 f.0.1 f.1.1))
 
-body_regroup : (a b c s : List Row) (r : Row) → a ++ (b ++ (c ++ (s ++ r ∷ []))) ≡ (a ++ (b ++ (c ++ s))) ++ r ∷ []
+body_regroup : (a b c s : List IndentedLine) (r : IndentedLine) → a ++ (b ++ (c ++ (s ++ r ∷ []))) ≡ (a ++ (b ++ (c ++ s))) ++ r ∷ []
 body_regroup a b c s r = simp append_assoc
 
-inner_moved : (r : Row) (ds : List Declared) (fs : List Function) (owner : Option Name) (o : Open) (s : State) → StateFits (body ds fs owner o) → IsLine r.line → (step_row r o >>= λ p. Some (body ds fs owner p)) ≡ Some s → Moved (body_rows ds fs owner (so_far o)) r s
+inner_moved : (r : IndentedLine) (ds : List Declared) (fs : List Function) (owner : Option Name) (o : Open) (s : State) → StateFits (body ds fs owner o) → IsLine r.line → (step_row r o >>= λ p. Some (body ds fs owner p)) ≡ Some s → Moved (body_rows ds fs owner (so_far o)) r s
 inner_moved r ds fs owner o s f g e =
     let m = bind_some (step_row r o) (λ p. Some (body ds fs owner p)) s e in
     moved_to _ _ _ s m.2 (record {
@@ -156,13 +156,13 @@ inner_moved r ds fs owner o s f g e =
       behind = tt;
     })
 
-pub step_moved : (r : Row) (s t : State) → StateFits s → IsLine r.line → step r s ≡ Some t → Moved (rows_so_far s) r t
+pub step_moved : (r : IndentedLine) (s t : State) → StateFits s → IsLine r.line → step r s ≡ Some t → Moved (rows_so_far s) r t
 step_moved r (heading h) t f g e = absurd cc
 step_moved r (over p) t f g e = absurd cc
 step_moved r (outside ds fs) t f g e =
     let q = guarded (nat_eq r.depth 0) (step_outside r.line ds fs) t e in
     let is = row_is r 0 r.line (eqb-true r.depth 0 q.0) refl in
-    subst (λ (x : Row). Moved (outside_rows ds fs) x t) (sym is) (outside_moved r.line ds fs t g f.0 f.1 q.1)
+    subst (λ (x : IndentedLine). Moved (outside_rows ds fs) x t) (sym is) (outside_moved r.line ds fs t g f.0 f.1 q.1)
 step_moved r (body ds fs owner o) t f g e =
     ⊎_elim
     (λ w. end_moved r ds fs owner o t f w.0 w.1)
@@ -170,13 +170,13 @@ step_moved r (body ds fs owner o) t f g e =
     (chosen (is_end r o) (Some (ends_body ds fs owner (body_of o))) (step_row r o >>= λ p. Some (body ds fs owner p)) (Some t) e)
 
 -- A program within the bounds that goes on from there.
-abbrev Goes : List Row → Type 0
-Goes rows = (p : Whole) × (more : List Row) × IsWhole p × (behind_rows p ≡ rows ++ more)
+abbrev Goes : List IndentedLine → Type 0
+Goes rows = (p : Whole) × (more : List IndentedLine) × IsWhole p × (behind_rows p ≡ rows ++ more)
 
-body_more : (a b c s more e : List Row) → a ++ (b ++ (c ++ ((s ++ more) ++ e))) ≡ (a ++ (b ++ (c ++ s))) ++ (more ++ e)
+body_more : (a b c s more e : List IndentedLine) → a ++ (b ++ (c ++ ((s ++ more) ++ e))) ≡ (a ++ (b ++ (c ++ s))) ++ (more ++ e)
 body_more a b c s more e = simp append_assoc
 
-function_more : (a b c s more e m : List Row) → a ++ ((b ++ ((c ++ ((s ++ more) ++ e)) ++ [])) ++ m) ≡ (a ++ (b ++ (c ++ s))) ++ (more ++ (e ++ m))
+function_more : (a b c s more e m : List IndentedLine) → a ++ ((b ++ ((c ++ ((s ++ more) ++ e)) ++ [])) ++ m) ≡ (a ++ (b ++ (c ++ s))) ++ (more ++ (e ++ m))
 function_more a b c s more e m = simp (append_assoc, append-nil)
 
 body_goes : (ds : List Declared) (fs : List Function) (owner : Option Name) (o : Open) → StateFits (body ds fs owner o) → Goes (body_rows ds fs owner (so_far o))
@@ -185,7 +185,7 @@ body_goes ds fs None o f =
       record { decls = ds; funcs = fs; main = e.0 },
       e.1 ++ at_depth 0 close_line,
       record { decls = f.0.0; funcs = f.0.1; main = body_fits e.0 e.3 },
-      ap (λ (l : List Row). map declared_row ds ++ (flat_map function_rows fs ++ (at_depth 0 main_line ++ (l ++ at_depth 0 close_line)))) e.2
+      ap (λ (l : List IndentedLine). map declared_row ds ++ (flat_map function_rows fs ++ (at_depth 0 main_line ++ (l ++ at_depth 0 close_line)))) e.2
           ∙ body_more (map declared_row ds) (flat_map function_rows fs) (at_depth 0 main_line) (so_far o) e.1 (at_depth 0 close_line),
     )
 body_goes ds fs (Some x) o f =
@@ -194,7 +194,7 @@ body_goes ds fs (Some x) o f =
       record { decls = ds; funcs = fs ++ func ∷ []; main = done },
       e.1 ++ (at_depth 0 close_line ++ main_rows done),
       record { decls = f.0.0; funcs = All-push IsFunction fs func f.0.1 (f.1.0, body_fits e.0 e.3); main = body_fits done tt },
-      ap (λ (l : List Row). map declared_row ds ++ (l ++ main_rows done)) (flat_map-append function_rows fs (func ∷ []) ∙ ap (λ (l : List Row). flat_map function_rows fs ++ ((at_depth 0 (function_line x) ++ (l ++ at_depth 0 close_line)) ++ [])) e.2)
+      ap (λ (l : List IndentedLine). map declared_row ds ++ (l ++ main_rows done)) (flat_map-append function_rows fs (func ∷ []) ∙ ap (λ (l : List IndentedLine). flat_map function_rows fs ++ ((at_depth 0 (function_line x) ++ (l ++ at_depth 0 close_line)) ++ [])) e.2)
           ∙ function_more (map declared_row ds) (flat_map function_rows fs) (at_depth 0 (function_line x)) (so_far o) e.1 (at_depth 0 close_line) (main_rows done),
     )
 
@@ -204,11 +204,11 @@ state_goes (outside ds fs) b f = (record { decls = ds; funcs = fs; main = done }
 state_goes (body ds fs owner o) b f = body_goes ds fs owner o f
 state_goes (over p) b f = (p, [], f, sym (append-nil (behind_rows p)))
 
-pub rows_text-append : (a b : List Row) → rows_text (a ++ b) ≡ rows_text a ++ rows_text b
+pub rows_text-append : (a b : List IndentedLine) → rows_text (a ++ b) ≡ rows_text a ++ rows_text b
 rows_text-append [] b = refl
 rows_text-append (r ∷ a) b = ap (λ (l : List ℕ). row_text r ++ l) (rows_text-append a b) ∙ sym (append_assoc (row_text r) (rows_text a) (rows_text b))
 
-pub row_text_is : (r : Row) → row_text r ≡ with_lf (row_bytes r)
+pub row_text_is : (r : IndentedLine) → row_text r ≡ with_lf (row_bytes r)
 row_text_is r = sym (append_assoc (replicate (2 * r.depth) 32) (line_text r.line) (codes "\n"))
 
 -- the header, and the lines behind it
@@ -252,11 +252,11 @@ led_front t (outside ds fs) l f = behind_front t (outside ds fs) tt l f
     behind_front : (t : List ℕ) (s : State) → IsBehind s → t ≡ header_text ++ rows_text (rows_so_far s) → StateFits s → IsFront t
     behind_front t s b l f =
         let g = state_goes s b f in
-        (g.0, rows_text g.1, g.2, spelling_is g.0 ∙ ap (λ (rows : List Row). header_text ++ rows_text rows) g.3 ∙ ap (λ (h : List ℕ). header_text ++ h) (rows_text-append (rows_so_far s) g.1) ∙ sym (append_assoc header_text (rows_text (rows_so_far s)) (rows_text g.1)) ∙ ap (λ (h : List ℕ). h ++ rows_text g.1) (sym l))
+        (g.0, rows_text g.1, g.2, spelling_is g.0 ∙ ap (λ (rows : List IndentedLine). header_text ++ rows_text rows) g.3 ∙ ap (λ (h : List ℕ). header_text ++ h) (rows_text-append (rows_so_far s) g.1) ∙ sym (append_assoc header_text (rows_text (rows_so_far s)) (rows_text g.1)) ∙ ap (λ (h : List ℕ). h ++ rows_text g.1) (sym l))
 led_front t (body ds fs owner o) l f =
     let s = body ds fs owner o in
     let g = state_goes s tt f in
-    (g.0, rows_text g.1, g.2, spelling_is g.0 ∙ ap (λ (rows : List Row). header_text ++ rows_text rows) g.3 ∙ ap (λ (h : List ℕ). header_text ++ h) (rows_text-append (rows_so_far s) g.1) ∙ sym (append_assoc header_text (rows_text (rows_so_far s)) (rows_text g.1)) ∙ ap (λ (h : List ℕ). h ++ rows_text g.1) (sym l))
+    (g.0, rows_text g.1, g.2, spelling_is g.0 ∙ ap (λ (rows : List IndentedLine). header_text ++ rows_text rows) g.3 ∙ ap (λ (h : List ℕ). header_text ++ h) (rows_text-append (rows_so_far s) g.1) ∙ sym (append_assoc header_text (rows_text (rows_so_far s)) (rows_text g.1)) ∙ ap (λ (h : List ℕ). h ++ rows_text g.1) (sym l))
 led_front t (over p) l f = (p, [], f, spelling_is p ∙ sym l ∙ sym (append-nil t))
 
 -- one line of the header
@@ -275,7 +275,7 @@ heading_led line t rest s l e =
     regroup : (a b c d : List ℕ) → (a ++ (b ++ c)) ++ d ≡ a ++ (b ++ (c ++ d))
     regroup a b c d = simp append_assoc
 
-moved_led : (line t : List ℕ) (rows : List Row) (s : State) (r : Row) → t ≡ header_text ++ rows_text rows → line ≡ row_bytes r → Moved rows r s → Led (t ++ with_lf line) s
+moved_led : (line t : List ℕ) (rows : List IndentedLine) (s : State) (r : IndentedLine) → t ≡ header_text ++ rows_text rows → line ≡ row_bytes r → Moved rows r s → Led (t ++ with_lf line) s
 moved_led line t rows s r l is m =
     behind_led (t ++ with_lf line) s m.behind
     (ap (λ (h : List ℕ). h ++ with_lf line) l ∙ append_assoc header_text (rows_text rows) (with_lf line)

@@ -8,7 +8,7 @@ use Rattle.std.proofs.lemmas.List.Folds.{list_any-append}
 use Rattle.std.proofs.lemmas.List.Elements.{All-head, All-tail}
 use Rattle.c_ast.specs.declared.Name.{Name}
 use Rattle.c_ast.specs.Syntax.{Statement, set, ask, choice, loop, call, tell, Block, done, next, Declared, Function, Whole}
-use Rattle.c_ast.specs.Spelling.{Line, Row, row_of, row_text, rows_text, at_depth, header_line, scalar_line, array_line, function_line, main_line, set_line, ask_line, if_line, else_line, for_line, call_line, tell_line, close_line, statement_rows, block_rows, else_rows, declared_line, declared_row, function_rows, main_rows, header_lines, spelling}
+use Rattle.c_ast.specs.Spelling.{Line, IndentedLine, row_of, row_text, rows_text, at_depth, header_line, scalar_line, array_line, function_line, main_line, set_line, ask_line, if_line, else_line, for_line, call_line, tell_line, close_line, statement_rows, block_rows, else_rows, declared_line, declared_row, function_rows, main_rows, header_lines, spelling}
 use Rattle.c_ast.specs.Bounds.{IsName, IsSize, IsDeclared, IsFunction, IsBody, IsWhole, StatementFits, BlockFits}
 use Rattle.sci_text.specs.Reading.{◌>>=◌, after}
 use Rattle.sci_text.specs.Lines.{has_lf, with_lf, joined, AllClear}
@@ -24,11 +24,11 @@ use Rattle.c_parse.proofs.BlockLaws.{steps, body_steps}
 use Rattle.c_parse.proofs.StateLaws.{owner_line, StateFits, IsBehind, Moved, step_moved, fits_body, rows_text-append, row_text_is, spelling_is, Led, pass_led, led_front}
 
 -- lines within the bounds
-abbrev pub AllLines : List Row → Type 0
+abbrev pub AllLines : List IndentedLine → Type 0
 AllLines [] = Unit {0}
 AllLines (r ∷ rs) = IsLine r.line × AllLines rs
 
-all_append : (a b : List Row) → AllLines a → AllLines b → AllLines (a ++ b)
+all_append : (a b : List IndentedLine) → AllLines a → AllLines b → AllLines (a ++ b)
 all_append [] b f g = g
 all_append (r ∷ a) b f g = (f.0, all_append a b f.1 g)
 
@@ -73,11 +73,11 @@ behind_lines p f =
     (all_append (flat_map function_rows p.funcs) (main_rows p.main) (funcs_lines p.funcs f.funcs) (tt, body_lines p.main (fits_body p.main f.main)))
 
 -- the rows of a text, one by one
-abbrev runs : List Row → State → Option State
+abbrev runs : List IndentedLine → State → Option State
 runs [] s = Some s
 runs (r ∷ rs) s = step r s >>= runs rs
 
-runs-append : (a b : List Row) (s t : State) → runs a s ≡ Some t → runs (a ++ b) s ≡ runs b t
+runs-append : (a b : List IndentedLine) (s t : State) → runs a s ≡ Some t → runs (a ++ b) s ≡ runs b t
 runs-append [] b s t e = ap (λ (q : Option State). q >>= runs b) e
 runs-append (r ∷ rs) b s t e =
     let m = bind_some (step r s) (runs rs) t e in
@@ -111,14 +111,14 @@ either_false : (a b : Bool) → b ≡ false → (a && b) ≡ false
 either_false true b e = e
 either_false false b e = refl
 
-not_end : (r : Row) (o q : Open) → step_row r o ≡ Some q → is_end r o ≡ false
+not_end : (r : IndentedLine) (o q : Open) → step_row r o ≡ Some q → is_end r o ≡ false
 not_end r (inner b w k) q e = refl
 not_end r (bottom b) q e =
     let g = guarded _ _ q e in
     let d = sym (eqb-true (expected_depth r.line (bottom b)) r.depth (and_parts (nat_eq (expected_depth r.line (bottom b)) r.depth) _ g.0).0) ∙ expected_one r.line b in
     either_false (is_close r.line) (nat_eq r.depth 0) (ap (λ (n : ℕ). nat_eq n 0) d)
 
-body_run : (rs : List Row) (ds : List Declared) (fs : List Function) (owner : Option Name) (o p : Open) → steps rs o ≡ Some p → runs rs (body ds fs owner o) ≡ Some (body ds fs owner p)
+body_run : (rs : List IndentedLine) (ds : List Declared) (fs : List Function) (owner : Option Name) (o p : Open) → steps rs o ≡ Some p → runs rs (body ds fs owner o) ≡ Some (body ds fs owner p)
 body_run [] ds fs owner o p e = ap (λ (q : Open). Some (body ds fs owner q)) (some_is e)
 body_run (r ∷ rs) ds fs owner o p e =
     let m = bind_some (step_row r o) (steps rs) p e in
@@ -143,13 +143,13 @@ behind_run p f =
     ∙ whole_body_run p.main p.decls p.funcs None (fits_body p.main f.main)
 
 -- a line is read as its row
-pass_row : (r : Row) (s : State) → IsBehind s → IsLine r.line → pass (row_bytes r) s ≡ step r s
+pass_row : (r : IndentedLine) (s : State) → IsBehind s → IsLine r.line → pass (row_bytes r) s ≡ step r s
 pass_row r (heading t) b f = absurd b
-pass_row r (outside ds fs) b f = ap (λ (o : Option Row). o >>= λ r. step r (outside ds fs)) (row_again r.depth r.line f)
-pass_row r (body ds fs owner o) b f = ap (λ (q : Option Row). q >>= λ r. step r (body ds fs owner o)) (row_again r.depth r.line f)
+pass_row r (outside ds fs) b f = ap (λ (o : Option IndentedLine). o >>= λ r. step r (outside ds fs)) (row_again r.depth r.line f)
+pass_row r (body ds fs owner o) b f = ap (λ (q : Option IndentedLine). q >>= λ r. step r (body ds fs owner o)) (row_again r.depth r.line f)
 pass_row r (over p) b f = refl
 
-passes_runs : (rs : List Row) (s t : State) → IsBehind s → StateFits s → AllLines rs → runs rs s ≡ Some t → passes (map row_bytes rs) s ≡ Some t
+passes_runs : (rs : List IndentedLine) (s t : State) → IsBehind s → StateFits s → AllLines rs → runs rs s ≡ Some t → passes (map row_bytes rs) s ≡ Some t
 passes_runs [] s t b f g e = e
 passes_runs (r ∷ rs) s t b f g e =
     let m = bind_some (step r s) (runs rs) t e in
@@ -172,7 +172,7 @@ program_passes p f =
     through-append pass header_lines (map row_bytes (behind_rows p)) outset (outside [] []) header_passes
     ∙ passes_runs (behind_rows p) (outside [] []) (over p) tt fits_nothing (behind_lines p f) (behind_run p f)
 
-rows_joined : (rs : List Row) → rows_text rs ≡ joined (map row_bytes rs)
+rows_joined : (rs : List IndentedLine) → rows_text rs ≡ joined (map row_bytes rs)
 rows_joined [] = refl
 rows_joined (r ∷ rs) = ap (λ (l : List ℕ). l ++ rows_text rs) (row_text_is r) ∙ ap (λ (l : List ℕ). with_lf (row_bytes r) ++ l) (rows_joined rs)
 
@@ -184,7 +184,7 @@ pub spelling_joined : (p : Whole) → spelling p ≡ joined (lines_of p)
 spelling_joined p =
     spelling_is p ∙ ap (λ (h : List ℕ). h ++ rows_text (behind_rows p)) header_joined ∙ ap (λ (l : List ℕ). joined header_lines ++ l) (rows_joined (behind_rows p)) ∙ sym (joined-append header_lines (map row_bytes (behind_rows p)))
 
-rows_clear : (rs : List Row) → AllLines rs → AllClear (map row_bytes rs)
+rows_clear : (rs : List IndentedLine) → AllLines rs → AllClear (map row_bytes rs)
 rows_clear [] f = tt
 rows_clear (r ∷ rs) f = (row_clear r f.0, rows_clear rs f.1)
 

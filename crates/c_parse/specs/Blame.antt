@@ -3,12 +3,12 @@ use Rattle.std.specs.Prelude.{◌≡◌, ℕ, ◌≤◌, List, [], ◌++◌, len
 use Rattle.std.specs.List.{flat_map}
 use Rattle.sci_text.specs.Lines.{has_lf, with_lf, joined, AllClear}
 use Rattle.c_ast.specs.Syntax.{Whole}
-use Rattle.c_ast.specs.Spelling.{Row, declared_row, function_rows, main_rows, spelling}
+use Rattle.c_ast.specs.Spelling.{IndentedLine, declared_row, function_rows, main_rows, spelling}
 use Rattle.c_ast.specs.Bounds.{IsWhole}
 use Rattle.c_parse.specs.Machine.{State, outset, passes}
 
 -- the lines of a program behind the header
-abbrev pub behind_rows : Whole → List Row
+abbrev pub behind_rows : Whole → List IndentedLine
 behind_rows p = map declared_row p.decls ++ (flat_map function_rows p.funcs ++ main_rows p.main)
 
 -- the program within its bounds whose text this is

@@ -1,6 +1,6 @@
 -- The bounds of one line, and its text.
 use Rattle.std.specs.Prelude.{◌≡◌, ℕ, ◌*◌, ◌≤◌, List, ◌++◌, codes, replicate}
-use Rattle.c_ast.specs.Spelling.{Line, Row, header_line, scalar_line, array_line, function_line, main_line, set_line, ask_line, if_line, else_line, for_line, call_line, tell_line, close_line, line_text}
+use Rattle.c_ast.specs.Spelling.{Line, IndentedLine, header_line, scalar_line, array_line, function_line, main_line, set_line, ask_line, if_line, else_line, for_line, call_line, tell_line, close_line, line_text}
 use Rattle.c_ast.specs.Bounds.{IsName, IsExp, IsPlace, IsAsked, IsTold, IsBound}
 
 -- a line behind the header, its parts within their bounds
@@ -20,5 +20,5 @@ IsLine (tell_line t) = IsTold t
 IsLine close_line = Unit {0}
 
 -- a line's bytes without its LF
-abbrev pub row_bytes : Row → List ℕ
+abbrev pub row_bytes : IndentedLine → List ℕ
 row_bytes r = replicate (2 * r.depth) 32 ++ line_text r.line

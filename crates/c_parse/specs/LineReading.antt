@@ -5,7 +5,7 @@ use Rattle.c_ast.specs.declared.Bound.{Bound}
 use Rattle.c_ast.specs.declared.Bound.TheVariants as bounds
 use Rattle.c_ast.specs.Rules.{same_name}
 use Rattle.c_ast.specs.Syntax.{Exp, Place, scalar, cell, Asked, more, input, until, limit, Told, start, event, value, finish, stop}
-use Rattle.c_ast.specs.Spelling.{name_text, Line, Row, row_of, header_line, scalar_line, array_line, function_line, main_line, set_line, ask_line, if_line, else_line, for_line, call_line, tell_line, close_line}
+use Rattle.c_ast.specs.Spelling.{name_text, Line, IndentedLine, row_of, header_line, scalar_line, array_line, function_line, main_line, set_line, ask_line, if_line, else_line, for_line, call_line, tell_line, close_line}
 use Rattle.sci_text.specs.Reading.{◌>>=◌, or_else, after, ended}
 use Rattle.sci_text.specs.Numbers.{number_at}
 use Rattle.c_parse.specs.Reading.{closed, name_at, exp_at}
@@ -120,5 +120,5 @@ unindented [] = []
 unindented (c ∷ cs) = if nat_eq c 32 then unindented cs else c ∷ cs
 
 -- a line with two blanks in front for each level
-unfoldable pub row_at : List ℕ → Option Row
+unfoldable pub row_at : List ℕ → Option IndentedLine
 row_at bytes = if nat_eq (blanks bytes % 2) 0 then (line_at (unindented bytes) >>= λ l. Some (row_of (blanks bytes / 2) l)) else None

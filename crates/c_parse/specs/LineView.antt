@@ -4,7 +4,7 @@ use Rattle.c_parse.specs.declared.line.Item.{Item}
 use Rattle.c_parse.specs.declared.line.Item.TheVariants as items
 use Rattle.c_parse.specs.declared.line.Indented.{Indented}
 use Rattle.c_ast.specs.View.{exp_of, place_of, asked_of, told_of}
-use Rattle.c_ast.specs.Spelling.{Line, Row, row_of, scalar_line, array_line, function_line, main_line, set_line, ask_line, if_line, else_line, for_line, call_line, tell_line, close_line}
+use Rattle.c_ast.specs.Spelling.{Line, IndentedLine, row_of, scalar_line, array_line, function_line, main_line, set_line, ask_line, if_line, else_line, for_line, call_line, tell_line, close_line}
 
 abbrev pub line_of : Item → Line
 line_of (items.Scalar x) = scalar_line x
@@ -20,5 +20,5 @@ line_of (items.Call f) = call_line f
 line_of (items.Tell t) = tell_line (told_of t)
 line_of items.Close = close_line
 
-abbrev pub indented_of : Indented → Row
+abbrev pub indented_of : Indented → IndentedLine
 indented_of i = row_of i.depth (line_of i.item)

@@ -5,7 +5,7 @@ use Rattle.std.specs.List.{flat_map}
 use Rattle.c_ast.specs.declared.Name.{Name}
 use Rattle.c_ast.specs.declared.Bound.{Bound}
 use Rattle.c_ast.specs.Syntax.{Exp, Place, Asked, Told, Statement, set, ask, choice, loop, call, tell, Block, done, next, Declared, Function, Whole}
-use Rattle.c_ast.specs.Spelling.{Line, Row, row_of, header_line, scalar_line, array_line, function_line, main_line, set_line, ask_line, if_line, else_line, for_line, call_line, tell_line, close_line, header_lines}
+use Rattle.c_ast.specs.Spelling.{Line, IndentedLine, row_of, header_line, scalar_line, array_line, function_line, main_line, set_line, ask_line, if_line, else_line, for_line, call_line, tell_line, close_line, header_lines}
 use Rattle.sci_text.specs.Reading.{◌>>=◌, after}
 use Rattle.sci_text.specs.Lines.{through}
 use Rattle.c_parse.specs.LineReading.{row_at}
@@ -114,7 +114,7 @@ is_close main_line = false
 abbrev pub has_room : Line → Open → Bool
 has_room l o = if is_close l then true else nat_lt (depth_of o) 17
 
-abbrev pub step_row : Row → Open → Option Open
+abbrev pub step_row : IndentedLine → Open → Option Open
 step_row r o = if nat_eq (expected_depth r.line o) r.depth && has_room r.line o then step_line r.line o else None
 
 -- What was read of a whole program.
@@ -164,7 +164,7 @@ ends_body ds fs (Some f) b = outside ds (fs ++ record { name = f; body = b } ∷
 ends_body ds fs None b = over (record { decls = ds; funcs = fs; main = b })
 
 -- whether the line ends the body
-abbrev pub is_end : Row → Open → Bool
+abbrev pub is_end : IndentedLine → Open → Bool
 is_end r (bottom b) = is_close r.line && nat_eq r.depth 0
 is_end r (inner b o k) = false
 
@@ -172,11 +172,11 @@ abbrev pub body_of : Open → Block
 body_of (bottom b) = b
 body_of (inner b o k) = done
 
-abbrev pub step_body : Row → List Declared → List Function → Option Name → Open → Option State
+abbrev pub step_body : IndentedLine → List Declared → List Function → Option Name → Open → Option State
 step_body r ds fs owner o =
     if is_end r o then Some (ends_body ds fs owner (body_of o)) else (step_row r o >>= λ p. Some (body ds fs owner p))
 
-abbrev pub step : Row → State → Option State
+abbrev pub step : IndentedLine → State → Option State
 step r (heading t) = None
 step r (outside ds fs) = if nat_eq r.depth 0 then step_outside r.line ds fs else None
 step r (body ds fs owner o) = step_body r ds fs owner o

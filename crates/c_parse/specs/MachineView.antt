@@ -1,15 +1,15 @@
 -- What was read, without where it lies in memory.
 use Rattle.std.specs.Prelude.{ℕ, List, map}
 use Rattle.c_ast.specs.View.{exp_of, statements_of, declared_of, function_of, whole_of}
-use Rattle.c_parse.specs.declared.machine.Head.{Head}
-use Rattle.c_parse.specs.declared.machine.Head.TheVariants as heads
+use Rattle.c_parse.specs.declared.machine.BlockHead.{BlockHead}
+use Rattle.c_parse.specs.declared.machine.BlockHead.TheVariants as heads
 use Rattle.c_parse.specs.declared.machine.Stack.{Stack}
 use Rattle.c_parse.specs.declared.machine.Stack.TheVariants as stacks
 use Rattle.c_parse.specs.declared.parser.Parser.{Parser}
 use Rattle.c_parse.specs.declared.parser.Parser.TheVariants as parsers
 use Rattle.c_parse.specs.Machine.{Opened, first, second, turn, Open, bottom, inner, State, heading, outside, body, over}
 
-abbrev pub opened_of : Head → Opened
+abbrev pub opened_of : BlockHead → Opened
 opened_of (heads.First e) = first (exp_of e)
 opened_of (heads.Second e l) = second (exp_of e) (statements_of l.items)
 opened_of (heads.Turn x n) = turn x n

@@ -12,7 +12,7 @@ ghost use Rattle.c_parse.specs.LineReading as read;
 use crate::expression::{expr, must};
 use crate::text::name;
 use c_ast::{Ask, Bound, Expr, Name, Target, Tell};
-use sci_text::{Stop, after_text, number};
+use sci_text::{TextStop, after_text, number};
 use std::alloc::Global;
 
 /// What a line says.
@@ -39,34 +39,34 @@ pub struct Indented {
     pub item: Item,
 }
 
-fn whole(item: Item, bytes: &[u8]) -> Result<Item, Stop>
+fn whole(item: Item, bytes: &[u8]) -> Result<Item, TextStop>
     ensures gives { Gives line_of result (ended (line_of item) bytes.now) }
-    ensures sure { IfErr result (λ e. e ≡ Stop.Other) }
+    ensures sure { IfErr result (λ e. e ≡ TextStop.Other) }
 {
     if bytes.is_empty() {
         Ok(item)
     } else {
-        Err(Stop::Other)
+        Err(TextStop::Other)
     }
 }
 
-fn ending(item: Item, text: &[u8], bytes: &[u8]) -> Result<Item, Stop>
+fn ending(item: Item, text: &[u8], bytes: &[u8]) -> Result<Item, TextStop>
     ensures gives { Gives line_of result (read.ending (line_of item) text.now bytes.now) }
-    ensures sure { IfErr result (λ e. e ≡ Stop.Other) }
+    ensures sure { IfErr result (λ e. e ≡ TextStop.Other) }
 {
     let rest = must(bytes, text)?;
     whole(item, rest)
 }
 
 #[tactic(auto, unfolding(crate::specs::LineReading::full_at))]
-fn full(alloc: Global, bytes: &[u8]) -> Result<(Expr, &[u8]), Stop>
+fn full(alloc: Global, bytes: &[u8]) -> Result<(Expr, &[u8]), TextStop>
     ensures { Gives (λ x. (exp_of x.0, x.1.now)) result (read.full_at bytes.now) }
 {
     expr(alloc, 64, bytes)
 }
 
 #[tactic(auto, unfolding(crate::specs::LineReading::next_at))]
-fn next(alloc: Global, bytes: &[u8]) -> Result<(Expr, &[u8]), Stop>
+fn next(alloc: Global, bytes: &[u8]) -> Result<(Expr, &[u8]), TextStop>
     ensures { Gives (λ x. (exp_of x.0, x.1.now)) result (read.next_at bytes.now) }
 {
     let rest = must(bytes, b", ")?;
@@ -74,11 +74,11 @@ fn next(alloc: Global, bytes: &[u8]) -> Result<(Expr, &[u8]), Stop>
 }
 
 #[tactic(auto, unfolding(crate::specs::LineReading::target_at))]
-fn target(alloc: Global, bytes: &[u8]) -> Result<(Target, &[u8]), Stop>
+fn target(alloc: Global, bytes: &[u8]) -> Result<(Target, &[u8]), TextStop>
     ensures { Gives (λ x. (place_of x.0, x.1.now)) result (read.target_at bytes.now) }
 {
     let Some((x, rest)) = name(bytes) else {
-        return Err(Stop::Other);
+        return Err(TextStop::Other);
     };
     match after_text(rest, b"[") {
         None => Ok((Target::Var(x), rest)),
@@ -91,7 +91,7 @@ fn target(alloc: Global, bytes: &[u8]) -> Result<(Target, &[u8]), Stop>
 }
 
 #[tactic(auto, unfolding(crate::specs::LineReading::asked_at))]
-fn asked(alloc: Global, bytes: &[u8]) -> Result<(Ask, &[u8]), Stop>
+fn asked(alloc: Global, bytes: &[u8]) -> Result<(Ask, &[u8]), TextStop>
     ensures { Gives (λ x. (asked_of x.0, x.1.now)) result (read.asked_at bytes.now) }
 {
     if let Some(rest) = after_text(bytes, b"more(") {
@@ -112,7 +112,7 @@ fn asked(alloc: Global, bytes: &[u8]) -> Result<(Ask, &[u8]), Stop>
 }
 
 #[tactic(auto, unfolding(crate::specs::LineReading::assigned_at))]
-fn assigned(alloc: Global, target: Target, bytes: &[u8]) -> Result<Item, Stop>
+fn assigned(alloc: Global, target: Target, bytes: &[u8]) -> Result<Item, TextStop>
     ensures { Gives line_of result (read.assigned_at (place_of target) bytes.now) }
 {
     match after_text(bytes, b"sci_") {
@@ -128,11 +128,11 @@ fn assigned(alloc: Global, target: Target, bytes: &[u8]) -> Result<Item, Stop>
 }
 
 #[tactic(auto, unfolding(crate::specs::LineReading::named_at))]
-fn named(alloc: Global, bytes: &[u8]) -> Result<Item, Stop>
+fn named(alloc: Global, bytes: &[u8]) -> Result<Item, TextStop>
     ensures { Gives line_of result (read.named_at bytes.now) }
 {
     let Some((x, rest)) = name(bytes) else {
-        return Err(Stop::Other);
+        return Err(TextStop::Other);
     };
     match after_text(rest, b"();") {
         Some(rest) => whole(Item::Call(x), rest),
@@ -145,7 +145,7 @@ fn named(alloc: Global, bytes: &[u8]) -> Result<Item, Stop>
 }
 
 #[tactic(auto, unfolding(crate::specs::LineReading::three_at))]
-fn told_event(alloc: Global, bytes: &[u8]) -> Result<(Tell, &[u8]), Stop>
+fn told_event(alloc: Global, bytes: &[u8]) -> Result<(Tell, &[u8]), TextStop>
     ensures { Gives (λ x. (told_of x.0, x.1.now)) result (read.three_at event bytes.now) }
 {
     let (a, rest) = full(alloc, bytes)?;
@@ -156,7 +156,7 @@ fn told_event(alloc: Global, bytes: &[u8]) -> Result<(Tell, &[u8]), Stop>
 }
 
 #[tactic(auto, unfolding(crate::specs::LineReading::three_at))]
-fn told_stop(alloc: Global, bytes: &[u8]) -> Result<(Tell, &[u8]), Stop>
+fn told_stop(alloc: Global, bytes: &[u8]) -> Result<(Tell, &[u8]), TextStop>
     ensures { Gives (λ x. (told_of x.0, x.1.now)) result (read.three_at stop bytes.now) }
 {
     let (a, rest) = full(alloc, bytes)?;
@@ -167,7 +167,7 @@ fn told_stop(alloc: Global, bytes: &[u8]) -> Result<(Tell, &[u8]), Stop>
 }
 
 #[tactic(auto, unfolding(crate::specs::LineReading::four_at))]
-fn told_value(alloc: Global, bytes: &[u8]) -> Result<(Tell, &[u8]), Stop>
+fn told_value(alloc: Global, bytes: &[u8]) -> Result<(Tell, &[u8]), TextStop>
     ensures { Gives (λ x. (told_of x.0, x.1.now)) result (read.four_at bytes.now) }
 {
     let (a, rest) = full(alloc, bytes)?;
@@ -179,7 +179,7 @@ fn told_value(alloc: Global, bytes: &[u8]) -> Result<(Tell, &[u8]), Stop>
 }
 
 #[tactic(auto, unfolding(crate::specs::LineReading::told_at))]
-fn told(alloc: Global, bytes: &[u8]) -> Result<(Tell, &[u8]), Stop>
+fn told(alloc: Global, bytes: &[u8]) -> Result<(Tell, &[u8]), TextStop>
     ensures { Gives (λ x. (told_of x.0, x.1.now)) result (read.told_at bytes.now) }
 {
     if let Some(rest) = after_text(bytes, b"start()") {
@@ -201,7 +201,7 @@ fn told(alloc: Global, bytes: &[u8]) -> Result<(Tell, &[u8]), Stop>
 }
 
 #[tactic(auto, unfolding(crate::specs::LineReading::tell_at))]
-fn tell(alloc: Global, bytes: &[u8]) -> Result<Item, Stop>
+fn tell(alloc: Global, bytes: &[u8]) -> Result<Item, TextStop>
     ensures { Gives line_of result (read.tell_at bytes.now) }
 {
     let (tell, rest) = told(alloc, bytes)?;
@@ -209,21 +209,21 @@ fn tell(alloc: Global, bytes: &[u8]) -> Result<Item, Stop>
 }
 
 #[tactic(auto, unfolding(crate::specs::LineReading::bound_at))]
-fn bound(bytes: &[u8]) -> Result<(Bound, &[u8]), Stop>
+fn bound(bytes: &[u8]) -> Result<(Bound, &[u8]), TextStop>
     ensures gives { Gives (λ x. (x.0, x.1.now)) result (read.bound_at bytes.now) }
-    ensures sure { IfErr result (λ e. e ≡ Stop.Other) }
+    ensures sure { IfErr result (λ e. e ≡ TextStop.Other) }
 {
     match after_text(bytes, b"INT64_C(") {
         Some(rest) => {
             let Some((value, rest)) = number(1 << 63, rest) else {
-                return Err(Stop::Other);
+                return Err(TextStop::Other);
             };
             let rest = must(rest, b")")?;
             Ok((Bound::Num(value as i64), rest))
         }
         None => {
             let Some((x, rest)) = name(bytes) else {
-                return Err(Stop::Other);
+                return Err(TextStop::Other);
             };
             Ok((Bound::Var(x), rest))
         }
@@ -231,24 +231,24 @@ fn bound(bytes: &[u8]) -> Result<(Bound, &[u8]), Stop>
 }
 
 #[tactic(auto, unfolding(crate::specs::LineReading::same_at))]
-fn same(x: Name, bytes: &[u8]) -> Result<&[u8], Stop>
+fn same(x: Name, bytes: &[u8]) -> Result<&[u8], TextStop>
     ensures gives { Gives (λ r. r.now) result (read.same_at x bytes.now) }
-    ensures sure { IfErr result (λ e. e ≡ Stop.Other) }
+    ensures sure { IfErr result (λ e. e ≡ TextStop.Other) }
 {
     let Some((y, rest)) = name(bytes) else {
-        return Err(Stop::Other);
+        return Err(TextStop::Other);
     };
     if x.letter == y.letter && x.number == y.number {
         Ok(rest)
     } else {
-        Err(Stop::Other)
+        Err(TextStop::Other)
     }
 }
 
 #[tactic(auto, unfolding(crate::specs::LineReading::counted_at))]
-fn counted(x: Name, bound: Bound, bytes: &[u8]) -> Result<Item, Stop>
+fn counted(x: Name, bound: Bound, bytes: &[u8]) -> Result<Item, TextStop>
     ensures gives { Gives line_of result (read.counted_at x bound bytes.now) }
-    ensures sure { IfErr result (λ e. e ≡ Stop.Other) }
+    ensures sure { IfErr result (λ e. e ≡ TextStop.Other) }
 {
     let rest = must(bytes, b"; ")?;
     let rest = same(x, rest)?;
@@ -258,12 +258,12 @@ fn counted(x: Name, bound: Bound, bytes: &[u8]) -> Result<Item, Stop>
 }
 
 #[tactic(auto, unfolding(crate::specs::LineReading::for_at))]
-fn turn(bytes: &[u8]) -> Result<Item, Stop>
+fn turn(bytes: &[u8]) -> Result<Item, TextStop>
     ensures gives { Gives line_of result (read.for_at bytes.now) }
-    ensures sure { IfErr result (λ e. e ≡ Stop.Other) }
+    ensures sure { IfErr result (λ e. e ≡ TextStop.Other) }
 {
     let Some((x, rest)) = name(bytes) else {
-        return Err(Stop::Other);
+        return Err(TextStop::Other);
     };
     let rest = must(rest, b" = INT64_C(0); ")?;
     let rest = same(x, rest)?;
@@ -273,26 +273,26 @@ fn turn(bytes: &[u8]) -> Result<Item, Stop>
 }
 
 #[tactic(auto, unfolding(crate::specs::LineReading::size_at))]
-fn sized(x: Name, bytes: &[u8]) -> Result<Item, Stop>
+fn sized(x: Name, bytes: &[u8]) -> Result<Item, TextStop>
     ensures gives { Gives line_of result (read.size_at x bytes.now) }
-    ensures sure { IfErr result (λ e. e ≡ Stop.Other) }
+    ensures sure { IfErr result (λ e. e ≡ TextStop.Other) }
 {
     let Some((size, rest)) = number(1_048_577, bytes) else {
-        return Err(Stop::Other);
+        return Err(TextStop::Other);
     };
     if size < 1 {
-        return Err(Stop::Other);
+        return Err(TextStop::Other);
     }
     ending(Item::Array(x, size as u32), b"];", rest)
 }
 
 #[tactic(auto, unfolding(crate::specs::LineReading::declared_at))]
-fn declared(bytes: &[u8]) -> Result<Item, Stop>
+fn declared(bytes: &[u8]) -> Result<Item, TextStop>
     ensures gives { Gives line_of result (read.declared_at bytes.now) }
-    ensures sure { IfErr result (λ e. e ≡ Stop.Other) }
+    ensures sure { IfErr result (λ e. e ≡ TextStop.Other) }
 {
     let Some((x, rest)) = name(bytes) else {
-        return Err(Stop::Other);
+        return Err(TextStop::Other);
     };
     match after_text(rest, b"[") {
         Some(rest) => sized(x, rest),
@@ -301,16 +301,16 @@ fn declared(bytes: &[u8]) -> Result<Item, Stop>
 }
 
 #[tactic(auto, unfolding(crate::specs::LineReading::static_at))]
-fn outer(bytes: &[u8]) -> Result<Item, Stop>
+fn outer(bytes: &[u8]) -> Result<Item, TextStop>
     ensures gives { Gives line_of result (read.static_at bytes.now) }
-    ensures sure { IfErr result (λ e. e ≡ Stop.Other) }
+    ensures sure { IfErr result (λ e. e ≡ TextStop.Other) }
 {
     match after_text(bytes, b"int64_t ") {
         Some(rest) => declared(rest),
         None => {
             let rest = must(bytes, b"void ")?;
             let Some((f, rest)) = name(rest) else {
-                return Err(Stop::Other);
+                return Err(TextStop::Other);
             };
             ending(Item::Function(f), b"(void) {", rest)
         }
@@ -318,9 +318,9 @@ fn outer(bytes: &[u8]) -> Result<Item, Stop>
 }
 
 #[tactic(auto, unfolding(crate::specs::LineReading::closing_at))]
-fn closing(bytes: &[u8]) -> Result<Item, Stop>
+fn closing(bytes: &[u8]) -> Result<Item, TextStop>
     ensures gives { Gives line_of result (read.closing_at bytes.now) }
-    ensures sure { IfErr result (λ e. e ≡ Stop.Other) }
+    ensures sure { IfErr result (λ e. e ≡ TextStop.Other) }
 {
     match after_text(bytes, b" else {") {
         Some(rest) => whole(Item::Else, rest),
@@ -329,7 +329,7 @@ fn closing(bytes: &[u8]) -> Result<Item, Stop>
 }
 
 #[tactic(auto, unfolding(crate::specs::LineReading::if_at))]
-fn choice(alloc: Global, bytes: &[u8]) -> Result<Item, Stop>
+fn choice(alloc: Global, bytes: &[u8]) -> Result<Item, TextStop>
     ensures { Gives line_of result (read.if_at bytes.now) }
 {
     let (condition, rest) = full(alloc, bytes)?;
@@ -337,7 +337,7 @@ fn choice(alloc: Global, bytes: &[u8]) -> Result<Item, Stop>
 }
 
 #[tactic(auto, unfolding(crate::specs::LineReading::line_at))]
-fn content(alloc: Global, bytes: &[u8]) -> Result<Item, Stop>
+fn content(alloc: Global, bytes: &[u8]) -> Result<Item, TextStop>
     ensures { Gives line_of result (read.line_at bytes.now) }
 {
     if let Some(rest) = after_text(bytes, b"}") {
@@ -375,12 +375,12 @@ fn blanks(bytes: &[u8]) -> usize
 
 /// A line, without its LF.
 #[tactic(auto, unfolding(crate::specs::LineReading::row_at))]
-pub fn row(alloc: Global, bytes: &[u8]) -> Result<Indented, Stop>
+pub fn row(alloc: Global, bytes: &[u8]) -> Result<Indented, TextStop>
     ensures { Gives indented_of result (read.row_at bytes.now) }
 {
     let len = blanks(bytes);
     if len % 2 != 0 {
-        return Err(Stop::Other);
+        return Err(TextStop::Other);
     }
     let item = content(alloc, &bytes[len..])?;
     Ok(Indented {

@@ -10,12 +10,12 @@ ghost use Rattle.c_parse.specs.MachineView.{opened_of, open_of};
 
 use crate::line::{Indented, Item};
 use c_ast::{Bound, Expr, Name, Stmt};
-use sci_text::Stop;
+use sci_text::TextStop;
 use std::alloc::Global;
 
 /// What a block inside another was opened for: the first list of an If, the second with the first, or the body of a For.
 #[derive(Drop)]
-pub enum Head {
+pub enum BlockHead {
     First(Expr),
     Second(Expr, Vec<Stmt>),
     Turn(Name, Bound),
@@ -25,11 +25,11 @@ pub enum Head {
 #[derive(Drop)]
 pub enum Stack {
     Bottom(Vec<Stmt>),
-    Inner(Vec<Stmt>, Head, Box<Stack>),
+    Inner(Vec<Stmt>, BlockHead, Box<Stack>),
 }
 
 #[tactic(auto, using(crate::proofs::MemoryLaws::statements_of_push))]
-fn add(stack: Stack, s: Stmt) -> Result<Stack, Stop>
+fn add(stack: Stack, s: Stmt) -> Result<Stack, TextStop>
     ensures { Gives open_of result (Some (machine.add (statement_of s) (open_of stack))) }
 {
     match stack {
@@ -44,71 +44,76 @@ fn add(stack: Stack, s: Stmt) -> Result<Stack, Stop>
     }
 }
 
-fn inside(alloc: Global, stack: Stack, head: Head) -> Result<Stack, Stop>
+fn inside(alloc: Global, stack: Stack, head: BlockHead) -> Result<Stack, TextStop>
     ensures { Gives open_of result (Some (machine.inner done (opened_of head) (open_of stack))) }
 {
     Ok(Stack::Inner(Vec::new(alloc), head, Box::new(alloc, stack)?))
 }
 
-fn ended(alloc: Global, list: Vec<Stmt>, head: Head, rest: Stack) -> Result<Stack, Stop>
+fn ended(alloc: Global, list: Vec<Stmt>, head: BlockHead, rest: Stack) -> Result<Stack, TextStop>
     ensures { Gives open_of result (machine.closes (statements_of list.items) (opened_of head) (open_of rest)) }
 {
     match head {
-        Head::First(e) => add(rest, Stmt::If(e, list, Vec::new(alloc))),
-        Head::Second(e, yes) => {
+        BlockHead::First(e) => add(rest, Stmt::If(e, list, Vec::new(alloc))),
+        BlockHead::Second(e, yes) => {
             if list.is_empty() {
-                return Err(Stop::Other);
+                return Err(TextStop::Other);
             }
             add(rest, Stmt::If(e, yes, list))
         }
-        Head::Turn(x, bound) => add(rest, Stmt::For(x, bound, list)),
+        BlockHead::Turn(x, bound) => add(rest, Stmt::For(x, bound, list)),
     }
 }
 
-fn closed(alloc: Global, stack: Stack) -> Result<Stack, Stop>
+fn closed(alloc: Global, stack: Stack) -> Result<Stack, TextStop>
     ensures { Gives open_of result (machine.close (open_of stack)) }
 {
     match stack {
-        Stack::Bottom(_) => Err(Stop::Other),
+        Stack::Bottom(_) => Err(TextStop::Other),
         Stack::Inner(list, head, rest) => ended(alloc, list, head, Box::into_inner(rest)),
     }
 }
 
-fn second(alloc: Global, list: Vec<Stmt>, head: Head, rest: Box<Stack>) -> Result<Stack, Stop>
+fn second(
+    alloc: Global,
+    list: Vec<Stmt>,
+    head: BlockHead,
+    rest: Box<Stack>,
+) -> Result<Stack, TextStop>
     ensures { Gives open_of result (machine.otherwise (machine.inner (statements_of list.items) (opened_of head) (open_of rest.value))) }
 {
     match head {
-        Head::First(e) => Ok(Stack::Inner(Vec::new(alloc), Head::Second(e, list), rest)),
-        Head::Second(_, _) => Err(Stop::Other),
-        Head::Turn(_, _) => Err(Stop::Other),
+        BlockHead::First(e) => Ok(Stack::Inner(Vec::new(alloc), BlockHead::Second(e, list), rest)),
+        BlockHead::Second(_, _) => Err(TextStop::Other),
+        BlockHead::Turn(_, _) => Err(TextStop::Other),
     }
 }
 
-fn otherwise(alloc: Global, stack: Stack) -> Result<Stack, Stop>
+fn otherwise(alloc: Global, stack: Stack) -> Result<Stack, TextStop>
     ensures { Gives open_of result (machine.otherwise (open_of stack)) }
 {
     match stack {
-        Stack::Bottom(_) => Err(Stop::Other),
+        Stack::Bottom(_) => Err(TextStop::Other),
         Stack::Inner(list, head, rest) => second(alloc, list, head, rest),
     }
 }
 
-fn step_item(alloc: Global, item: Item, stack: Stack) -> Result<Stack, Stop>
+fn step_item(alloc: Global, item: Item, stack: Stack) -> Result<Stack, TextStop>
     ensures { Gives open_of result (machine.step_line (line_of item) (open_of stack)) }
 {
     match item {
         Item::Set(target, e) => add(stack, Stmt::Set(target, e)),
         Item::Ask(target, ask) => add(stack, Stmt::Ask(target, ask)),
-        Item::If(e) => inside(alloc, stack, Head::First(e)),
+        Item::If(e) => inside(alloc, stack, BlockHead::First(e)),
         Item::Else => otherwise(alloc, stack),
-        Item::For(x, bound) => inside(alloc, stack, Head::Turn(x, bound)),
+        Item::For(x, bound) => inside(alloc, stack, BlockHead::Turn(x, bound)),
         Item::Call(f) => add(stack, Stmt::Call(f)),
         Item::Tell(tell) => add(stack, Stmt::Tell(tell)),
         Item::Close => closed(alloc, stack),
-        Item::Scalar(_) => Err(Stop::Other),
-        Item::Array(_, _) => Err(Stop::Other),
-        Item::Function(_) => Err(Stop::Other),
-        Item::Main => Err(Stop::Other),
+        Item::Scalar(_) => Err(TextStop::Other),
+        Item::Array(_, _) => Err(TextStop::Other),
+        Item::Function(_) => Err(TextStop::Other),
+        Item::Main => Err(TextStop::Other),
     }
 }
 
@@ -200,13 +205,13 @@ fn has_room(item: &Item, stack: &Stack) -> bool
 }
 
 /// A line of a body, after which these blocks stand open.
-pub fn step_row(alloc: Global, row: Indented, stack: Stack) -> Result<Stack, Stop>
+pub fn step_row(alloc: Global, row: Indented, stack: Stack) -> Result<Stack, TextStop>
     ensures { Gives open_of result (machine.step_row (indented_of row) (open_of stack)) }
 {
     if is_placed(&row.item, &stack, row.depth) && has_room(&row.item, &stack) {
         step_item(alloc, row.item, stack)
     } else {
-        Err(Stop::Other)
+        Err(TextStop::Other)
     }
 }
 

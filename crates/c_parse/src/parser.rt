@@ -12,7 +12,7 @@ use crate::expression::must;
 use crate::line::{Indented, Item, row};
 use crate::machine::{Stack, body_of, is_end, step_row};
 use c_ast::{Decl, Func, Name, Program, Stmt};
-use sci_text::Stop;
+use sci_text::TextStop;
 use std::alloc::Global;
 
 const HEADER: &[u8] = b"#include <stdint.h>
@@ -47,7 +47,7 @@ pub fn begin() -> Parser
 
 /// A line of the header.
 #[tactic(auto, using(crate::proofs::MemoryLaws::begun_none, crate::proofs::MemoryLaws::begun_some))]
-pub fn heading(alloc: Global, text: &'static [u8], line: &[u8]) -> Result<Parser, Stop>
+pub fn heading(alloc: Global, text: &'static [u8], line: &[u8]) -> Result<Parser, TextStop>
     ensures { Gives state_of result (machine.pass line.now (machine.heading text.now)) }
 {
     let rest = must(text, line)?;
@@ -60,11 +60,11 @@ pub fn heading(alloc: Global, text: &'static [u8], line: &[u8]) -> Result<Parser
 }
 
 #[tactic(auto, using(crate::proofs::MemoryLaws::declares_first, crate::proofs::MemoryLaws::declares_late))]
-fn declare(mut decls: Vec<Decl>, funcs: Vec<Func>, decl: Decl) -> Result<Parser, Stop>
+fn declare(mut decls: Vec<Decl>, funcs: Vec<Func>, decl: Decl) -> Result<Parser, TextStop>
     ensures { Gives state_of result (machine.declares (declared_of decl) (map declared_of decls.items) (map function_of funcs.items)) }
 {
     if !funcs.is_empty() {
-        return Err(Stop::Other);
+        return Err(TextStop::Other);
     }
     decls.push(decl)?;
     Ok(Parser::Outside(decls, funcs))
@@ -75,13 +75,18 @@ fn begin_body(
     decls: Vec<Decl>,
     funcs: Vec<Func>,
     owner: Option<Name>,
-) -> Result<Parser, Stop>
+) -> Result<Parser, TextStop>
     ensures { Gives state_of result (Some (machine.body (map declared_of decls.items) (map function_of funcs.items) owner (machine.bottom done))) }
 {
     Ok(Parser::Body(decls, funcs, owner, Stack::Bottom(Vec::new(alloc))))
 }
 
-fn outside(alloc: Global, item: Item, decls: Vec<Decl>, funcs: Vec<Func>) -> Result<Parser, Stop>
+fn outside(
+    alloc: Global,
+    item: Item,
+    decls: Vec<Decl>,
+    funcs: Vec<Func>,
+) -> Result<Parser, TextStop>
     ensures { Gives state_of result (machine.step_outside (line_of item) (map declared_of decls.items) (map function_of funcs.items)) }
 {
     match item {
@@ -96,14 +101,14 @@ fn outside(alloc: Global, item: Item, decls: Vec<Decl>, funcs: Vec<Func>) -> Res
         ),
         Item::Function(name) => begin_body(alloc, decls, funcs, Some(name)),
         Item::Main => begin_body(alloc, decls, funcs, None),
-        Item::Set(_, _) => Err(Stop::Other),
-        Item::Ask(_, _) => Err(Stop::Other),
-        Item::If(_) => Err(Stop::Other),
-        Item::Else => Err(Stop::Other),
-        Item::For(_, _) => Err(Stop::Other),
-        Item::Call(_) => Err(Stop::Other),
-        Item::Tell(_) => Err(Stop::Other),
-        Item::Close => Err(Stop::Other),
+        Item::Set(_, _) => Err(TextStop::Other),
+        Item::Ask(_, _) => Err(TextStop::Other),
+        Item::If(_) => Err(TextStop::Other),
+        Item::Else => Err(TextStop::Other),
+        Item::For(_, _) => Err(TextStop::Other),
+        Item::Call(_) => Err(TextStop::Other),
+        Item::Tell(_) => Err(TextStop::Other),
+        Item::Close => Err(TextStop::Other),
     }
 }
 
@@ -112,7 +117,7 @@ fn end_body(
     mut funcs: Vec<Func>,
     owner: Option<Name>,
     body: Vec<Stmt>,
-) -> Result<Parser, Stop>
+) -> Result<Parser, TextStop>
     ensures { Gives state_of result (Some (machine.ends_body (map declared_of decls.items) (map function_of funcs.items) owner (statements_of body.items))) }
 {
     match owner {
@@ -135,7 +140,7 @@ fn inside(
     funcs: Vec<Func>,
     owner: Option<Name>,
     stack: Stack,
-) -> Result<Parser, Stop>
+) -> Result<Parser, TextStop>
     ensures { Gives state_of result (machine.step_body (indented_of row) (map declared_of decls.items) (map function_of funcs.items) owner (open_of stack)) }
 {
     if is_end(&row, &stack) {
@@ -148,25 +153,25 @@ fn inside(
 }
 
 /// A line behind the header.
-pub fn step(alloc: Global, row: Indented, parser: Parser) -> Result<Parser, Stop>
+pub fn step(alloc: Global, row: Indented, parser: Parser) -> Result<Parser, TextStop>
     ensures { Gives state_of result (machine.step (indented_of row) (state_of parser)) }
 {
     match parser {
-        Parser::Heading(_) => Err(Stop::Other),
+        Parser::Heading(_) => Err(TextStop::Other),
         Parser::Outside(decls, funcs) => {
             if row.depth == 0 {
                 outside(alloc, row.item, decls, funcs)
             } else {
-                Err(Stop::Other)
+                Err(TextStop::Other)
             }
         }
         Parser::Body(decls, funcs, owner, stack) => inside(alloc, row, decls, funcs, owner, stack),
-        Parser::Over(_) => Err(Stop::Other),
+        Parser::Over(_) => Err(TextStop::Other),
     }
 }
 
 /// A line, without its LF.
-pub fn pass(alloc: Global, parser: Parser, line: &[u8]) -> Result<Parser, Stop>
+pub fn pass(alloc: Global, parser: Parser, line: &[u8]) -> Result<Parser, TextStop>
     ensures { Gives state_of result (machine.pass line.now (state_of parser)) }
 {
     match parser {
@@ -179,6 +184,6 @@ pub fn pass(alloc: Global, parser: Parser, line: &[u8]) -> Result<Parser, Stop>
             let row = row(alloc, line)?;
             step(alloc, row, Parser::Body(decls, funcs, owner, stack))
         }
-        Parser::Over(_) => Err(Stop::Other),
+        Parser::Over(_) => Err(TextStop::Other),
     }
 }

@@ -2,7 +2,7 @@
 use Rattle.std.proofs.Common.{◌≡◌, ℕ, zero, suc, ◌+◌, ◌*◌, List, [], ◌∷◌, ◌++◌, Bool, true, false, refl, sym, ap, ◌∙◌, subst, arith, Ok, Err, append-nil, append_assoc}
 use Rattle.std.specs.Prelude.{replicate}
 use Rattle.std.specs.Borrow.{MutBor}
-use Rattle.c_ast.specs.Spelling.{Line, Row, row_of, row_text, rows_text, at_depth}
+use Rattle.c_ast.specs.Spelling.{Line, IndentedLine, row_of, row_text, rows_text, at_depth}
 use Rattle.sci_io.specs.Taken.{SinkState, Writes}
 use Rattle.sci_io.proofs.Advance.{then_writes, stopped, begins, finished}
 use Rattle.c_print.specs.Goes.{GoesBy, Goes}
@@ -47,32 +47,32 @@ pub blanks_more : (k : ℕ) → replicate {A = ℕ} (2 * (k + 1)) 32 ≡ replica
 blanks_more k = let e : 2 * (k + 1) ≡ suc (suc (2 * k)) = omega arith in ap (λ (n : ℕ). replicate {A = ℕ} n 32) e ∙ two_more (2 * k)
 
 -- Some rows were written, and these are still to be written.
-pub record Towards {X : Type 0} (state : X → SinkState) (old : MutBor X) (failed : Bool) (new : MutBor X) (fails : Bool) (whole rest : List Row) : Type 0 where
+pub record Towards {X : Type 0} (state : X → SinkState) (old : MutBor X) (failed : Bool) (new : MutBor X) (fails : Bool) (whole rest : List IndentedLine) : Type 0 where
   pub done : List ℕ
   pub wrote : Goes state old failed new fails done
   pub split : rows_text whole ≡ done ++ rows_text rest
 
-pub towards_start : {X : Type 0} (state : X → SinkState) (p : MutBor X) (f : Bool) (rows : List Row) → Towards state p f p f rows rows
+pub towards_start : {X : Type 0} (state : X → SinkState) (p : MutBor X) (f : Bool) (rows : List IndentedLine) → Towards state p f p f rows rows
 towards_start state p f rows = record { done = []; wrote = goes_none state p f; split = refl }
 
-pub rows-append : (a b : List Row) → rows_text (a ++ b) ≡ rows_text a ++ rows_text b
+pub rows-append : (a b : List IndentedLine) → rows_text (a ++ b) ≡ rows_text a ++ rows_text b
 rows-append [] b = refl
 rows-append (r ∷ a) b = ap (λ (l : List ℕ). row_text r ++ l) (rows-append a b) ∙ sym (append_assoc (row_text r) (rows_text a) (rows_text b))
 
 -- the next rows
-pub towards_more : {X : Type 0} {state : X → SinkState} {p q w : MutBor X} {f g h : Bool} {whole : List Row} (now rest : List Row) → Towards state p f q g whole (now ++ rest) → Goes state q g w h (rows_text now) → Towards state p f w h whole rest
+pub towards_more : {X : Type 0} {state : X → SinkState} {p q w : MutBor X} {f g h : Bool} {whole : List IndentedLine} (now rest : List IndentedLine) → Towards state p f q g whole (now ++ rest) → Goes state q g w h (rows_text now) → Towards state p f w h whole rest
 towards_more {whole = whole} now rest t n = record {
   done = t.done ++ rows_text now;
   wrote = goes_then t.wrote n;
   split = t.split ∙ ap (λ (l : List ℕ). t.done ++ l) (rows-append now rest) ∙ sym (append_assoc t.done (rows_text now) (rows_text rest));
 }
 
-pub towards_end : {X : Type 0} {state : X → SinkState} {p q : MutBor X} {f g : Bool} {whole : List Row} → Towards state p f q g whole [] → Goes state p f q g (rows_text whole)
+pub towards_end : {X : Type 0} {state : X → SinkState} {p q : MutBor X} {f g : Bool} {whole : List IndentedLine} → Towards state p f q g whole [] → Goes state p f q g (rows_text whole)
 towards_end {whole = whole} t = goes_as (t.split ∙ append-nil t.done) t.wrote
 
 -- the rows of one line
 pub one_row : {X : Type 0} {state : X → SinkState} {p q : MutBor X} {f g : Bool} (d : ℕ) (l : Line) → Goes state p f q g (row_text (row_of d l)) → Goes state p f q g (rows_text (at_depth d l))
 one_row d l g = goes_as (append-nil (row_text (row_of d l))) g
 
-pub rows_then : {X : Type 0} {state : X → SinkState} {p q w : MutBor X} {f g h : Bool} (a b : List Row) → Goes state p f q g (rows_text a) → Goes state q g w h (rows_text b) → Goes state p f w h (rows_text (a ++ b))
+pub rows_then : {X : Type 0} {state : X → SinkState} {p q w : MutBor X} {f g h : Bool} (a b : List IndentedLine) → Goes state p f q g (rows_text a) → Goes state q g w h (rows_text b) → Goes state p f w h (rows_text (a ++ b))
 rows_then a b x y = goes_as (rows-append a b) (goes_then x y)

@@ -3,8 +3,8 @@ use Rattle.std.proofs.Common.{◌≡◌, ℕ, ◌+◌, ◌<◌, List, [], ◌∷
 use Rattle.std.specs.Prelude.{min, nat_lt}
 use Rattle.std.proofs.lemmas.List.{get_or_default}
 use Rattle.c_ast.specs.declared.Name.{Name}
-use Rattle.c_ast.specs.declared.events.Event.{Event}
-use Rattle.c_ast.specs.declared.events.Event.TheVariants as events
+use Rattle.c_ast.specs.declared.events.TextEvent.{TextEvent}
+use Rattle.c_ast.specs.declared.events.TextEvent.TheVariants as events
 use Rattle.c_ast.specs.Rules.{Scope, outset, too_deep, closing, is_last, blamed_at, behind, earlier, first_blamed, blamed_event}
 use Rattle.c_ast.specs.Events.{program_events}
 use Rattle.c_ast.specs.Syntax.{Whole}
@@ -23,7 +23,7 @@ began_later : (i : ℕ) (o : Option (Name × ℕ)) → Began i o → Began (i + 
 began_later i None b = tt
 began_later i (Some f) b = omega arith
 
-began_behind : (i : ℕ) (s : Scope) (e : Event) → Began i s.owner → Began (i + 1) (behind i s e).owner
+began_behind : (i : ℕ) (s : Scope) (e : TextEvent) → Began i s.owner → Began (i + 1) (behind i s e).owner
 began_behind i s (events.Declare x size) b = began_later i s.owner b
 began_behind i s (events.Function f) b = omega arith
 began_behind i s events.Main b = tt
@@ -44,7 +44,7 @@ deep_before i k s (Some f) b e = let g = guarded (nat_lt 64 s.depth) (Some f.1) 
 closing_before : (i k : ℕ) (s : Scope) → Began i s.owner → closing s ≡ Some k → k < i + 1
 closing_before i k s b e = deep_before i k s s.owner b (guarded (is_last s.blocks) (too_deep s s.owner) k e).1
 
-blamed_before : (i k : ℕ) (s : Scope) (e : Event) → Began i s.owner → blamed_at i s e ≡ Some k → k < i + 1
+blamed_before : (i k : ℕ) (s : Scope) (e : TextEvent) → Began i s.owner → blamed_at i s e ≡ Some k → k < i + 1
 blamed_before i k s (events.Declare x size) b e = here _ i k e
 blamed_before i k s (events.Function f) b e = here _ i k e
 blamed_before i k s events.Main b e = here false i k e
@@ -60,14 +60,14 @@ earlier_below None b k m f g e = g k e
 earlier_below (Some i) None k m f g e = f k e
 earlier_below (Some i) (Some j) k m f g e = let is : min i j ≡ k = some_is e in let p = f i refl in let q = g j refl in omega arith
 
-first_within : (es : List Event) (i k : ℕ) (s : Scope) → Began i s.owner → first_blamed i s es ≡ Some k → k < i + length es
+first_within : (es : List TextEvent) (i k : ℕ) (s : Scope) → Began i s.owner → first_blamed i s es ≡ Some k → k < i + length es
 first_within [] i k s b e = absurd cc
 first_within (v ∷ es) i k s b e =
     earlier_below (blamed_at i s v) (first_blamed (i + 1) (behind i s v) es) k (i + length (v ∷ es))
     (λ x h. let below = blamed_before i x s v b h in omega arith)
     (λ x h. let below = first_within es (i + 1) x (behind i s v) (began_behind i s v b) h in omega arith) e
 
-blamed_within : (es : List Event) (k : ℕ) → blamed_event es ≡ Some k → k < length es
+blamed_within : (es : List TextEvent) (k : ℕ) → blamed_event es ≡ Some k → k < length es
 blamed_within es k e = let within = first_within es 0 k outset tt e in omega arith
 
 -- the blamed event has a place

@@ -4,14 +4,14 @@ use Rattle.std.specs.Prelude.{Result, Ok, Err, IfOk, IfErr}
 use Rattle.std.proofs.lemmas.List.{take_at, drop_at}
 use Rattle.c_ast.specs.Syntax.{Whole}
 use Rattle.c_ast.specs.View.{whole_of}
-use Rattle.c_ast.specs.Spelling.{Row, row_text, rows_text}
+use Rattle.c_ast.specs.Spelling.{IndentedLine, row_text, rows_text}
 use Rattle.sci_text.specs.Reading.{◌>>=◌}
 use Rattle.sci_text.specs.Lines.{has_lf, with_lf}
 use Rattle.sci_text.specs.Stops.{Fails}
 use Rattle.sci_text.proofs.Parts.{bind_some, some_is}
 use Rattle.sci_text.proofs.Splits.{line_has_lf, first_line}
-use Rattle.sci_text.specs.declared.stop.Stop.{Stop}
-use Rattle.sci_text.specs.declared.stop.Stop.TheVariants as stop
+use Rattle.sci_text.specs.declared.stop.TextStop.{TextStop}
+use Rattle.sci_text.specs.declared.stop.TextStop.TheVariants as stop
 use Rattle.c_parse.specs.LineReading.{row_at}
 use Rattle.c_parse.specs.Machine.{State, heading, outside, body, over, header_text, outset, begun, step, pass}
 use Rattle.c_parse.specs.MachineView.{state_of}
@@ -19,15 +19,15 @@ use Rattle.c_parse.specs.Blame.{Spells, IsFront, Unspelled, Reached}
 use Rattle.c_parse.proofs.LineTakes.{row_takes}
 use Rattle.c_parse.proofs.StateLaws.{rows_so_far, IsBehind, StateFits, step_moved, Led, led_behind}
 use Rattle.c_parse.proofs.TextLaws.{reached_more, reached_led, reached_front, stops_there, spelled_ends, reached_spells}
-use Rattle.c_read.specs.declared.reader.Reader.{Reader}
+use Rattle.c_read.specs.declared.reader.ProgramReader.{ProgramReader}
 use Rattle.c_read.specs.declared.reader.Placed.{Placed}
-use Rattle.c_read.specs.declared.ParseStop.{ParseStop}
-use Rattle.c_read.specs.declared.ParseStop.TheVariants as stops
+use Rattle.c_read.specs.declared.ProgramStop.{ProgramStop}
+use Rattle.c_read.specs.declared.ProgramStop.TheVariants as stops
 use Rattle.c_read.specs.Names.{past, row_places, rows_places, program_places}
 use Rattle.c_read.specs.Lines.{read_places, next_places, blame_of, Reads}
 use Rattle.c_read.proofs.Splits.{differ, whole_lines}
 
-pub rows_places-append : (n : ℕ) (a b : List Row) → rows_places n (a ++ b) ≡ rows_places n a ++ rows_places (n + length (rows_text a)) b
+pub rows_places-append : (n : ℕ) (a b : List IndentedLine) → rows_places n (a ++ b) ≡ rows_places n a ++ rows_places (n + length (rows_text a)) b
 rows_places-append n [] b = ap (λ (k : ℕ). rows_places k b) (omega arith)
 rows_places-append n (r ∷ a) b =
     let m = past n (row_text r) in
@@ -58,7 +58,7 @@ line_noted text line (body ds fs owner o) u l f e = behind_noted text line (body
 line_noted text line (over p) u l f e = absurd cc
 
 -- What was read of a text, up to this rest.
-pub record IsAt (bytes rest : List ℕ) (reader : Reader) : Type 0 where
+pub record IsAt (bytes rest : List ℕ) (reader : ProgramReader) : Type 0 where
   pub text : List ℕ
   pub split : bytes ≡ text ++ rest
   pub size : length text + length rest ≡ length bytes
@@ -68,7 +68,7 @@ pub record IsAt (bytes rest : List ℕ) (reader : Reader) : Type 0 where
 size_of : (bytes text rest : List ℕ) → bytes ≡ text ++ rest → length text + length rest ≡ length bytes
 size_of bytes text rest e = sym (ap length e ∙ length-append text rest)
 
-pub at_start : (bytes : List ℕ) (reader : Reader) → state_of reader.parser ≡ outset → reader.places.items ≡ [] → IsAt bytes bytes reader
+pub at_start : (bytes : List ℕ) (reader : ProgramReader) → state_of reader.parser ≡ outset → reader.places.items ≡ [] → IsAt bytes bytes reader
 at_start bytes reader s p = record {
   text = [];
   split = refl;
@@ -77,11 +77,11 @@ at_start bytes reader s p = record {
   places = p ∙ sym (ap places_so_far s);
 }
 
-pub place_at : (bytes rest : List ℕ) (reader : Reader) (i : IsAt bytes rest reader) → length bytes - length rest ≡ length i.text
+pub place_at : (bytes rest : List ℕ) (reader : ProgramReader) (i : IsAt bytes rest reader) → length bytes - length rest ≡ length i.text
 place_at bytes rest reader i = let e = i.size in omega arith
 
 -- a line that passes
-pub at_next : (bytes rest line more : List ℕ) (reader new : Reader) → IsAt bytes rest reader → has_lf line ≡ false → rest ≡ with_lf line ++ more → pass line (state_of reader.parser) ≡ Some (state_of new.parser)
+pub at_next : (bytes rest line more : List ℕ) (reader new : ProgramReader) → IsAt bytes rest reader → has_lf line ≡ false → rest ≡ with_lf line ++ more → pass line (state_of reader.parser) ≡ Some (state_of new.parser)
     → new.places.items ≡ reader.places.items ++ next_places (state_of reader.parser) (length bytes - length rest) line → IsAt bytes more new
 at_next bytes rest line more reader new i c is e p =
     let l = reached_led i.text (state_of reader.parser) i.reached in
@@ -95,14 +95,14 @@ at_next bytes rest line more reader new i c is e p =
           ∙ ap (λ (old : List ℕ). old ++ next_places (state_of reader.parser) (length i.text) line) i.places ∙ sym (line_noted i.text line (state_of reader.parser) (state_of new.parser) l.0 l.1 e);
     }
 
-front_is : (bytes rest : List ℕ) (reader : Reader) (i : IsAt bytes rest reader) → take (length bytes - length rest) bytes ≡ i.text
+front_is : (bytes rest : List ℕ) (reader : ProgramReader) (i : IsAt bytes rest reader) → take (length bytes - length rest) bytes ≡ i.text
 front_is bytes rest reader i = ap (λ (n : ℕ). take n bytes) (place_at bytes rest reader i) ∙ ap (take (length i.text)) i.split ∙ take_at i.text rest (length i.text) refl
 
-rest_is : (bytes rest : List ℕ) (reader : Reader) (i : IsAt bytes rest reader) → drop (length bytes - length rest) bytes ≡ rest
+rest_is : (bytes rest : List ℕ) (reader : ProgramReader) (i : IsAt bytes rest reader) → drop (length bytes - length rest) bytes ≡ rest
 rest_is bytes rest reader i = ap (λ (n : ℕ). drop n bytes) (place_at bytes rest reader i) ∙ ap (drop (length i.text)) i.split ∙ drop_at i.text rest (length i.text) refl
 
 -- what is blamed where reading stops
-unspelled_at : (bytes rest : List ℕ) (reader : Reader) (i : IsAt bytes rest reader) → ((line more : List ℕ) → has_lf line ≡ false → rest ≡ with_lf line ++ more → IsFront (i.text ++ with_lf line) → ⊥)
+unspelled_at : (bytes rest : List ℕ) (reader : ProgramReader) (i : IsAt bytes rest reader) → ((line more : List ℕ) → has_lf line ≡ false → rest ≡ with_lf line ++ more → IsFront (i.text ++ with_lf line) → ⊥)
     → ((p : Whole) → Spells bytes p → ⊥) → Unspelled bytes (length bytes - length rest)
 unspelled_at bytes rest reader i next none =
     let f = front_is bytes rest reader i in
@@ -115,7 +115,7 @@ unspelled_at bytes rest reader i next none =
       none = none;
     }
 
-pub unspelled_line : (bytes rest line more : List ℕ) (reader : Reader) → IsAt bytes rest reader → has_lf line ≡ false → rest ≡ with_lf line ++ more → pass line (state_of reader.parser) ≡ None → Unspelled bytes (length bytes - length rest)
+pub unspelled_line : (bytes rest line more : List ℕ) (reader : ProgramReader) → IsAt bytes rest reader → has_lf line ≡ false → rest ≡ with_lf line ++ more → pass line (state_of reader.parser) ≡ None → Unspelled bytes (length bytes - length rest)
 unspelled_line bytes rest line more reader i c is e =
     let stops = stops_there i.text line (state_of reader.parser) i.reached c e in
     let split : bytes ≡ (i.text ++ with_lf line) ++ more = i.split ∙ ap (λ (t : List ℕ). i.text ++ t) is ∙ sym (append_assoc i.text (with_lf line) more) in
@@ -123,25 +123,25 @@ unspelled_line bytes rest line more reader i c is e =
     (λ other back d h front. stops (subst (λ (l : List ℕ). IsFront (i.text ++ with_lf l)) (sym (first_line line other more back c d (sym is ∙ h)).0) front))
     (λ p s. stops (p, more, s.0, sym s.1 ∙ split))
 
-pub unspelled_end : (bytes rest : List ℕ) (reader : Reader) → IsAt bytes rest reader → has_lf rest ≡ false → ((p : Whole) → rest ≡ [] → state_of reader.parser ≡ over p → ⊥) → Unspelled bytes (length bytes - length rest)
+pub unspelled_end : (bytes rest : List ℕ) (reader : ProgramReader) → IsAt bytes rest reader → has_lf rest ≡ false → ((p : Whole) → rest ≡ [] → state_of reader.parser ≡ over p → ⊥) → Unspelled bytes (length bytes - length rest)
 unspelled_end bytes rest reader i c missing =
     unspelled_at bytes rest reader i
     (λ line more d h front. differ (has_lf rest) (ap has_lf h ∙ line_has_lf line more) c)
     (λ p s. let k = spelled_ends bytes i.text rest (state_of reader.parser) p i.split i.reached c s in missing p k.0 k.1)
 
 -- all of a program
-pub placed_end : (bytes rest : List ℕ) (reader : Reader) (p : Whole) → IsAt bytes rest reader → rest ≡ [] → state_of reader.parser ≡ over p → Spells bytes p × (reader.places.items ≡ program_places p)
+pub placed_end : (bytes rest : List ℕ) (reader : ProgramReader) (p : Whole) → IsAt bytes rest reader → rest ≡ [] → state_of reader.parser ≡ over p → Spells bytes p × (reader.places.items ≡ program_places p)
 placed_end bytes rest reader p i none over_is =
     let whole : i.text ≡ bytes = sym (i.split ∙ ap (λ (t : List ℕ). i.text ++ t) none ∙ append-nil i.text) in
     (reached_spells bytes p (subst (λ (t : List ℕ). Reached t (over p)) whole (subst (Reached i.text) over_is i.reached)), i.places ∙ ap places_so_far over_is)
 
 -- the answers
-pub blamed_line : (bytes rest line more : List ℕ) (reader : Reader) (s : Stop) (result : ParseStop) → IsAt bytes rest reader → has_lf line ≡ false → rest ≡ with_lf line ++ more → Fails s (pass line (state_of reader.parser))
+pub blamed_line : (bytes rest line more : List ℕ) (reader : ProgramReader) (s : TextStop) (result : ProgramStop) → IsAt bytes rest reader → has_lf line ≡ false → rest ≡ with_lf line ++ more → Fails s (pass line (state_of reader.parser))
     → result ≡ blame_of s (length bytes - length rest) → Reads bytes (Err result)
-blamed_line bytes rest line more reader stop.Memory result i c is f e = subst (λ (r : ParseStop). Reads bytes (Err r)) (sym e) tt
-blamed_line bytes rest line more reader stop.Other result i c is f e = subst (λ (r : ParseStop). Reads bytes (Err r)) (sym e) (unspelled_line bytes rest line more reader i c is f)
+blamed_line bytes rest line more reader stop.Memory result i c is f e = subst (λ (r : ProgramStop). Reads bytes (Err r)) (sym e) tt
+blamed_line bytes rest line more reader stop.Other result i c is f e = subst (λ (r : ProgramStop). Reads bytes (Err r)) (sym e) (unspelled_line bytes rest line more reader i c is f)
 
-pub finished : (bytes rest : List ℕ) (reader : Reader) (result : Result Placed ParseStop) → IsAt bytes rest reader → has_lf rest ≡ false → IfOk result (λ x. rest ≡ []) → IfOk result (λ x. state_of reader.parser ≡ over (whole_of x.program))
+pub finished : (bytes rest : List ℕ) (reader : ProgramReader) (result : Result Placed ProgramStop) → IsAt bytes rest reader → has_lf rest ≡ false → IfOk result (λ x. rest ≡ []) → IfOk result (λ x. state_of reader.parser ≡ over (whole_of x.program))
     → IfOk result (λ x. x.places.items ≡ reader.places.items) → IfErr result (λ e. e ≡ stops.NotC (length bytes - length rest)) → IfErr result (λ e. (p : Whole) → rest ≡ [] → state_of reader.parser ≡ over p → ⊥) → Reads bytes result
 finished bytes rest reader (Ok x) i c none is same b m = let e = placed_end bytes rest reader (whole_of x.program) i none is in (e.0, same ∙ e.1)
-finished bytes rest reader (Err x) i c none is same b m = subst (λ (r : ParseStop). Reads bytes (Err r)) (sym b) (unspelled_end bytes rest reader i c m)
+finished bytes rest reader (Err x) i c none is same b m = subst (λ (r : ProgramStop). Reads bytes (Err r)) (sym b) (unspelled_end bytes rest reader i c m)

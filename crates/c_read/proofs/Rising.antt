@@ -6,7 +6,7 @@ use Rattle.c_ast.specs.declared.Name.{Name}
 use Rattle.c_ast.specs.declared.Bound.{Bound}
 use Rattle.c_ast.specs.declared.Bound.TheVariants as bounds
 use Rattle.c_ast.specs.Syntax.{Exp, num, var, element, neg, not, bin, Place, scalar, cell, Asked, more, input, until, limit, Told, start, event, value, finish, stop, Whole}
-use Rattle.c_ast.specs.Spelling.{name_text, op_open, op_text, exp_text, place_text, asked_text, told_text, bound_text, line_text, Line, Row, header_line, scalar_line, array_line, function_line, main_line, set_line, ask_line, if_line, else_line, for_line, call_line, tell_line, close_line, row_text, rows_text, spelling}
+use Rattle.c_ast.specs.Spelling.{name_text, op_open, op_text, exp_text, place_text, asked_text, told_text, bound_text, line_text, Line, IndentedLine, header_line, scalar_line, array_line, function_line, main_line, set_line, ask_line, if_line, else_line, for_line, call_line, tell_line, close_line, row_text, rows_text, spelling}
 use Rattle.c_parse.specs.Machine.{header_text}
 use Rattle.c_parse.specs.Blame.{behind_rows}
 use Rattle.c_parse.proofs.StateLaws.{spelling_is}
@@ -128,12 +128,12 @@ line_rises (call_line f) n = first n (name_text f) (codes "();") (n ∷ []) (nam
 line_rises (tell_line t) n = first n (told_text t) (codes ";") _ (told_rises t n)
 line_rises close_line n = (omega arith, omega arith)
 
-row_rises : (r : Row) (n : ℕ) → Rises n (row_places n r) (row_text r)
+row_rises : (r : IndentedLine) (n : ℕ) → Rises n (row_places n r) (row_text r)
 row_rises r n =
     let blanks : past n (replicate (2 * r.depth) 32) ≡ n + 2 * r.depth = ap (λ (k : ℕ). n + k) (length-replicate (2 * r.depth) 32) in
     subst (λ (k : ℕ). Rises n (line_places k r.line) (row_text r)) blanks (inside n (replicate (2 * r.depth) 32) (line_text r.line) (codes "\n") _ (line_rises r.line _))
 
-rows_rise : (rs : List Row) (n : ℕ) → Rises n (rows_places n rs) (rows_text rs)
+rows_rise : (rs : List IndentedLine) (n : ℕ) → Rises n (rows_places n rs) (rows_text rs)
 rows_rise [] n = omega arith
 rows_rise (r ∷ rs) n = each n (row_text r) (rows_text rs) (row_places n r) _ (row_rises r n) (rows_rise rs _)
 

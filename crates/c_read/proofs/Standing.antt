@@ -5,9 +5,9 @@ use Rattle.std.specs.Prelude.{codes, replicate}
 use Rattle.c_ast.specs.declared.Name.{Name}
 use Rattle.c_ast.specs.declared.Bound.{Bound}
 use Rattle.c_ast.specs.declared.Bound.TheVariants as bounds
-use Rattle.c_ast.specs.declared.events.Event.{Event}
+use Rattle.c_ast.specs.declared.events.TextEvent.{TextEvent}
 use Rattle.c_ast.specs.Syntax.{Exp, num, var, element, neg, not, bin, Place, scalar, cell, Asked, more, input, until, limit, Told, start, event, value, finish, stop, Whole}
-use Rattle.c_ast.specs.Spelling.{name_text, op_open, op_text, exp_text, place_text, asked_text, told_text, bound_text, line_text, Line, Row, header_line, scalar_line, array_line, function_line, main_line, set_line, ask_line, if_line, else_line, for_line, call_line, tell_line, close_line, row_text, rows_text, spelling}
+use Rattle.c_ast.specs.Spelling.{name_text, op_open, op_text, exp_text, place_text, asked_text, told_text, bound_text, line_text, Line, IndentedLine, header_line, scalar_line, array_line, function_line, main_line, set_line, ask_line, if_line, else_line, for_line, call_line, tell_line, close_line, row_text, rows_text, spelling}
 use Rattle.c_ast.specs.Events.{exp_events, place_events, asked_events, told_events, bound_events, line_events, rows_events, program_events}
 use Rattle.c_ast.proofs.EventRows.{program_rows_events}
 use Rattle.c_parse.specs.Machine.{header_text}
@@ -40,7 +40,7 @@ inside text n a b c p = left text (past n a) b c (right text n a (b ++ c) p)
 begins : (text : List ℕ) (n : ℕ) (x : Name) → At text n (name_text x) → Begins (drop n text) (Some x)
 begins text n x p = (p.back, ap (λ (k : ℕ). drop k text) p.byte ∙ ap (drop (length p.front)) p.split ∙ drop_at p.front (name_text x ++ p.back) (length p.front) refl)
 
-stand_append : (text : List ℕ) (a : List ℕ) (x : List Event) (b : List ℕ) (y : List Event) → NamesStand text a x → NamesStand text b y → NamesStand text (a ++ b) (x ++ y)
+stand_append : (text : List ℕ) (a : List ℕ) (x : List TextEvent) (b : List ℕ) (y : List TextEvent) → NamesStand text a x → NamesStand text b y → NamesStand text (a ++ b) (x ++ y)
 stand_append text [] [] b y s t = t
 stand_append text [] (e ∷ x) b y s t = absurd s
 stand_append text (n ∷ a) [] b y s t = absurd s
@@ -127,12 +127,12 @@ line_stand text (call_line f) n p = (begins text n f (left text n (name_text f) 
 line_stand text (tell_line t) n p = told_stand text t n (left text n (told_text t) (codes ";") p)
 line_stand text close_line n p = (tt, tt)
 
-row_stand : (text : List ℕ) (r : Row) (n : ℕ) → At text n (row_text r) → NamesStand text (row_places n r) (line_events r.line)
+row_stand : (text : List ℕ) (r : IndentedLine) (n : ℕ) → At text n (row_text r) → NamesStand text (row_places n r) (line_events r.line)
 row_stand text r n p =
     let blanks : past n (replicate (2 * r.depth) 32) ≡ n + 2 * r.depth = ap (λ (k : ℕ). n + k) (length-replicate (2 * r.depth) 32) in
     subst (λ (k : ℕ). NamesStand text (line_places k r.line) (line_events r.line)) blanks (line_stand text r.line _ (inside text n (replicate (2 * r.depth) 32) (line_text r.line) (codes "\n") p))
 
-rows_stand : (text : List ℕ) (rs : List Row) (n : ℕ) → At text n (rows_text rs) → NamesStand text (rows_places n rs) (rows_events rs)
+rows_stand : (text : List ℕ) (rs : List IndentedLine) (n : ℕ) → At text n (rows_text rs) → NamesStand text (rows_places n rs) (rows_events rs)
 rows_stand text [] n p = tt
 rows_stand text (r ∷ rs) n p = stand_append text (row_places n r) (line_events r.line) _ (rows_events rs) (row_stand text r n (left text n (row_text r) _ p)) (rows_stand text rs _ (right text n (row_text r) (rows_text rs) p))
 
@@ -142,7 +142,7 @@ program_stand p =
     let s = rows_stand (spelling p) (behind_rows p) (length header_text) (record { front = header_text; back = []; split = spelling_is p ∙ ap (λ (l : List ℕ). header_text ++ l) (sym (append-nil rows)); byte = refl }) in
     subst (NamesStand (spelling p) (program_places p)) (program_rows_events p) s
 
-stand_length : (text ns : List ℕ) (es : List Event) → NamesStand text ns es → length ns ≡ length es
+stand_length : (text ns : List ℕ) (es : List TextEvent) → NamesStand text ns es → length ns ≡ length es
 stand_length text [] [] s = refl
 stand_length text [] (e ∷ es) s = absurd s
 stand_length text (n ∷ ns) [] s = absurd s

@@ -14,10 +14,10 @@ use Rattle.sci_text.specs.Lines.{has_lf, with_lf}
 use Rattle.sci_text.proofs.Parts.{some_is}
 use Rattle.c_parse.specs.Blame.{Spells, Unspelled, Reached}
 use Rattle.c_parse.proofs.TextLaws.{lines_of, lines_clear, program_passes, spelling_joined, spelled_ends}
-use Rattle.c_read.specs.declared.ParseStop.{ParseStop}
+use Rattle.c_read.specs.declared.ProgramStop.{ProgramStop}
 use Rattle.c_read.specs.declared.reader.Placed.{Placed}
 use Rattle.c_read.specs.Lines.{Reads}
-use Rattle.c_read.specs.declared.ParseStop.TheVariants as stops
+use Rattle.c_read.specs.declared.ProgramStop.TheVariants as stops
 use Rattle.c_read.specs.Answers.{place_of, blamed_byte, IsRefused, IsAccepted, Answers, Accepts, Blames}
 
 reached_whole : (bytes : List ℕ) (p : Whole) → Spells bytes p → Reached bytes (over p)
@@ -121,19 +121,19 @@ one_blamed bytes m n (inl u) (inr v) = absurd (u.none v.program v.spells)
 one_blamed bytes m n (inr u) (inl v) = absurd (v.none u.program u.spells)
 one_blamed bytes m n (inr u) (inr v) = let same = one_spelled bytes u.program v.program u.spells v.spells in some_is (sym u.blamed ∙ ap blamed_byte same ∙ v.blamed)
 
-pub accepts : (bytes : List ℕ) (r : Result Program ParseStop) → Answers bytes r → (p : Whole) → IsAccepted bytes p → Accepts r p
+pub accepts : (bytes : List ℕ) (r : Result Program ProgramStop) → Answers bytes r → (p : Whole) → IsAccepted bytes p → Accepts r p
 accepts bytes (Ok q) a p due = one_spelled bytes (whole_of q) p a.0 due.0
 accepts bytes (Err (stops.NotC n)) a p due = not_both bytes p n due a
 accepts bytes (Err stops.Memory) a p due = tt
 
-pub blames : (bytes : List ℕ) (r : Result Program ParseStop) → Answers bytes r → (n : ℕ) → IsRefused bytes n → Blames r n
+pub blames : (bytes : List ℕ) (r : Result Program ProgramStop) → Answers bytes r → (n : ℕ) → IsRefused bytes n → Blames r n
 blames bytes (Ok q) a n due = not_both bytes (whole_of q) n a due
 blames bytes (Err (stops.NotC m)) a n due = one_blamed bytes m n a due
 blames bytes (Err stops.Memory) a n due = tt
 
-failed : (bytes : List ℕ) (e : ParseStop) → Reads bytes (Err e) → Answers bytes (Err e)
+failed : (bytes : List ℕ) (e : ProgramStop) → Reads bytes (Err e) → Answers bytes (Err e)
 failed bytes (stops.NotC n) a = inl a
 failed bytes stops.Memory a = tt
 
-pub read_failed : (bytes : List ℕ) (s : Result Placed ParseStop) (r : Result Program ParseStop) (e : ParseStop) → s ≡ Err e → r ≡ Err e → Reads bytes s → Answers bytes r
+pub read_failed : (bytes : List ℕ) (s : Result Placed ProgramStop) (r : Result Program ProgramStop) (e : ProgramStop) → s ≡ Err e → r ≡ Err e → Reads bytes s → Answers bytes r
 read_failed bytes s r e is same a = subst (Answers bytes) (sym same) (failed bytes e (subst (Reads bytes) is a))

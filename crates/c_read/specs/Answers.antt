@@ -7,8 +7,8 @@ use Rattle.c_ast.specs.Events.{program_events}
 use Rattle.c_ast.specs.Rules.{blamed_event, KeepsRules}
 use Rattle.c_parse.specs.Blame.{Spells, Unspelled}
 use Rattle.c_read.specs.Names.{program_places}
-use Rattle.c_read.specs.declared.ParseStop.{ParseStop}
-use Rattle.c_read.specs.declared.ParseStop.TheVariants as stops
+use Rattle.c_read.specs.declared.ProgramStop.{ProgramStop}
+use Rattle.c_read.specs.declared.ProgramStop.TheVariants as stops
 
 -- the byte of this event's name
 abbrev pub place_of : Whole → Option ℕ → Option ℕ
@@ -34,19 +34,19 @@ abbrev pub IsAccepted : List ℕ → Whole → Type 0
 IsAccepted bytes p = Spells bytes p × KeepsRules p
 
 -- what is answered, unless memory ran out
-abbrev pub Answers : List ℕ → Result Program ParseStop → Type 0
+abbrev pub Answers : List ℕ → Result Program ProgramStop → Type 0
 Answers bytes (Ok p) = IsAccepted bytes (whole_of p)
 Answers bytes (Err (stops.NotC n)) = IsRefused bytes n
 Answers bytes (Err stops.Memory) = Unit {0}
 
 -- this program is answered, unless memory ran out
-abbrev pub Accepts : Result Program ParseStop → Whole → Type 0
+abbrev pub Accepts : Result Program ProgramStop → Whole → Type 0
 Accepts (Ok q) p = whole_of q ≡ p
 Accepts (Err (stops.NotC n)) p = ⊥
 Accepts (Err stops.Memory) p = Unit {0}
 
 -- this byte is blamed, unless memory ran out
-abbrev pub Blames : Result Program ParseStop → ℕ → Type 0
+abbrev pub Blames : Result Program ProgramStop → ℕ → Type 0
 Blames (Ok q) n = ⊥
 Blames (Err (stops.NotC m)) n = m ≡ n
 Blames (Err stops.Memory) n = Unit {0}

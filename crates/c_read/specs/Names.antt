@@ -3,10 +3,10 @@ use Rattle.std.specs.Prelude.{◌≡◌, ◌≤◌, ℕ, ◌+◌, ◌*◌, List,
 use Rattle.c_ast.specs.declared.Name.{Name}
 use Rattle.c_ast.specs.declared.Bound.{Bound}
 use Rattle.c_ast.specs.declared.Bound.TheVariants as bounds
-use Rattle.c_ast.specs.declared.events.Event.{Event}
-use Rattle.c_ast.specs.declared.events.Event.TheVariants as events
+use Rattle.c_ast.specs.declared.events.TextEvent.{TextEvent}
+use Rattle.c_ast.specs.declared.events.TextEvent.TheVariants as events
 use Rattle.c_ast.specs.Syntax.{Exp, num, var, element, neg, not, bin, Place, scalar, cell, Asked, more, input, until, limit, Told, start, event, value, finish, stop, Whole}
-use Rattle.c_ast.specs.Spelling.{name_text, op_open, op_text, exp_text, place_text, Line, Row, header_line, scalar_line, array_line, function_line, main_line, set_line, ask_line, if_line, else_line, for_line, call_line, tell_line, close_line, row_text}
+use Rattle.c_ast.specs.Spelling.{name_text, op_open, op_text, exp_text, place_text, Line, IndentedLine, header_line, scalar_line, array_line, function_line, main_line, set_line, ask_line, if_line, else_line, for_line, call_line, tell_line, close_line, row_text}
 use Rattle.c_parse.specs.Machine.{header_text}
 use Rattle.c_parse.specs.Blame.{behind_rows}
 
@@ -72,11 +72,11 @@ line_places n (tell_line t) = told_places n t
 line_places n close_line = n ∷ []
 
 -- of a line that begins at byte n
-abbrev pub row_places : ℕ → Row → List ℕ
+abbrev pub row_places : ℕ → IndentedLine → List ℕ
 row_places n r = line_places (n + 2 * r.depth) r.line
 
 -- of lines of which the first begins at byte n
-abbrev pub rows_places : ℕ → List Row → List ℕ
+abbrev pub rows_places : ℕ → List IndentedLine → List ℕ
 rows_places n [] = []
 rows_places n (r ∷ rs) = row_places n r ++ rows_places (past n (row_text r)) rs
 
@@ -85,7 +85,7 @@ abbrev pub program_places : Whole → List ℕ
 program_places p = rows_places (length header_text) (behind_rows p)
 
 -- the name of what the text does
-abbrev pub name_of : Event → Option Name
+abbrev pub name_of : TextEvent → Option Name
 name_of (events.Declare x size) = Some x
 name_of (events.Function f) = Some f
 name_of events.Main = None
@@ -102,7 +102,7 @@ Begins text None = Unit {0}
 Begins text (Some x) = (rest : List ℕ) × (text ≡ name_text x ++ rest)
 
 -- there is one place for each event, and the event's name begins there
-abbrev pub NamesStand : List ℕ → List ℕ → List Event → Type 0
+abbrev pub NamesStand : List ℕ → List ℕ → List TextEvent → Type 0
 NamesStand text [] [] = Unit {0}
 NamesStand text (n ∷ ns) (e ∷ es) = Begins (drop n text) (name_of e) × NamesStand text ns es
 NamesStand text [] (e ∷ es) = ⊥

@@ -9,16 +9,16 @@ ghost use Rattle.c_parse.specs.Machine as machine;
 ghost use Rattle.c_parse.specs.MachineView.{state_of};
 ghost use Rattle.c_read.specs.Lines.{row_led, read_places, next_places, blame_of, Reads};
 
-use crate::{ParseStop, names};
+use crate::{ProgramStop, names};
 use c_ast::Program;
 use c_parse::line::row;
 use c_parse::parser::{Parser, begin, heading, step};
-use sci_text::{Stop, split_line};
+use sci_text::{TextStop, split_line};
 use std::alloc::Global;
 
 /// What was read so far, and the first byte of each of its names.
 #[derive(Drop)]
-pub struct Reader {
+pub struct ProgramReader {
     pub parser: Parser,
     pub places: Vec<usize>,
 }
@@ -30,7 +30,7 @@ fn pass_row(
     mut places: Vec<usize>,
     at: usize,
     line: &[u8],
-) -> Result<Reader, Stop>
+) -> Result<ProgramReader, TextStop>
     requires { at + length line.now < 2 ^ 64 }
     ensures passes { Gives (λ r. state_of r.parser) result (row_led line.now (state_of parser)) }
     ensures noted { IfOk result (λ r. r.places.items ≡ places.items ++ read_places at (row_at line.now)) }
@@ -38,20 +38,25 @@ fn pass_row(
     let row = row(alloc, line)?;
     names::row(&mut places, at, &row)?;
     let parser = step(alloc, row, parser)?;
-    Ok(Reader { parser, places })
+    Ok(ProgramReader { parser, places })
 }
 
 /// A line that begins at this byte, without its LF.
-fn pass(alloc: Global, reader: Reader, at: usize, line: &[u8]) -> Result<Reader, Stop>
+fn pass(
+    alloc: Global,
+    reader: ProgramReader,
+    at: usize,
+    line: &[u8],
+) -> Result<ProgramReader, TextStop>
     requires { at + length line.now < 2 ^ 64 }
     ensures passes { Gives (λ r. state_of r.parser) result (machine.pass line.now (state_of reader.parser)) }
     ensures noted { IfOk result (λ r. r.places.items ≡ reader.places.items ++ next_places (state_of reader.parser) at line.now) }
 {
-    let Reader { parser, places } = reader;
+    let ProgramReader { parser, places } = reader;
     match parser {
         Parser::Heading(text) => {
             let parser = heading(alloc, text, line)?;
-            Ok(Reader { parser, places })
+            Ok(ProgramReader { parser, places })
         }
         Parser::Outside(decls, funcs) => {
             pass_row(alloc, Parser::Outside(decls, funcs), places, at, line)
@@ -65,16 +70,16 @@ fn pass(alloc: Global, reader: Reader, at: usize, line: &[u8]) -> Result<Reader,
                 line,
             )
         }
-        Parser::Over(_) => Err(Stop::Other),
+        Parser::Over(_) => Err(TextStop::Other),
     }
 }
 
-fn blame(stop: Stop, at: usize) -> ParseStop
+fn blame(stop: TextStop, at: usize) -> ProgramStop
     ensures { result ≡ blame_of stop at }
 {
     match stop {
-        Stop::Memory => ParseStop::Memory,
-        Stop::Other => ParseStop::NotC(at),
+        TextStop::Memory => ProgramStop::Memory,
+        TextStop::Other => ProgramStop::NotC(at),
     }
 }
 
@@ -86,30 +91,30 @@ pub struct Placed {
 }
 
 /// What was read, where nothing is missing and nothing is left.
-fn finish(reader: Reader, at: usize, rest: &[u8]) -> Result<Placed, ParseStop>
+fn finish(reader: ProgramReader, at: usize, rest: &[u8]) -> Result<Placed, ProgramStop>
     ensures none { IfOk result (λ x. rest.now ≡ []) }
     ensures over { IfOk result (λ x. state_of reader.parser ≡ machine.over (whole_of x.program)) }
     ensures places { IfOk result (λ x. x.places.items ≡ reader.places.items) }
-    ensures blamed { IfErr result (λ e. e ≡ ParseStop.NotC at) }
+    ensures blamed { IfErr result (λ e. e ≡ ProgramStop.NotC at) }
     ensures missing { IfErr result (λ e. (p : Whole) → rest.now ≡ [] → state_of reader.parser ≡ machine.over p → ⊥) }
 {
-    let Reader { parser, places } = reader;
+    let ProgramReader { parser, places } = reader;
     if !rest.is_empty() {
-        return Err(ParseStop::NotC(at));
+        return Err(ProgramStop::NotC(at));
     }
     match parser {
         Parser::Over(program) => Ok(Placed { program, places }),
-        Parser::Heading(_) => Err(ParseStop::NotC(at)),
-        Parser::Outside(_, _) => Err(ParseStop::NotC(at)),
-        Parser::Body(_, _, _, _) => Err(ParseStop::NotC(at)),
+        Parser::Heading(_) => Err(ProgramStop::NotC(at)),
+        Parser::Outside(_, _) => Err(ProgramStop::NotC(at)),
+        Parser::Body(_, _, _, _) => Err(ProgramStop::NotC(at)),
     }
 }
 
 /// Reads all lines of a text.
-pub fn read(alloc: Global, bytes: &[u8]) -> Result<Placed, ParseStop>
+pub fn read(alloc: Global, bytes: &[u8]) -> Result<Placed, ProgramStop>
     ensures { Reads bytes.now result }
 {
-    let mut reader = Reader {
+    let mut reader = ProgramReader {
         parser: begin(),
         places: Vec::new(alloc),
     };

@@ -71,10 +71,10 @@ lines_of_front (x ∷ front) (suc k) xs l =
 -- ---- texts that agree on a front and no longer
 
 -- the two have no first byte in common
-abbrev pub Part : List ℕ → List ℕ → Type 0
-Part xs ys = (y : ℕ) → slice_get xs 0 ≡ Some y → slice_get ys 0 ≡ Some y → ⊥
+abbrev pub DifferHere : List ℕ → List ℕ → Type 0
+DifferHere xs ys = (y : ℕ) → slice_get xs 0 ≡ Some y → slice_get ys 0 ≡ Some y → ⊥
 
-no_line : (xs ys : List ℕ) (k : ℕ) (f : List ℕ) → Part xs ys → first_lines xs (suc k) ≡ Some f → first_lines ys (suc k) ≡ Some f → ⊥
+no_line : (xs ys : List ℕ) (k : ℕ) (f : List ℕ) → DifferHere xs ys → first_lines xs (suc k) ≡ Some f → first_lines ys (suc k) ≡ Some f → ⊥
 no_line [] ys k f part e o = none-some f e
 no_line (x ∷ xs) [] k f part e o = none-some f o
 no_line (x ∷ xs) (y ∷ ys) k f part e o =
@@ -82,7 +82,7 @@ no_line (x ∷ xs) (y ∷ ys) k f part e o =
     let n = map_some y (first_lines ys (left_behind y k)) f o in
     part x refl (ap Some (head_same y x n.0 m.0 (n.2 ∙ sym m.2)))
 
-no_more : (front : List ℕ) (k : ℕ) (xs ys : List ℕ) → Part xs ys → AgreeOn k (front ++ xs) (front ++ ys) → k ≤ lines_of front
+no_more : (front : List ℕ) (k : ℕ) (xs ys : List ℕ) → DifferHere xs ys → AgreeOn k (front ++ xs) (front ++ ys) → k ≤ lines_of front
 no_more [] zero xs ys part a = omega arith
 no_more [] (suc k) xs ys part a = absurd (no_line xs ys k a.front part a.in_text a.in_other)
 no_more (x ∷ front) zero xs ys part a = omega arith
@@ -93,7 +93,7 @@ no_more (x ∷ front) (suc k) xs ys part a =
     record { front = m.0; in_text = m.1; in_other = n.1 ∙ ap Some (tail_same x x n.0 m.0 (n.2 ∙ sym m.2)) } in
     counted (is_line_feed x) k (lines_of front) (no_more front (left_behind x k) xs ys part fewer)
 
-agreement : (front xs ys : List ℕ) → Part xs ys → IsAgreement (front ++ xs) (front ++ ys) (lines_of front)
+agreement : (front xs ys : List ℕ) → DifferHere xs ys → IsAgreement (front ++ xs) (front ++ ys) (lines_of front)
 agreement front xs ys part =
     let f = some_lines front (lines_of front) (omega arith) in
     record {
@@ -106,7 +106,7 @@ agreement front xs ys part =
     }
 
 -- two texts with this front agree on its lines
-pub agreement_of : (text other front xs ys : List ℕ) → text ≡ front ++ xs → other ≡ front ++ ys → Part xs ys → IsAgreement text other (lines_of front)
+pub agreement_of : (text other front xs ys : List ℕ) → text ≡ front ++ xs → other ≡ front ++ ys → DifferHere xs ys → IsAgreement text other (lines_of front)
 agreement_of text other front xs ys one two part =
     subst (λ (t : List ℕ). IsAgreement t other (lines_of front)) (sym one)
     (subst (λ (t : List ℕ). IsAgreement (front ++ xs) t (lines_of front)) (sym two) (agreement front xs ys part))

@@ -8,7 +8,7 @@ use Rattle.sci_agree.specs.declared.verdict.Verdict.TheVariants.{Yes, No}
 use Rattle.sci_agree.specs.Lines.{is_line_feed, lines_of, IsAgreement}
 use Rattle.sci_agree.specs.Verdict.{IsVerdict}
 use Rattle.sci_agree.specs.Compared.{Compared, IsCompared, WasGiven}
-use Rattle.sci_agree.proofs.Lines.{Part, lines-append, lines-within, agreement_of}
+use Rattle.sci_agree.proofs.Lines.{DifferHere, lines-append, lines-within, agreement_of}
 
 -- ---- bytes of a list
 
@@ -163,7 +163,7 @@ module _ (c : Compared) (ok : IsCompared c) (due : List ℕ) (given : WasGiven d
   text_is : c.text ≡ take c.at c.text ++ drop c.at c.text
   text_is = sym (take-append-drop c.at c.text)
 
-  counted : (other xs ys : List ℕ) → c.text ≡ take c.at c.text ++ xs → other ≡ take c.at c.text ++ ys → Part xs ys → IsAgreement c.text other c.lines
+  counted : (other xs ys : List ℕ) → c.text ≡ take c.at c.text ++ xs → other ≡ take c.at c.text ++ ys → DifferHere xs ys → IsAgreement c.text other c.lines
   counted other xs ys one two part =
       subst (λ (n : ℕ). IsAgreement c.text other n) (sym ok.lines_are) (agreement_of c.text other (take c.at c.text) xs ys one two part)
 

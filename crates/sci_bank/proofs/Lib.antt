@@ -1,4 +1,2 @@
-pub mod BankLemmas
+pub mod WordLemmas
 pub mod LibraryLemmas
-pub mod CallLemmas
-pub mod RunLemmas

@@ -1,5 +1,5 @@
 -- What a call through a library leaves: one bank is changed, the others stay, and a full library stays full.
-use Rattle.std.proofs.Common.{◌≡◌, ℕ, ◌+◌, ◌<◌, ◌≤◌, List, [], ◌∷◌, ◌++◌, length, refl, ap, sym, ◌∙◌, arith, subst, inl, inr, set, take, get_or, map, Some, None, min, Bool, true, false, cond, Result, Ok, Err}
+use Rattle.std.proofs.Common.{◌≡◌, ℕ, ◌+◌, ◌<◌, ◌≤◌, ℤ, List, [], ◌∷◌, ◌++◌, length, refl, ap, sym, ◌∙◌, arith, subst, inl, inr, set, take, get_or, map, Some, None, min, Bool, true, false, cond, Result, Ok, Err}
 use Rattle.std.specs.Prelude.{IfOk, OnErr, nat_lt}
 use Rattle.std.specs.List.{sum_by}
 use Rattle.std.proofs.lemmas.List.Sums.{sum_by-append}
@@ -9,10 +9,13 @@ use Rattle.std.proofs.lemmas.Bool.{cases_lt, cases_eq}
 use Rattle.std.proofs.lemmas.Grind.{get_or-set_at}
 use Rattle.sci_forms.specs.declared.Kind.{Kind}
 use Rattle.sci_forms.specs.declared.Kind.TheVariants.{Const}
-use Rattle.sci_forms.specs.Names.{kind_at}
-use Rattle.sci_bank.specs.Bank.{Meaning, no_bank}
+use Rattle.sci_forms.specs.Numbers.{kind_at, kinds}
+use Rattle.sci_span.specs.declared.place.Place.{Place}
+use Rattle.sci_span.specs.Values.{gathered}
+use Rattle.sci_bank.specs.declared.runs.Call.{Call}
+use Rattle.sci_bank.specs.Bank.{Meaning, no_bank, after_update}
 use Rattle.sci_bank.specs.Library.{place_of, bank_of, with_bank, Holds, AreInOrder, IsFull, next_of}
-use Rattle.sci_forms.specs.Names.{kinds}
+use Rattle.sci_bank.specs.Runs.{place_in, after_updates}
 
 -- ---- the banks of a library
 
@@ -86,6 +89,11 @@ pub stays_in_order : {X : Type 0} (f : X → Meaning) (g : Meaning → Meaning) 
     → ((b : Meaning) → (g b).kind ≡ b.kind) → AreInOrder (map f xs) → AreInOrder (map f (set xs i y))
 stays_in_order f g xs k i x y e h r c keeps order =
     in_order-with_bank (map f xs) (map f (set xs i y)) k (g (bank_of (map f xs) k)) h (keeps (bank_of (map f xs) k)) (bank_changed f g xs k i x y e h r c) order
+
+-- updates keep it
+pub kind_kept : (b : Meaning) (places : List Place) (values : List ℤ) (cs : List Call) → (after_updates b places values cs).kind ≡ b.kind
+kind_kept b places values [] = refl
+kind_kept b places values (c ∷ cs) = kind_kept (after_update b c.slot c.mask (gathered values (place_in places c.block).ins)) places values cs
 
 -- and a full library stays full
 pub stays_full : {X : Type 0} (f : X → Meaning) (xs : List X) (i : ℕ) (y : X) → IsFull (map f xs) → IsFull (map f (set xs i y))

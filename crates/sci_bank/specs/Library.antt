@@ -1,7 +1,7 @@
 -- The banks of a library, in the order of the kinds' numbers.
 use Rattle.std.specs.Prelude.{◌≡◌, ℕ, ◌+◌, ◌-◌, ◌<◌, min, nat_lt, if◌then◌else◌, Option, Some, None, List, length, slice_index_or, slice_set, sum_by}
 use Rattle.sci_forms.specs.declared.Kind.{Kind}
-use Rattle.sci_forms.specs.Names.{number_of, kind_at, kinds}
+use Rattle.sci_forms.specs.Numbers.{number_of, kind_at, kinds}
 use Rattle.sci_bank.specs.Bank.{Meaning, no_bank}
 
 abbrev pub place_of : Kind → ℕ

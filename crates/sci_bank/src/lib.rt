@@ -17,15 +17,12 @@ use sci_kinds::{Kind, Spec};
 use sci_span::Place;
 
 mod boxed;
-pub mod calls;
 mod instance;
-pub mod kind_bank;
 pub mod library;
-pub mod plain;
-pub mod rule;
 mod runs;
 pub mod words;
 
+pub use instance::Instance;
 pub use runs::{Call, Stuck};
 
 /// How a call of `out` ended.

@@ -11,7 +11,7 @@ ghost use Rattle.sci_kinds.specs.Table.{branch, delay, out, state_len};
 ghost use Rattle.sci_bank.specs.Bank.{Meaning, IsCall, Tells, row_at, spec_at, after_reset, after_add, after_out, after_update};
 ghost use Rattle.sci_bank.specs.Runs.{run_of, calls_made, after_outs, EndsRun, after_updates, AreOfTypes, ArePlaced, MayRun};
 ghost use Rattle.sci_bank.specs.Library.{place_of, bank_of, with_bank, Holds, AreInOrder, IsFull, next_of, total_outs};
-ghost use Rattle.sci_forms.specs.Names.{kinds};
+ghost use Rattle.sci_forms.specs.Numbers.{kinds};
 
 use crate::{Bank, Call, Fate, Stuck};
 use sci_base::NoMemory;
@@ -63,17 +63,6 @@ impl<B: Bank> Library<B> {
         ensures { AreInOrder self.now }
     {
         let _ = &self.banks;
-    }
-
-    /// The kind whose bank is put next; none where the library is full.
-    pub fn next_kind(&self) -> Option<Kind>
-        ensures { result ≡ next_of (length self.now) }
-    {
-        if self.banks.len() < usize::from(KINDS) {
-            Kind::at((self.banks.len() + 1) as u8)
-        } else {
-            None
-        }
     }
 
     /// Whether the banks of all kinds are there.

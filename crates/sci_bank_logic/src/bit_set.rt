@@ -6,11 +6,10 @@ ghost use Rattle.sci_kinds.specs.Table.{number};
 ghost use Rattle.sci_forms.specs.declared.Kind.TheVariants.{BitSet as BitSetKind};
 
 use crate::patterns::{number, pattern, place};
-use sci_bank::kind_bank::KindBank;
-use sci_bank::plain::{CellRule, Plain};
 use sci_bank::words::{Words, only_input, out_type};
 use sci_base::Ty;
 use sci_base::bits::set_bit;
+use sci_kind_bank::{CellRule, KindBank, Plain};
 use sci_kinds::{Cell, Kind};
 use sci_span::Entering;
 

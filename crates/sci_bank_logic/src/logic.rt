@@ -7,9 +7,8 @@ ghost use Rattle.sci_kinds.specs.declared.Cell.TheVariants.{Value};
 ghost use Rattle.sci_forms.specs.declared.Kind.TheVariants.{Logic as LogicKind};
 
 use crate::patterns::digit;
-use sci_bank::kind_bank::KindBank;
-use sci_bank::plain::{CellRule, Plain};
 use sci_bank::words::{Words, element, param};
+use sci_kind_bank::{CellRule, KindBank, Plain};
 use sci_kinds::{Cell, Kind};
 use sci_span::Entering;
 

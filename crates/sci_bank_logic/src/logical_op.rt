@@ -9,11 +9,10 @@ ghost use Rattle.sci_bank_logic.specs.Joins.{join_of, is_turned, joined, IsJoine
 ghost use Rattle.sci_forms.specs.declared.Kind.TheVariants.{LogicalOp as LogicalOpKind};
 
 use crate::patterns::{digit, number, ones, pattern, truth};
-use sci_bank::kind_bank::KindBank;
-use sci_bank::plain::{CellRule, Plain};
 use sci_bank::words::{Words, alike_input, input, out_type, param};
 use sci_base::Ty;
 use sci_forms::values::is_equal;
+use sci_kind_bank::{CellRule, KindBank, Plain};
 use sci_kinds::{Cell, Kind};
 use sci_span::Entering;
 

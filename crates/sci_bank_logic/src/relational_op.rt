@@ -4,9 +4,8 @@ ghost use Rattle.sci_kinds.specs.Table.{relation};
 ghost use Rattle.sci_forms.specs.declared.Kind.TheVariants.{RelationalOp as RelationalOpKind};
 
 use crate::patterns::truth;
-use sci_bank::kind_bank::KindBank;
-use sci_bank::plain::{CellRule, Plain};
 use sci_bank::words::{Words, input, param};
+use sci_kind_bank::{CellRule, KindBank, Plain};
 use sci_kinds::{Cell, Kind};
 use sci_span::Entering;
 

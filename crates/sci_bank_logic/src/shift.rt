@@ -7,12 +7,11 @@ ghost use Rattle.sci_kinds.specs.Table.{shifted, turned};
 ghost use Rattle.sci_forms.specs.declared.Kind.TheVariants.{Shift as ShiftKind};
 
 use crate::patterns::{number, ones, pattern};
-use sci_bank::kind_bank::KindBank;
-use sci_bank::plain::{CellRule, Plain};
 use sci_bank::words::{Words, cell_of, only_input, out_type, param};
 use sci_base::bits::two_to;
 use sci_base::{Mode, Ty, fit};
 use sci_forms::values::is_equal;
+use sci_kind_bank::{CellRule, KindBank, Plain};
 use sci_kinds::{Cell, Kind};
 use sci_span::Entering;
 

@@ -3,9 +3,8 @@ ghost use Rattle.std.specs.Prelude.{refl, ◌≡◌, ◌≤◌};
 ghost use Rattle.sci_kinds.specs.Table.{switches};
 ghost use Rattle.sci_forms.specs.declared.Kind.TheVariants.{Switch2 as Switch2Kind};
 
-use sci_bank::kind_bank::KindBank;
-use sci_bank::plain::{CellRule, Plain};
 use sci_bank::words::{Words, element, param, size};
+use sci_kind_bank::{CellRule, KindBank, Plain};
 use sci_kinds::{Cell, Kind};
 use sci_span::Entering;
 

@@ -4,10 +4,9 @@ ghost use Rattle.sci_base.specs.Fit.{InRange};
 ghost use Rattle.sci_kinds.specs.Table.{beyond_cell};
 ghost use Rattle.sci_forms.specs.declared.Kind.TheVariants.{DeadBand as DeadBandKind};
 
-use sci_bank::kind_bank::KindBank;
-use sci_bank::plain::{CellRule, Plain};
 use sci_bank::words::{Words, cell_of, mode, only_input, out_type, param};
 use sci_base::{Mode, Ty, fit};
+use sci_kind_bank::{CellRule, KindBank, Plain};
 use sci_kinds::{Cell, Kind};
 use sci_span::Entering;
 

@@ -5,10 +5,9 @@ ghost use Rattle.sci_forms.specs.Words.{size};
 ghost use Rattle.sci_kinds.specs.Table.{least_to, greatest_to, input};
 ghost use Rattle.sci_forms.specs.declared.Kind.TheVariants.{MaxMin as MaxMinKind};
 
-use sci_bank::kind_bank::KindBank;
-use sci_bank::plain::{CellRule, Plain};
 use sci_bank::words::{Words, input, param};
 use sci_forms::values::is_equal;
+use sci_kind_bank::{CellRule, KindBank, Plain};
 use sci_kinds::{Cell, Kind};
 use sci_span::Entering;
 

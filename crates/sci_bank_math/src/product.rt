@@ -2,10 +2,9 @@
 ghost use Rattle.std.specs.Prelude.{refl};
 ghost use Rattle.sci_forms.specs.declared.Kind.TheVariants.{Product as ProductKind};
 
-use sci_bank::kind_bank::KindBank;
-use sci_bank::plain::{CellRule, Plain};
 use sci_bank::words::{Words, alike_input, div_cell, mode, out_type, param, product_cell};
 use sci_forms::values::is_equal;
+use sci_kind_bank::{CellRule, KindBank, Plain};
 use sci_kinds::{Cell, Kind};
 use sci_span::Entering;
 

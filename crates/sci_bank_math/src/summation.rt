@@ -7,10 +7,9 @@ ghost use Rattle.sci_kinds.specs.Table.{sum_to, input, fitted, mode_of};
 ghost use Rattle.sci_bank.specs.Bank.{IsOfKind};
 ghost use Rattle.sci_forms.specs.declared.Kind.TheVariants.{Summation as SummationKind};
 
-use sci_bank::kind_bank::KindBank;
-use sci_bank::plain::{CellRule, Plain};
 use sci_bank::words::{Words, alike_input, fitted_cell, param};
 use sci_forms::values::is_equal;
+use sci_kind_bank::{CellRule, KindBank, Plain};
 use sci_kinds::{Cell, Kind};
 use sci_span::Entering;
 

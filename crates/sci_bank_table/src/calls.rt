@@ -5,10 +5,10 @@ ghost use Rattle.sci_bank_table.specs.Instances.{IsInstance};
 
 use crate::row::Row;
 use anyhow::bail;
-use sci_bank::calls::{enters, fills, masks};
 use sci_bank::library::Library;
 use sci_bank::{Bank, Fate};
 use sci_base::NoMemory;
+use sci_kind_bank::calls::{enters, fills, masks};
 use sci_kinds::Spec;
 
 /// Adds a block to the bank of its kind. The answer is its slot.

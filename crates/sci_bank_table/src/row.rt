@@ -84,7 +84,7 @@ fn usual(alloc: Global, words: &[&str]) -> anyhow::Result<Spec>
 
 /// The kind of a name.
 fn kind_of(name: &str) -> anyhow::Result<Kind> {
-    match Kind::by_name(name) {
+    match sci_names::by_name(name) {
         Some(kind) => Ok(kind),
         None => bail!("no kind {name}"),
     }

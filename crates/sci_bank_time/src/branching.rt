@@ -10,9 +10,9 @@ ghost use Rattle.sci_kinds.specs.Asks.{entering_of};
 ghost use Rattle.sci_kinds.specs.Table.{cell_of, branch_of};
 ghost use Rattle.sci_bank.specs.Bank.{IsOfKind};
 
-use sci_bank::rule::Rule;
 use sci_bank::words::Words;
 use sci_base::Ints;
+use sci_kind_bank::Rule;
 use sci_kinds::{Cell, Kind, Spec};
 use sci_span::Entering;
 

@@ -4,8 +4,8 @@ ghost use Rattle.sci_kinds.specs.Table.{brought};
 ghost use Rattle.sci_forms.specs.declared.Kind.TheVariants.{ESelect as ESelectKind};
 
 use crate::branching::{BranchRule, Branching};
-use sci_bank::kind_bank::KindBank;
 use sci_bank::words::{Words, element};
+use sci_kind_bank::KindBank;
 use sci_kinds::Kind;
 use sci_span::Entering;
 

@@ -3,8 +3,8 @@ ghost use Rattle.std.specs.Prelude.{refl};
 ghost use Rattle.sci_forms.specs.declared.Kind.TheVariants.{EvtDly as EvtDlyKind};
 
 use crate::delayed::{DelayRule, Delayed};
-use sci_bank::kind_bank::KindBank;
 use sci_bank::words::{Words, param};
+use sci_kind_bank::KindBank;
 use sci_kinds::Kind;
 use sci_span::Entering;
 

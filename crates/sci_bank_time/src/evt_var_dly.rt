@@ -5,9 +5,9 @@ ghost use Rattle.sci_base.specs.declared.limits.TheConstants.{DELAY};
 ghost use Rattle.sci_forms.specs.declared.Kind.TheVariants.{EvtVarDly as EvtVarDlyKind};
 
 use crate::delayed::{DelayRule, Delayed};
-use sci_bank::kind_bank::KindBank;
 use sci_bank::words::{Words, element};
 use sci_base::limits;
+use sci_kind_bank::KindBank;
 use sci_kinds::Kind;
 use sci_span::Entering;
 

@@ -6,9 +6,9 @@ ghost use Rattle.sci_forms.specs.Words.{size};
 ghost use Rattle.sci_forms.specs.declared.Kind.TheVariants.{GatedDelay as GatedDelayKind};
 
 use crate::stateful::{StateRule, Stateful};
-use sci_bank::kind_bank::KindBank;
 use sci_bank::words::{Words, element, size};
 use sci_base::Ints;
+use sci_kind_bank::KindBank;
 use sci_kinds::{Cell, Kind};
 use sci_span::Entering;
 

@@ -4,9 +4,9 @@ ghost use Rattle.std.specs.Int.{int_rem_euclid};
 ghost use Rattle.sci_forms.specs.declared.Kind.TheVariants.{ModuloCount as ModuloCountKind};
 
 use crate::stateful::{StateRule, Stateful};
-use sci_bank::kind_bank::KindBank;
 use sci_bank::words::{Words, param};
 use sci_base::Ints;
+use sci_kind_bank::KindBank;
 use sci_kinds::{Cell, Kind};
 use sci_span::Entering;
 

@@ -3,9 +3,9 @@ ghost use Rattle.std.specs.Prelude.{refl};
 ghost use Rattle.sci_forms.specs.declared.Kind.TheVariants.{Register as RegisterKind};
 
 use crate::stateful::{StateRule, Stateful};
-use sci_bank::kind_bank::KindBank;
 use sci_bank::words::{Words, element};
 use sci_base::Ints;
+use sci_kind_bank::KindBank;
 use sci_kinds::{Cell, Kind};
 use sci_span::Entering;
 

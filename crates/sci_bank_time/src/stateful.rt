@@ -8,9 +8,9 @@ ghost use Rattle.sci_kinds.specs.Asks.{IsState, IsMask, entering_of};
 ghost use Rattle.sci_kinds.specs.Table.{cell_of, next_of};
 ghost use Rattle.sci_bank.specs.Bank.{IsOfKind};
 
-use sci_bank::rule::Rule;
 use sci_bank::words::Words;
 use sci_base::Ints;
+use sci_kind_bank::Rule;
 use sci_kinds::{Cell, Kind};
 use sci_span::Entering;
 

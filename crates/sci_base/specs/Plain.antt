@@ -4,8 +4,8 @@ use Rattle.sci_base.specs.declared.refusal.Rule.{Rule}
 use Rattle.sci_base.specs.declared.refusal.Refusal.{Refusal}
 use Rattle.sci_base.specs.declared.block.BlockFields.{BlockFields}
 use Rattle.sci_base.specs.declared.block.Dep.{Dep}
-use Rattle.sci_base.specs.declared.block.Part.{Part}
-use Rattle.sci_base.specs.declared.block.Part.TheVariants.{All, Each}
+use Rattle.sci_base.specs.declared.block.DirectFeedthrough.{DirectFeedthrough}
+use Rattle.sci_base.specs.declared.block.DirectFeedthrough.TheVariants.{All, Each}
 
 -- a broken rule, with its place and detail
 pub record Violation : Type 0 where
@@ -30,7 +30,7 @@ pub record Dependence : Type 0 where
   pub part : Feedthrough
   pub always : Bool
 
-abbrev pub feedthrough_of : Part → Feedthrough
+abbrev pub feedthrough_of : DirectFeedthrough → Feedthrough
 feedthrough_of (All b) = all_inputs b
 feedthrough_of (Each bs) = each_input bs.items
 

@@ -33,14 +33,14 @@ pub struct BlockFields {
 #[derive(Drop)]
 pub struct Dep {
     /// Which regular inputs have direct feedthrough.
-    pub part: Part,
+    pub part: DirectFeedthrough,
     /// Whether the block is always active.
     pub always: bool,
 }
 
 /// Which regular inputs have direct feedthrough.
 #[derive(Drop)]
-pub enum Part {
+pub enum DirectFeedthrough {
     /// All of them, or none but those of the kind.
     All(bool),
     /// Each as its truth says, in order.

@@ -14,7 +14,7 @@ mod refusal;
 mod stop;
 mod truths;
 
-pub use block::{BlockFields, Dep, Part};
+pub use block::{BlockFields, Dep, DirectFeedthrough};
 pub use ints::Ints;
 pub use observation::{EndWord, Obs, StopWord};
 pub use refusal::{Place, Refusal, Rule};

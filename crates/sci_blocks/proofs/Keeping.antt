@@ -13,7 +13,7 @@ use Rattle.sci_forms.specs.declared.Kind.{Kind}
 use Rattle.sci_forms.specs.declared.broken.Broken.{Broken}
 use Rattle.sci_forms.specs.declared.spec.Spec.{Spec}
 use Rattle.sci_forms.specs.Forms.{first_not, unless, or_else, given}
-use Rattle.sci_forms.specs.Names.{by_name}
+use Rattle.sci_names.specs.Names.{by_name}
 use Rattle.sci_forms.proofs.TestLemmas.{int_same}
 use Rattle.sci_check.specs.Check.{checked, checked_kind, judged, broken}
 use Rattle.sci_blocks.specs.declared.class.PortClass.{PortClass}

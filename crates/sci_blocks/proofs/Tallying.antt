@@ -8,13 +8,13 @@ use Rattle.sci_diagram.specs.Objects.{Object, block, superblock, link, text, del
 use Rattle.sci_diagram.specs.declared.diagram.Obj.{Obj}
 use Rattle.sci_forms.specs.Forms.{first_not, or_else, given}
 use Rattle.sci_blocks.specs.declared.class.PortClass.{PortClass}
-use Rattle.sci_blocks.specs.declared.tally.Tally.{Tally}
+use Rattle.sci_blocks.specs.declared.tally.NumberTally.{NumberTally}
 use Rattle.sci_blocks.specs.Ports.{name_of, number, object_number, numbers, times, least, least_of, is_once, first_broken}
 use Rattle.sci_blocks.specs.Counts.{lesser, IsTallied}
 
 -- ---- one number more
 
-pub none_tallied : (t : Tally) (count : ℕ) → t.times.items ≡ replicate count 0 → t.least ≡ None → (whole : List ℕ) → IsTallied t count whole whole
+pub none_tallied : (t : NumberTally) (count : ℕ) → t.times.items ≡ replicate count 0 → t.least ≡ None → (whole : List ℕ) → IsTallied t count whole whole
 none_tallied t count zeros none whole = record {
   len = ap length zeros ∙ length-replicate count 0;
   times = λ k below. let zero_here : slice_index t.times.items k ≡ 0 = rw zeros (get_or-replicate count k 0 0 below) in omega arith;
@@ -28,7 +28,7 @@ apart_of n k rest h = rw (ne_eqb n k h) (omega arith)
 same_of : (n k : ℕ) (rest : List ℕ) → n ≡ k → times k (n ∷ rest) ≡ 1 + times k rest
 same_of n k rest h = rw (eq-eqb n k h) refl
 
-pub below_tallied : (old new : Tally) (count n : ℕ) (rest whole : List ℕ) → 1 ≤ n → n ≤ count
+pub below_tallied : (old new : NumberTally) (count n : ℕ) (rest whole : List ℕ) → 1 ≤ n → n ≤ count
     → new.times.items ≡ slice_set old.times.items (n - 1) (slice_index old.times.items (n - 1) + 1) → new.least ≡ old.least
     → IsTallied old count (n ∷ rest) whole → IsTallied new count rest whole
 below_tallied old new count n rest whole low high set same h =
@@ -54,7 +54,7 @@ lesser_more : (o : Option ℕ) (m n : ℕ) → Some (least_of (min m n) o) ≡ S
 lesser_more None m n = refl
 lesser_more (Some y) m n = ap Some (omega arith)
 
-pub above_tallied : (old new : Tally) (count n : ℕ) (rest whole : List ℕ) → count < n → n < 2 ^ 63
+pub above_tallied : (old new : NumberTally) (count n : ℕ) (rest whole : List ℕ) → count < n → n < 2 ^ 63
     → new.times.items ≡ old.times.items → new.least ≡ lesser old.least (Some n)
     → IsTallied old count (n ∷ rest) whole → IsTallied new count rest whole
 above_tallied old new count n rest whole high small same set h = record {
@@ -109,7 +109,7 @@ pub numbers_short : (c : PortClass) (os : List Obj) → length (numbers c (objec
 numbers_short c [] = omega arith
 numbers_short c (o ∷ os) = omega (arith, length-append (object_number c (object_view o)) (numbers c (objects_of (map object_view os))), object-short c (object_view o), numbers_short c os)
 
-pub room : (t : Tally) (count n : ℕ) (rest whole : List ℕ) → IsTallied t count (n ∷ rest) whole → 1 ≤ n → n ≤ count → slice_index t.times.items (n - 1) + 1 ≤ length whole
+pub room : (t : NumberTally) (count n : ℕ) (rest whole : List ℕ) → IsTallied t count (n ∷ rest) whole → 1 ≤ n → n ≤ count → slice_index t.times.items (n - 1) + 1 ≤ length whole
 room t count n rest whole h low high =
     let at : n ≡ (n - 1) + 1 = omega arith in
     omega (arith, h.times (n - 1) (omega arith), same_of n ((n - 1) + 1) rest at, times-le ((n - 1) + 1) whole)
@@ -129,7 +129,7 @@ first_not_same : (f g : ℕ → Bool) (n : ℕ) → ((k : ℕ) → k < n → f k
 first_not_same f g zero h = refl
 first_not_same f g (suc n) h = rw (first_not_same f g n (λ k l. h k (omega (arith, l))), h n (omega arith)) refl
 
-pub tally_finds : (t : Tally) (count : ℕ) (whole : List ℕ) → IsTallied t count [] whole
+pub tally_finds : (t : NumberTally) (count : ℕ) (whole : List ℕ) → IsTallied t count [] whole
     → or_else (given (first_not (λ k. nat_eq (slice_index t.times.items k) 1) (length t.times.items)) (λ k. k + 1)) t.least ≡ first_broken count whole
 tally_finds t count whole h =
     let once = first_not_same (λ k. nat_eq (slice_index t.times.items k) 1) (is_once whole) count (λ k below. let e : slice_index t.times.items k ≡ times (k + 1) whole = omega (arith, h.times k below) in rw e refl) in

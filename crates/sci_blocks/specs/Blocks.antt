@@ -5,7 +5,7 @@ use Rattle.sci_base.specs.Outcome.{Outcome, ◌>>=◌}
 use Rattle.sci_diagram.specs.Objects.{Object, block, superblock, link, text, deleted, Objects, no_objects, object}
 use Rattle.sci_forms.specs.declared.spec.Spec.{Spec}
 use Rattle.sci_check.specs.Check.{checked}
-use Rattle.sci_blocks.specs.declared.part.Part.{Part}
+use Rattle.sci_blocks.specs.declared.placed_block.PlacedBlock.{PlacedBlock}
 use Rattle.sci_blocks.specs.declared.pass_through.PassThrough.{PassThrough}
 use Rattle.sci_blocks.specs.Ports.{ports, no_ports, ports_matched}
 use Rattle.sci_blocks.specs.Rows.{pass_through, joint_checked}
@@ -18,7 +18,7 @@ pub record Placed : Type 0 where
 abbrev pub placed : List ℕ → Spec → Placed
 placed here s = record { place = here; spec = s }
 
-abbrev pub part_view : Part → Placed
+abbrev pub part_view : PlacedBlock → Placed
 part_view p = placed p.place.path.items p.spec
 
 -- a pass-through object gives no block

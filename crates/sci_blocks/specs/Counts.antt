@@ -4,7 +4,7 @@ use Rattle.sci_base.specs.Plain.{Fields}
 use Rattle.sci_blocks.specs.declared.class.PortClass.{PortClass}
 use Rattle.sci_blocks.specs.declared.class.PortClass.TheVariants.{Input, Output, ActivationInput, ActivationOutput}
 use Rattle.sci_blocks.specs.declared.counts.PortCounts.{PortCounts}
-use Rattle.sci_blocks.specs.declared.tally.Tally.{Tally}
+use Rattle.sci_blocks.specs.declared.tally.NumberTally.{NumberTally}
 use Rattle.sci_blocks.specs.Ports.{times, least, least_of}
 
 abbrev pub no_counts : PortCounts
@@ -25,7 +25,7 @@ lesser None o = o
 lesser (Some n) o = Some (least_of n o)
 
 -- a tally together with the numbers that are still to come counts the whole
-pub record IsTallied (t : Tally) (count : ℕ) (rest whole : List ℕ) : Type 0 where
+pub record IsTallied (t : NumberTally) (count : ℕ) (rest whole : List ℕ) : Type 0 where
   pub len : length t.times.items ≡ count
   pub times : (k : ℕ) → k < count → slice_index t.times.items k + times (k + 1) rest ≡ times (k + 1) whole
   pub least : lesser t.least (least (filter (λ n. nat_lt count n) rest)) ≡ least (filter (λ n. nat_lt count n) whole)

@@ -4,7 +4,7 @@ use Rattle.sci_base.specs.Plain.{Fields}
 use Rattle.sci_diagram.specs.declared.diagram.End.{End}
 use Rattle.sci_diagram.specs.Objects.{Object, block, superblock, link, text, deleted, Objects, no_objects, object}
 use Rattle.sci_forms.specs.declared.Kind.{Kind}
-use Rattle.sci_forms.specs.Names.{by_name}
+use Rattle.sci_names.specs.Names.{by_name}
 use Rattle.sci_check.specs.Check.{broken}
 use Rattle.sci_blocks.specs.declared.class.PortClass.{PortClass}
 use Rattle.sci_blocks.specs.declared.class.LinkType.{LinkType}

@@ -7,8 +7,8 @@ ghost use Rattle.sci_blocks.specs.Adding.{onto};
 ghost use Rattle.sci_base.specs.Stops.{Stops};
 
 use crate::joint::joint_checked;
-use crate::part::Part;
 use crate::pass_through::PassThrough;
+use crate::placed_block::PlacedBlock;
 use sci_base::{BlockFields, Place, Stop};
 use sci_check::check_spec;
 use std::alloc::Global;
@@ -19,14 +19,14 @@ fn add_kind(
     here: &[u32],
     gui: &str,
     f: &BlockFields,
-    parts: &mut Vec<Part>,
+    parts: &mut Vec<PlacedBlock>,
 ) -> Result<(), Stop>
     ensures ok { OnOk result (onto (map part_view parts.old.items) (block_parts here.now gui.now (fields_of f.now) None) ≡ Ok (map part_view parts.new.items)) }
     ensures stop { IfErr result (λ e. Stops (block_parts here.now gui.now (fields_of f.now) None) e) }
 {
     let place = Place::of(alloc, here)?;
     let spec = check_spec(alloc, gui, f, &place)?;
-    parts.push(Part { place, spec })?;
+    parts.push(PlacedBlock { place, spec })?;
     Ok(())
 }
 
@@ -37,7 +37,7 @@ pub(crate) fn add_block(
     here: &[u32],
     gui: &str,
     f: &BlockFields,
-    parts: &mut Vec<Part>,
+    parts: &mut Vec<PlacedBlock>,
 ) -> Result<(), Stop>
     ensures ok { OnOk result (onto (map part_view parts.old.items) (block_parts here.now gui.now (fields_of f.now) (pass_through gui.now))
         ≡ Ok (map part_view parts.new.items)) }

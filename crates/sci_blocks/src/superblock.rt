@@ -10,7 +10,7 @@ ghost use Rattle.sci_base.specs.Stops.{IsViolation, Stops};
 
 use crate::class::PortClass;
 use crate::counts::PortCounts;
-use crate::tally::Tally;
+use crate::tally::NumberTally;
 use sci_base::{BlockFields, NoMemory, Rule, Stop};
 use sci_diagram::{Diagram, Obj};
 use std::alloc::Global;
@@ -56,11 +56,16 @@ fn block_number(class: PortClass, gui: &str, ipar: &[i64]) -> Option<u64>
 }
 
 /// The numbers of the port blocks of a class directly inside.
-fn tallied(alloc: Global, class: PortClass, count: usize, objs: &[Obj]) -> Result<Tally, NoMemory>
+fn tallied(
+    alloc: Global,
+    class: PortClass,
+    count: usize,
+    objs: &[Obj],
+) -> Result<NumberTally, NoMemory>
     requires { length objs.now < 2 ^ 32 }
     ensures { IfOk result (λ t. IsTallied t count [] (numbers class (objects_of (map object_view objs.now)))) }
 {
-    let mut tally = Tally::new(alloc, count)?;
+    let mut tally = NumberTally::new(alloc, count)?;
     for obj in objs {
         match object_number(class, obj) {
             Some(n) => tally.add(n),

@@ -4,20 +4,20 @@ use std::alloc::Global;
 
 /// How often each number from 1 to a count occurs, and the least greater number that does.
 #[derive(Drop)]
-pub(crate) struct Tally {
+pub(crate) struct NumberTally {
     pub(crate) times: Vec<u32>,
     pub(crate) least: Option<u64>,
 }
 
-impl Tally {
+impl NumberTally {
     ghost use Rattle.std.specs.Prelude.{◌≡◌, ◌+◌, ◌-◌, ◌<◌, ◌≤◌, ◌^◌, List, ℕ, ◌∷◌, [], length, slice_index, IfOk, None};
     ghost use Rattle.sci_blocks.specs.Counts.{IsTallied};
 
     /// No number up to the count.
-    pub(crate) fn new(alloc: Global, count: usize) -> Result<Tally, NoMemory>
+    pub(crate) fn new(alloc: Global, count: usize) -> Result<NumberTally, NoMemory>
         ensures { IfOk result (λ t. (whole : List ℕ) → IsTallied t count whole whole) }
     {
-        Ok(Tally {
+        Ok(NumberTally {
             times: vec![in alloc; 0; count]?,
             least: None,
         })

@@ -8,7 +8,7 @@ ghost use Rattle.sci_blocks.specs.Sizes.{AreListsShort, IsInsideShort};
 ghost use Rattle.sci_base.specs.Stops.{Stops};
 
 use crate::block::add_block;
-use crate::part::Part;
+use crate::placed_block::PlacedBlock;
 use crate::superblock::{outermost_matched, superblock_matched};
 use sci_base::{BlockFields, Stop};
 use sci_diagram::{Diagram, Obj, child};
@@ -16,7 +16,12 @@ use std::alloc::Global;
 
 /// Adds the blocks of the diagram at a place.
 #[cycle(parts)]
-fn add_parts(alloc: Global, d: &Diagram, at: &[u32], parts: &mut Vec<Part>) -> Result<(), Stop>
+fn add_parts(
+    alloc: Global,
+    d: &Diagram,
+    at: &[u32],
+    parts: &mut Vec<PlacedBlock>,
+) -> Result<(), Stop>
     requires short { AreListsShort (diagram_view d.now) }
     ensures ok { OnOk result (onto (map part_view parts.old.items) (parts_in at.now 1 (diagram_view d.now)) ≡ Ok (map part_view parts.new.items)) }
     ensures stop { IfErr result (λ e. Stops (parts_in at.now 1 (diagram_view d.now)) e) }
@@ -31,7 +36,12 @@ fn add_parts(alloc: Global, d: &Diagram, at: &[u32], parts: &mut Vec<Part>) -> R
 /// Adds the blocks of an object.
 #[cycle(parts)]
 #[tactic(auto, unfolding(crate::specs::Blocks::object_parts))]
-fn add_object(alloc: Global, obj: &Obj, here: &[u32], parts: &mut Vec<Part>) -> Result<(), Stop>
+fn add_object(
+    alloc: Global,
+    obj: &Obj,
+    here: &[u32],
+    parts: &mut Vec<PlacedBlock>,
+) -> Result<(), Stop>
     requires short { IsInsideShort (object_view obj.now) }
     ensures ok { OnOk result (onto (map part_view parts.old.items) (object_parts here.now (object_view obj.now)) ≡ Ok (map part_view parts.new.items)) }
     ensures stop { IfErr result (λ e. Stops (object_parts here.now (object_view obj.now)) e) }
@@ -55,7 +65,7 @@ fn add_superblock(
     f: &BlockFields,
     inner: &Diagram,
     here: &[u32],
-    parts: &mut Vec<Part>,
+    parts: &mut Vec<PlacedBlock>,
 ) -> Result<(), Stop>
     requires short { AreListsShort (diagram_view inner.now) }
     ensures ok { OnOk result (onto (map part_view parts.old.items) (superblock_parts here.now (fields_of f.now) (diagram_view inner.now))
@@ -72,7 +82,7 @@ fn add_superblock(
 /// pass-through object by its counts of ports or a port block's number (rules 9 and 8), and any other block by rules 7, 9, 10,
 /// 11 and 8 in this order.
 #[tactic(auto, using(sci_base::proofs::Stopping::stops_then, sci_base::proofs::Stopping::stops_after), unfolding(crate::specs::Blocks::parts_of))]
-pub fn parts(alloc: Global, d: &Diagram) -> Result<Vec<Part>, Stop>
+pub fn parts(alloc: Global, d: &Diagram) -> Result<Vec<PlacedBlock>, Stop>
     requires short { AreListsShort (diagram_view d.now) }
     ensures ok { IfOk result (λ ps. parts_of (diagram_view d.now) ≡ Ok (map part_view ps.items)) }
     ensures stop { IfErr result (λ e. Stops (parts_of (diagram_view d.now)) e) }

@@ -10,13 +10,13 @@ use Rattle.sci_forms.specs.declared.spec.Spec.{Spec}
 use Rattle.sci_forms.specs.Forms.{or_else}
 use Rattle.sci_net.specs.Parts.{Parts}
 use Rattle.sci_net.specs.Net.{all_elements}
-use Rattle.sci_infer.specs.declared.parts.Part.{Part}
+use Rattle.sci_infer.specs.declared.parts.PortPart.{PortPart}
 use Rattle.sci_infer.specs.declared.parts.Side.{Side}
 use Rattle.sci_infer.specs.declared.parts.Side.TheVariants.{Input, Output}
 use Rattle.sci_infer.specs.declared.parts.What.{What}
 use Rattle.sci_infer.specs.declared.parts.What.TheVariants.{DataType, Rows, Columns}
-use Rattle.sci_infer.specs.declared.values.Verdict.{Verdict}
-use Rattle.sci_infer.specs.declared.values.Verdict.TheVariants.{Conflict, Open, Values}
+use Rattle.sci_infer.specs.declared.values.Resolution.{Resolution}
+use Rattle.sci_infer.specs.declared.values.Resolution.TheVariants.{Conflict, Open, Values}
 use Rattle.sci_infer.specs.Values.{declared_at}
 use Rattle.sci_infer.specs.Typing.{IsAllowed, IsAt, Fits, declared_of, Decides}
 use Rattle.sci_infer.specs.PortParts.{side_parts, block_parts, parts_from, parts_in, AreTied}
@@ -48,7 +48,7 @@ usual DataType = pos 3
 usual Rows = pos 1
 usual Columns = pos 1
 
-abbrev IsUsual : Part → Type 0
+abbrev IsUsual : PortPart → Type 0
 IsUsual p = p.declared ≡ usual p.what
 
 abbrev IsInt32 : Port → Type 0
@@ -88,16 +88,16 @@ usual_positive DataType = omega (arith, ints)
 usual_positive Rows = omega (arith, ints)
 usual_positive Columns = omega (arith, ints)
 
-declared_get : (ps : List Part) (i : ℕ) (p : Part) → slice_get ps i ≡ Some p → declared_at (declared_of ps) i ≡ p.declared
+declared_get : (ps : List PortPart) (i : ℕ) (p : PortPart) → slice_get ps i ≡ Some p → declared_at (declared_of ps) i ≡ p.declared
 declared_get [] i p h = cc
-declared_get (q ∷ ps) zero p h = let same : q ≡ p = cc in ap (λ (r : Part). r.declared) same
+declared_get (q ∷ ps) zero p h = let same : q ≡ p = cc in ap (λ (r : PortPart). r.declared) same
 declared_get (q ∷ ps) (suc i) p h = declared_get ps i p h
 
 -- ---- the typing is what is declared
 
 -- from place i on these numbers are what these parts declare
-abbrev Declare : List ℤ → ℕ → List Part → Type 0
-Declare vs i ps = (j : ℕ) (p : Part) → slice_get ps j ≡ Some p → at vs (i + j) ≡ p.declared
+abbrev Declare : List ℤ → ℕ → List PortPart → Type 0
+Declare vs i ps = (j : ℕ) (p : PortPart) → slice_get ps j ≡ Some p → at vs (i + j) ≡ p.declared
 
 side_long : (b : ℕ) (s : Side) (k : ℕ) (ps : List Port) → length (side_parts b s k ps) ≡ 3 * length ps
 side_long b s k [] = refl
@@ -121,7 +121,7 @@ ports_declared vs i b s k (p ∷ ps) h =
 specs_declared : (vs : List ℤ) (i b : ℕ) (ss : List Spec) → Declare vs i (parts_from b ss) → typed_specs vs i ss ≡ ss
 specs_declared vs i b [] h = refl
 specs_declared vs i b (s ∷ ss) h =
-    let ins : List Part = side_parts b Input 1 s.ins in
+    let ins : List PortPart = side_parts b Input 1 s.ins in
     let in_long : length (side_parts b Input 1 s.ins) ≡ 3 * length s.ins = side_long b Input 1 s.ins in
     let out_long : length (side_parts b Output 1 s.outs) ≡ 3 * length s.outs = side_long b Output 1 s.outs in
     let block_long = length-append (side_parts b Input 1 s.ins) (side_parts b Output 1 s.outs) in
@@ -201,10 +201,10 @@ module _ (n : Parts) (ds : List DataBlock) (most : length ds ≤ 2000) (is : n.s
   abbrev typing : ℕ → ℤ
   typing i = declared_at (declared_of (parts_in n)) i
 
-  usual_at : (i : ℕ) (p : Part) → IsAt (parts_in n) i p → p.declared ≡ usual p.what
+  usual_at : (i : ℕ) (p : PortPart) → IsAt (parts_in n) i p → p.declared ≡ usual p.what
   usual_at i p h = each_get IsUsual (parts_in n) i p all_usual h
 
-  typing_at : (i : ℕ) (p : Part) → IsAt (parts_in n) i p → typing i ≡ usual p.what
+  typing_at : (i : ℕ) (p : PortPart) → IsAt (parts_in n) i p → typing i ≡ usual p.what
   typing_at i p h = declared_get (parts_in n) i p h ∙ usual_at i p h
 
   not_negative : (w : What) (z : ℤ) → z ≡ usual w → z <ℤ pos 0 → ⊥
@@ -224,7 +224,7 @@ module _ (n : Parts) (ds : List DataBlock) (most : length ds ≤ 2000) (is : n.s
   }
 
   -- each fitting typing is what is declared
-  one_typing : (t : ℕ → ℤ) → Fits (parts_in n) (AreTied n) t → (i : ℕ) (p : Part) → IsAt (parts_in n) i p → t i ≡ p.declared
+  one_typing : (t : ℕ → ℤ) → Fits (parts_in n) (AreTied n) t → (i : ℕ) (p : PortPart) → IsAt (parts_in n) i p → t i ≡ p.declared
   one_typing t f i p h = f.kept i p h (subst (λ (z : ℤ). pos 0 <ℤ z) (sym (usual_at i p h)) (usual_positive p.what))
 
   same_parts : (vs : List ℤ) → Fits (parts_in n) (AreTied n) (declared_at vs) → typed_parts vs n ≡ n
@@ -237,7 +237,7 @@ module _ (n : Parts) (ds : List DataBlock) (most : length ds ≤ 2000) (is : n.s
   kept = ap net_broken is ∙ rules_kept ds most
 
   -- the answer is the net itself
-  answer_is : (v : Verdict) (o : Result Parts Violation) → Decides (parts_in n) (AreTied n) v → answered n v ≡ o → o ≡ Ok n
+  answer_is : (v : Resolution) (o : Result Parts Violation) → Decides (parts_in n) (AreTied n) v → answered n v ≡ o → o ≡ Ok n
   answer_is (Conflict i span) o d e = absurd (d.0 typing fits)
   answer_is (Open i) o d e =
       let found = get_some (parts_in n) i d.0 in

@@ -13,7 +13,7 @@ use std::alloc::Global;
 
 // How many ports a block has.
 #[derive(Clone, Copy)]
-struct Ports {
+struct BulkPorts {
     ins: u32,
     outs: u32,
     evtin: u32,
@@ -39,7 +39,7 @@ fn repeated(alloc: Global, value: i64, count: u32) -> Result<Vec<i64>, NoMemory>
     Ok(values)
 }
 
-fn fields(alloc: Global, ports: Ports, lists: Lists) -> Result<BlockFields, NoMemory>
+fn fields(alloc: Global, ports: BulkPorts, lists: Lists) -> Result<BlockFields, NoMemory>
     ensures { IfOk result (λ f. fields_of f
         ≡ fields ports.ins ports.outs ports.evtin ports.evtout lists.ipar.items lists.dstate.items lists.firing.items) }
 {
@@ -59,7 +59,7 @@ fn fields(alloc: Global, ports: Ports, lists: Lists) -> Result<BlockFields, NoMe
     })
 }
 
-fn block(alloc: Global, gui: &str, ports: Ports, lists: Lists) -> Result<Obj, NoMemory>
+fn block(alloc: Global, gui: &str, ports: BulkPorts, lists: Lists) -> Result<Obj, NoMemory>
     ensures { IfOk result (λ o. object_view o
         ≡ block gui.now (fields ports.ins ports.outs ports.evtin ports.evtout lists.ipar.items lists.dstate.items lists.firing.items)) }
 {
@@ -76,7 +76,7 @@ fn block(alloc: Global, gui: &str, ports: Ports, lists: Lists) -> Result<Obj, No
 pub(crate) fn clock(alloc: Global, ticks: u32) -> Result<Obj, NoMemory>
     ensures { IfOk result (λ o. object_view o ≡ clock ticks) }
 {
-    let ports = Ports {
+    let ports = BulkPorts {
         ins: 0,
         outs: 0,
         evtin: 1,
@@ -90,10 +90,10 @@ pub(crate) fn clock(alloc: Global, ticks: u32) -> Result<Obj, NoMemory>
     block(alloc, "EVTDLY_c", ports, lists)
 }
 
-fn data_ports(ins: u32, evtin: u32) -> Ports
+fn data_ports(ins: u32, evtin: u32) -> BulkPorts
     ensures { result ≡ record { ins = ins; outs = 1; evtin = evtin; evtout = 0 } }
 {
-    Ports {
+    BulkPorts {
         ins,
         outs: 1,
         evtin,

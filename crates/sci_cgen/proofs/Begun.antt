@@ -4,13 +4,13 @@ use Rattle.std.proofs.lemmas.Bool.{cases_lt}
 use Rattle.sci_base.specs.Lists.{at}
 use Rattle.c_ast.specs.declared.Name.{Name}
 use Rattle.c_mean.specs.Meaning.{World, Around, run_block, same_name}
-use Rattle.c_steps.specs.Places.{get, Puts, Keeps}
-use Rattle.c_steps.specs.Texts.{assigns_only, upto}
-use Rattle.c_steps.specs.Runs.{Leads, LeftAlone}
-use Rattle.c_steps.specs.Laws.{Within}
-use Rattle.c_steps.proofs.Memory.{put_there, put_apart, keeps_all, keeps_then, keeps_cell, keeps_wider}
-use Rattle.c_steps.proofs.Steps.{done_leads, joined_leads, leads_as}
-use Rattle.c_steps.proofs.Frames.{alone_all, alone_then}
+use Rattle.c_mean.specs.Places.{get, Puts, Keeps}
+use Rattle.c_mean.specs.Texts.{assigns_only, upto}
+use Rattle.c_mean.specs.Runs.{Leads, LeftAlone}
+use Rattle.c_mean.specs.Laws.{Within}
+use Rattle.c_mean.proofs.Memory.{put_there, put_apart, keeps_all, keeps_then, keeps_cell, keeps_wider}
+use Rattle.c_mean.proofs.Steps.{done_leads, joined_leads, leads_as}
+use Rattle.c_mean.proofs.Frames.{alone_all, alone_then}
 use Rattle.sci_cgen.specs.Program.{begun_text, list_begun}
 use Rattle.sci_cgen.proofs.Firings.{begun_leads}
 

@@ -2,8 +2,8 @@
 use Rattle.std.proofs.Common.{◌≡◌, ℕ, List, [], Bool, false, ◌||◌, refl, ap, ◌∙◌, ℤ}
 use Rattle.c_ast.specs.declared.Name.{Name}
 use Rattle.c_mean.specs.Meaning.{World, same_name}
-use Rattle.c_steps.specs.Texts.{assigns_only}
-use Rattle.c_steps.specs.Runs.{LeftAlone}
+use Rattle.c_mean.specs.Texts.{assigns_only}
+use Rattle.c_mean.specs.Runs.{LeftAlone}
 use Rattle.sci_net.specs.Parts.{Parts, column_of, numbered, spec_of}
 use Rattle.sci_reaction.specs.Memory.{Columns}
 use Rattle.sci_run.specs.Run.{State}

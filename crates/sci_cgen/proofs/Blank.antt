@@ -8,12 +8,11 @@ use Rattle.sci_reaction.specs.Memory.{Columns}
 use Rattle.sci_reaction.specs.Schedule.{Entry}
 use Rattle.c_ast.specs.declared.Name.{Name}
 use Rattle.c_ast.specs.Syntax.{Declared}
-use Rattle.c_mean.specs.Meaning.{World, same_name, first_world}
-use Rattle.c_mean.specs.Spans.{elements_of}
-use Rattle.c_steps.specs.Places.{get, is_scratch}
-use Rattle.c_steps.specs.Programs.{places}
-use Rattle.c_steps.proofs.Memory.{name_same, other_name, other_number}
-use Rattle.c_steps.proofs.Programs.{first_there}
+use Rattle.c_mean.specs.Meaning.{World, same_name, elements_of, first_world}
+use Rattle.c_mean.specs.Places.{get, is_scratch}
+use Rattle.c_mean.specs.Programs.{places}
+use Rattle.c_mean.proofs.Memory.{name_same, other_name, other_number}
+use Rattle.c_mean.proofs.Programs.{first_there}
 use Rattle.sci_cgen_blocks.specs.Texts.{values, states, masks, scratch_name}
 use Rattle.sci_due.specs.Due.{dates, orders, best as chosen_name, scan as scan_name, now as now_name, last as programmed_name, delay as delay_name}
 use Rattle.sci_cgen.specs.Names.{actives, branches, limit_name, until_name, fired_name, next_date, halt_name}

@@ -18,17 +18,18 @@ use Rattle.c_ast.specs.declared.Name.{Name}
 use Rattle.c_ast.specs.declared.Op.TheVariants.{Lt, Gt}
 use Rattle.c_ast.specs.Syntax.{Exp, bin, var, scalar, cell, finish, Statement, set, ask, choice, loop, call, tell, Block, done, next, Function}
 use Rattle.c_mean.specs.Meaning.{same_name}
-use Rattle.c_steps.specs.Texts.{May, number, joined, upto, statement_within, block_within}
-use Rattle.c_steps.proofs.Memory.{and_left, and_right, other_name}
+use Rattle.c_mean.specs.Texts.{May, number, place, joined, upto, statement_within, block_within}
+use Rattle.c_mean.proofs.Memory.{and_left, and_right, other_name}
 use Rattle.sci_cgen_blocks.specs.Texts.{values, states, masks, body_text, next_text, delay_expression, branch_expression}
-use Rattle.sci_due.specs.Texts.{program_text}
+use Rattle.sci_due.specs.Texts.{choose_text as choose_of, entry_text as due_entry, program_text, delayed_text}
+use Rattle.sci_due.proofs.Pending.{delayed_form}
 use Rattle.sci_cgen_blocks.specs.Meant.{body_may, next_may}
 use Rattle.sci_cgen_blocks.proofs.Assigned.{body_within, next_within}
 use Rattle.sci_due.specs.Due.{dates, orders, scan as scan_name}
 use Rattle.sci_cgen.specs.declared.parts.Part.{Part}
 use Rattle.sci_cgen.specs.declared.parts.Part.TheVariants.{Absent, Sure, Marked}
 use Rattle.sci_cgen.specs.Names.{actives, branches, until_name, next_date, halt_name, block_name, clear_name, choose_name}
-use Rattle.sci_cgen.specs.Program.{natural, one, has_own, part_in, is_active, where_part, mark, is_taken, end_or, has_halt, texts, text_where, only_where, port_count, places_of, is_scheduled, block_function, with_bit, with_bits, guard_text, call_text, entry_text, cleared_text, header_text, pass_text, following_text, source_function, clear_text, has_sync, elements_shown, outputs_shown, values_shown, delay_text, state_text, halt_text, settle_text, halted_or, react_step, react_deep, fire_text, event_text, turn_text, first_text, begun_text, list_begun, held_begun, state_begun, firing_at, programmed_before, firing_begun, source_begun, outset_text, begin_text, main_text, functions_upto, functions_where, other_functions, called_functions, event_function, functions, looped_shown, output_shown}
+use Rattle.sci_cgen.specs.Program.{natural, one, has_own, part_in, is_active, where_part, mark, is_taken, end_or, has_halt, texts, text_where, only_where, port_count, places_of, is_scheduled, block_function, with_bit, with_bits, guard_text, call_text, entry_text, cleared_text, header_text, pass_text, following_text, source_function, clear_text, date_text, choose_text, has_sync, elements_shown, outputs_shown, values_shown, delay_text, state_text, halt_text, settle_text, halted_or, react_step, react_deep, fire_text, event_text, turn_text, first_text, begun_text, list_begun, held_begun, state_begun, firing_at, programmed_before, firing_begun, source_begun, outset_text, begin_text, main_text, functions_upto, functions_where, other_functions, called_functions, event_function, functions, looped_shown, output_shown}
 use Rattle.sci_cgen.proofs.Parted.{reads, masked, guarded, called, all_shown, all_delays, all_states, all_halts, all_held, first_states, all_begun, until_asked, where_ports, starting, running, own, blocks, sources, settle_function, clear_function, choose_function, shared, chooses}
 use Rattle.sci_cgen_blocks.specs.Terms.{is_looped}
 use Rattle.sci_cgen.proofs.Halves.{in_first, react_last, react_more}
@@ -153,7 +154,8 @@ module _ (f : Name) where
     delay_none : (n : Parts) (i : ℕ) (s : Source) → calls_in f (delay_text n part i s) ≡ 0
     delay_none n i Start = refl
     delay_none n i (Port q) =
-        part_none (part q.block) q.block (program_text (i - 1) (delay_expression (spec_of n q.block) (places_of n q.block)) done) refl
+        part_none (part q.block) q.block (delayed_text (i - 1) (delay_expression (spec_of n q.block) (places_of n q.block)))
+        (delayed_form (λ (t : Block). calls_in f t ≡ 0) (i - 1) (delay_expression (spec_of n q.block) (places_of n q.block)) (λ d q. refl) refl)
 
     state_none : (n : Parts) (b : ℕ) → calls_in f (state_text n part b) ≡ 0
     state_none n b =
@@ -181,6 +183,10 @@ module _ (f : Name) where
       let branch = one (set (cell branches (natural (e.block - 1))) (natural 0)) in
       joined_none (text_where (not e.always) active) (text_where (is_sync (spec_of n e.block).kind) branch) (where_none (not e.always) active refl)
       (where_none (is_sync (spec_of n e.block).kind) branch refl)
+
+  choose_none : (n : Parts) → calls_in f (choose_text n) ≡ 0
+  choose_none n =
+      either_none (nat_lt 1 (port_count n)) (choose_of (port_count n) date_text) (one (set (scalar next_date) (place dates 0))) refl refl
 
   clear_none : (n : Parts) → calls_in f (clear_text n) ≡ 0
   clear_none n = omega (arith, where_none (has_sync n) (one (set (cell branches (var scan_name)) (natural 0))) refl)
@@ -307,7 +313,7 @@ module _ (n : Parts) (rows : List (List Entry)) (b : ℕ) where
         arith,
         calls_both (functions_where (not own_texts) (shared n)) (chooses n),
         functions_calls (not own_texts) (shared n) shared_calls,
-        functions_calls (nat_lt 0 (port_count n)) (choose_function n ∷ []) refl,
+        functions_calls (nat_lt 0 (port_count n)) (choose_function n ∷ []) (omega (arith, choose_none name n)),
       )
 
   row_calls : (row : List Entry) → calls_in name (texts (entry_text own_texts n) row) ≡ count_of b (blocks_of row)

@@ -8,9 +8,9 @@ use Rattle.sci_reaction.specs.Schedule.{Entry, blocks_of}
 use Rattle.sci_reaction.proofs.Lists.{any_from}
 use Rattle.c_ast.specs.Syntax.{Function}
 use Rattle.c_mean.specs.Meaning.{run_block}
-use Rattle.c_steps.specs.Programs.{surroundings, is_defined}
-use Rattle.c_steps.proofs.Memory.{other_number}
-use Rattle.c_steps.proofs.Programs.{call_is, defined_joined}
+use Rattle.c_mean.specs.Programs.{surroundings, is_defined}
+use Rattle.c_mean.proofs.Memory.{other_number}
+use Rattle.c_mean.proofs.Programs.{call_is, defined_joined}
 use Rattle.sci_cgen_blocks.specs.Recipes.{scratch_of}
 use Rattle.sci_cgen_blocks.specs.Texts.{body_text}
 use Rattle.sci_cgen.specs.Names.{block_name}

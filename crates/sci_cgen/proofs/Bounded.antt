@@ -33,19 +33,20 @@ use Rattle.c_ast.specs.declared.Name.{Name}
 use Rattle.c_ast.specs.declared.Op.TheVariants.{Add, Sub, Mul, Div, Rem, Lt, Gt, Ge}
 use Rattle.c_ast.specs.Syntax.{Exp, var, bin, scalar, cell, set, call, tell, finish, Statement, Block, done, next, Declared, Function, element}
 use Rattle.c_ast.specs.Bounds.{IsName, IsExp, BlockFits, IsBody, IsDeclared, IsFunction, IsWhole}
-use Rattle.c_steps.specs.Texts.{number, place, joined}
+use Rattle.c_mean.specs.Texts.{number, place, joined}
 use Rattle.sci_cgen_blocks.specs.Terms.{is_looped}
 use Rattle.sci_cgen_blocks.specs.Texts.{counted_by, values, states, masks, scratch_name, element_place, body_text, next_text, delay_expression, branch_expression}
 use Rattle.sci_cgen_blocks.proofs.Bounds.{joined_fits, upto_fits, body_fits, next_fits, delay_fits_all, branch_fits_all}
 use Rattle.sci_cgen_blocks.proofs.KindBounds.{few_outs}
 use Rattle.sci_cgen_blocks.proofs.KindLaws.{cell_reads_law}
-use Rattle.sci_cgen_blocks.proofs.NextStates.{next_reads_law}
+use Rattle.sci_cgen_blocks.proofs.NextStates.{next_reads_law, next_along_reads_law}
 use Rattle.sci_due.specs.Due.{dates, orders, best as chosen_name, scan as scan_name, now as now_name, last as programmed_name, delay as delay_name}
-use Rattle.sci_due.specs.Texts.{at_best, better_exp, program_text}
+use Rattle.sci_due.specs.Texts.{at_best, better_exp, choose_text as choose_of, entry_text as due_entry, program_text, delayed_text}
+use Rattle.sci_due.proofs.Pending.{delayed_form}
 use Rattle.sci_cgen.specs.declared.parts.Part.{Part}
 use Rattle.sci_cgen.specs.declared.parts.Part.TheVariants.{Absent, Sure, Marked}
 use Rattle.sci_cgen.specs.Names.{actives, branches, limit_name, until_name, fired_name, next_date, halt_name, clear_name, choose_name}
-use Rattle.sci_cgen.specs.Program.{natural, one, texts, text_where, only_where, has_own, part_in, port_count, places_of, states_before, is_scheduled, block_function, is_active, where_part, mark, mask_cell, with_bit, with_bits, is_taken, guard_text, call_text, entry_text, cleared_text, header_text, pass_text, following_text, shared_text, source_function, has_sync, has_halt, clear_text, choose_text, elements_shown, outputs_shown, values_shown, delay_text, state_text, halt_text, settle_text, end_or, react_step, react_deep, fire_text, event_text, turn_text, first_text, begin_text, begun_text, list_begun, held_begun, state_begun, firing_at, is_programmed, programmed_before, firing_begun, source_begun, outset_text, main_text, array, declared_where, a_scalar, scratch_count, scratch_declared, declarations, functions_upto, functions_where, other_functions, called_functions, event_function, program, looped_shown, output_shown}
+use Rattle.sci_cgen.specs.Program.{natural, one, texts, text_where, only_where, has_own, part_in, port_count, places_of, states_before, is_scheduled, block_function, is_active, where_part, mark, mask_cell, with_bit, with_bits, is_taken, guard_text, call_text, entry_text, cleared_text, header_text, pass_text, following_text, shared_text, source_function, has_sync, has_halt, clear_text, date_text, choose_text, chosen_place, elements_shown, outputs_shown, values_shown, delay_text, state_text, halt_text, settle_text, end_or, react_step, react_deep, fire_text, event_text, turn_text, first_text, begin_text, begun_text, list_begun, held_begun, state_begun, firing_at, is_programmed, programmed_before, firing_begun, source_begun, outset_text, main_text, array, declared_where, a_scalar, scratch_count, scratch_declared, declarations, functions_upto, functions_where, other_functions, called_functions, event_function, program, looped_shown, output_shown}
 use Rattle.sci_forms.specs.Form.{reads_mask}
 use Rattle.sci_cgen.proofs.Parted.{value_arrays, active_array, branch_array, due_arrays, limit_scalars, event_scalars, halt_scalar, reads, masked, guarded, called, all_shown, all_delays, all_states, all_halts, all_held, first_states, all_begun, until_asked, where_ports, starting, ending, running, blocks, sources, settle_function, clear_function, choose_function, shared, clears, chooses}
 use Rattle.sci_cgen.proofs.Marks.{few_small}
@@ -131,9 +132,23 @@ too_late : IsExp (bin Gt (var next_date) (var until_name))
 unfolding IsExp
 too_late = ((refl, omega arith), (refl, omega arith))
 
+chosen_place_is : (c : ℕ) → IsExp (chosen_place c)
+chosen_place_is c = by_count (nat_lt 1 c)
+  where
+    by_count : (t : Bool) → IsExp (if t then var chosen_name else natural 0)
+    by_count true = is_var chosen_name (refl, omega arith)
+    by_count false = is_small 0 (omega arith)
+
 is_date : IsExp (at_best dates)
 unfolding IsExp
 is_date = ((refl, omega arith), (refl, omega arith))
+
+is_dated : (c : ℕ) → IsExp (element dates (chosen_place c))
+is_dated c = by_count (nat_lt 1 c)
+  where
+    by_count : (t : Bool) → IsExp (element dates (if t then var chosen_name else natural 0))
+    by_count true = is_date
+    by_count false = is_place dates 0 (refl, omega arith) (omega arith)
 
 is_better : IsExp better_exp
 unfolding IsExp
@@ -187,6 +202,16 @@ is_next : IsExp (bin Add (var programmed_name) (natural 1))
 unfolding IsExp
 is_next = ((refl, omega arith), one_small)
 
+is_sum : (m : ℕ) → IsExp (natural m) → IsExp (bin Add (var now_name) (natural m))
+unfolding IsExp
+is_sum m x = ((refl, omega arith), x)
+
+due_fits : (d k m : ℕ) → k < 2 ^ 63 → IsExp (natural m) → BlockFits (suc d) (due_entry k (natural m))
+due_fits d k m h x = (
+  (((refl, omega arith), is_small k h), is_sum m x),
+  ((((refl, omega arith), is_small k h), is_var programmed_name (refl, omega arith)), (((refl, omega arith), is_next), tt)),
+)
+
 program_fits : (d k : ℕ) (e : Exp) → k < 2 ^ 63 → IsExp e → BlockFits (suc (suc d)) (program_text k e done)
 program_fits d k e h x = (
   ((refl, omega arith), x),
@@ -202,6 +227,10 @@ program_fits d k e h x = (
     tt,
   ),
 )
+
+delayed_fits : (d k : ℕ) (e : Exp) → k < 2 ^ 63 → IsExp e → BlockFits (suc (suc d)) (delayed_text k e)
+delayed_fits d k e h x =
+    delayed_form (BlockFits (suc (suc d))) k e (λ m q. due_fits (suc d) k m h (subst IsExp q x)) (program_fits d k e h x)
 
 -- ---- a source's row
 
@@ -357,15 +386,15 @@ module _ (n : Parts) (net : IsNet n) where
         let block = is.0.block in
         let e = delay_expression (spec_of n q.block) (places_of n q.block) in
         let x = delay_fits_all (spec_of n q.block) (places_of n q.block) (is_typed q.block block) (port_has_delay n net q is) (in_bounds n net q.block block) in
-        part_fits (part q.block) q.block block (program_text (i - 1) e done) (program_fits 14 (i - 1) e (omega (arith, l)) x)
-        (program_fits 13 (i - 1) e (omega (arith, l)) x)
+        part_fits (part q.block) q.block block (delayed_text (i - 1) e) (delayed_fits 14 (i - 1) e (omega (arith, l)) x)
+        (delayed_fits 13 (i - 1) e (omega (arith, l)) x)
 
     state_fits : (b : ℕ) → IsBlock n b → BlockFits 16 (state_text n part b)
     state_fits b is =
         let t = next_text (spec_of n b) (places_of n b) in
         where_fits 16 (has_state (spec_of n b).kind) (where_part (part b) b t) (λ q.
-        part_fits (part b) b is t (next_fits (spec_of n b) (places_of n b) (in_bounds n net b is) next_reads_law (is_typed b is) 15)
-        (next_fits (spec_of n b) (places_of n b) (in_bounds n net b is) next_reads_law (is_typed b is) 14))
+        part_fits (part b) b is t (next_fits (spec_of n b) (places_of n b) (in_bounds n net b is) next_reads_law next_along_reads_law (is_typed b is) 14)
+        (next_fits (spec_of n b) (places_of n b) (in_bounds n net b is) next_reads_law next_along_reads_law (is_typed b is) 13))
 
     halt_fits : (b : ℕ) → IsBlock n b → BlockFits 16 (halt_text n part b)
     halt_fits b is =
@@ -423,17 +452,21 @@ module _ (n : Parts) (net : IsNet n) where
   minus_one = is_number (negsuc 0) (omega (arith, ints)) (omega (arith, ints))
 
   choose_fits : BlockFits 16 (choose_text n)
-  choose_fits = (
-    ((refl, omega arith), minus_one),
-    (
-      (
-        (refl, omega arith),
-        (let few = few_ports n net in omega (arith, few)),
-        ((is_better, ((((refl, omega arith), is_var scan_name (refl, omega arith)), tt)), tt), tt),
-      ),
-      (((refl, omega arith), minus_one), ((some_chosen, (((refl, omega arith), is_date), tt), tt), tt)),
-    ),
-  )
+  choose_fits = by_count (nat_lt 1 (port_count n))
+    where
+      by_count : (t : Bool) → BlockFits 16 (if t then choose_of (port_count n) date_text else one (set (scalar next_date) (place dates 0)))
+      by_count true = (
+        ((refl, omega arith), minus_one),
+        (
+          (
+            (refl, omega arith),
+            (let few = few_ports n net in omega (arith, few)),
+            ((is_better, ((((refl, omega arith), is_var scan_name (refl, omega arith)), tt)), tt), tt),
+          ),
+          (((refl, omega arith), minus_one), ((some_chosen, (((refl, omega arith), is_date), tt), tt), tt)),
+        ),
+      )
+      by_count false = (((refl, omega arith), is_place dates 0 (refl, omega arith) (omega arith)), tt)
 
   -- ---- sci_main
 
@@ -469,9 +502,9 @@ module _ (n : Parts) (net : IsNet n) where
 
   fire_fits : (own : Bool) (d : ℕ) → BlockFits (levels d react_deep) (fire_text own n)
   fire_fits own d = (
-    ((refl, omega arith), is_date),
+    ((refl, omega arith), is_dated (port_count n)),
     (
-      (((refl, omega arith), is_var chosen_name (refl, omega arith)), minus_one),
+      (((refl, omega arith), chosen_place_is (port_count n)), minus_one),
       joined_fits (levels d react_deep) (text_where (not own) (one (call clear_name))) (next (react_step react_deep 0 (port_count n)) (one (call choose_name)))
           (where_fits (levels d react_deep) (not own) (one (call clear_name)) (λ q. ((refl, omega arith), tt))) (
             (react_fits react_deep d 0 (port_count n) (omega arith) (let few = few_ports n net in omega (arith, few))).0,

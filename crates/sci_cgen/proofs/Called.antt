@@ -7,9 +7,9 @@ use Rattle.sci_reaction.specs.Schedule.{Entry}
 use Rattle.c_ast.specs.declared.Name.{Name}
 use Rattle.c_ast.specs.Syntax.{Function}
 use Rattle.c_mean.specs.Meaning.{World, Around, Ran, going, quietly, run_block, same_name}
-use Rattle.c_steps.specs.Programs.{surroundings, is_defined}
-use Rattle.c_steps.proofs.Memory.{other_number}
-use Rattle.c_steps.proofs.Programs.{call_is, calls_stay, defined_joined}
+use Rattle.c_mean.specs.Programs.{surroundings, is_defined}
+use Rattle.c_mean.proofs.Memory.{other_number}
+use Rattle.c_mean.proofs.Programs.{call_is, calls_stay, defined_joined}
 use Rattle.sci_cgen.specs.Names.{source_name, settle_name, clear_name, choose_name, event_name}
 use Rattle.sci_cgen.specs.Program.{has_own, port_count, block_function, source_function, row_text, shared_text, clear_text, choose_text, functions_upto, functions_where, shared_functions, other_functions, called_functions, event_function, turn_text, functions}
 

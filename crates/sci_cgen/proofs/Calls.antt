@@ -31,9 +31,9 @@ use Rattle.sci_places.specs.Flat.{start_of}
 use Rattle.sci_places.proofs.Lists.{up_to}
 use Rattle.sci_places.proofs.Outputs.{blocks_apart}
 use Rattle.c_mean.specs.Meaning.{World, Ran, Around, run_block}
-use Rattle.c_steps.specs.Places.{get, Has, KeepsPlaces, is_scratch}
-use Rattle.c_steps.proofs.Memory.{keeps_places}
-use Rattle.c_steps.proofs.Steps.{leads_as}
+use Rattle.c_mean.specs.Places.{get, Has, KeepsPlaces, is_scratch}
+use Rattle.c_mean.proofs.Memory.{keeps_places}
+use Rattle.c_mean.proofs.Steps.{leads_as}
 use Rattle.sci_cgen_blocks.specs.Recipes.{scratch_of}
 use Rattle.sci_cgen_blocks.specs.Texts.{values, masks, scratch_name, input_place, body_text}
 use Rattle.sci_cgen_blocks.specs.Meant.{Holds, HasScratch, IsFed, IsApart, Answers, TakesFirst}

@@ -5,13 +5,13 @@ use Rattle.c_ast.specs.declared.Name.{Name}
 use Rattle.c_ast.specs.declared.Bound.TheVariants as bounds
 use Rattle.c_ast.specs.Syntax.{var, cell, set, done, next}
 use Rattle.c_mean.specs.Meaning.{World, Around, run_block, same_name}
-use Rattle.c_steps.specs.Places.{get, Has, Puts}
-use Rattle.c_steps.specs.Texts.{assigns_only}
-use Rattle.c_steps.specs.Runs.{Leads, LeftAlone}
-use Rattle.c_steps.proofs.Memory.{put_there, put_other, put_apart, has_puts}
-use Rattle.c_steps.proofs.Steps.{element_runs, done_leads}
-use Rattle.c_steps.proofs.Loops.{for_leads}
-use Rattle.c_steps.proofs.Frames.{alone_then, puts_alone}
+use Rattle.c_mean.specs.Places.{get, Has, Puts}
+use Rattle.c_mean.specs.Texts.{assigns_only}
+use Rattle.c_mean.specs.Runs.{Leads, LeftAlone}
+use Rattle.c_mean.proofs.Memory.{put_there, put_other, put_apart, has_puts}
+use Rattle.c_mean.proofs.Steps.{element_runs, done_leads}
+use Rattle.c_mean.proofs.Loops.{for_leads}
+use Rattle.c_mean.proofs.Frames.{alone_then, puts_alone}
 use Rattle.sci_net.specs.Parts.{Parts}
 use Rattle.sci_due.specs.Due.{scan as scan_name}
 use Rattle.sci_cgen.specs.Names.{actives, branches}

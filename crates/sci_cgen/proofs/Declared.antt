@@ -6,11 +6,11 @@ use Rattle.sci_net.specs.Sources.{sources_of}
 use Rattle.sci_net.specs.Net.{IsNet, all_elements}
 use Rattle.sci_reaction.specs.Schedule.{Entry}
 use Rattle.c_ast.specs.declared.Name.{Name}
-use Rattle.c_ast.specs.declared.events.Kind.{Kind}
-use Rattle.c_ast.specs.declared.events.Kind.TheVariants as kinds
+use Rattle.c_ast.specs.declared.events.NameKind.{NameKind}
+use Rattle.c_ast.specs.declared.events.NameKind.TheVariants as kinds
 use Rattle.c_ast.specs.Syntax.{Declared, Function}
 use Rattle.c_ast.specs.Rules.{same_name, kind_in, kind_of}
-use Rattle.c_steps.proofs.Memory.{other_name, other_number, not_same}
+use Rattle.c_mean.proofs.Memory.{other_name, other_number, not_same}
 use Rattle.sci_cgen_blocks.specs.Texts.{scratch_name}
 use Rattle.sci_cgen_blocks.proofs.WholeRules.{declaring, AreNew, sizes, AreNewFunctions, declaring_functions}
 use Rattle.sci_cgen.specs.Names.{block_name, source_name, settle_name, clear_name, choose_name, event_name}
@@ -58,7 +58,7 @@ scratch_of_more k (suc m) l = elim (cases_eq k (suc m)) [
 
 -- ---- new names
 
-behind_one : (x y : Name) (k : Kind) (ks ls : List (Name × Kind)) → (kind_in ls y ≡ None → kind_in ks y ≡ None)
+behind_one : (x y : Name) (k : NameKind) (ks ls : List (Name × NameKind)) → (kind_in ls y ≡ None → kind_in ks y ≡ None)
     → kind_in ((x, k) ∷ ls) y ≡ None → kind_in ((x, k) ∷ ks) y ≡ None
 behind_one x y k ks ls h = by_name (same_name x y) h
   where
@@ -67,17 +67,17 @@ behind_one x y k ks ls h = by_name (same_name x y) h
     by_name true h e = e
     by_name false h e = h e
 
-without_one : (x y : Name) (k : Kind) (ls : List (Name × Kind)) → kind_in ((x, k) ∷ ls) y ≡ None → kind_in ls y ≡ None
+without_one : (x y : Name) (k : NameKind) (ls : List (Name × NameKind)) → kind_in ((x, k) ∷ ls) y ≡ None → kind_in ls y ≡ None
 without_one x y k ls = by_name (same_name x y)
   where
-    none_some : (q : Kind) → Some q ≡ None → ⊥
+    none_some : (q : NameKind) → Some q ≡ None → ⊥
     none_some q e = cc
 
     by_name : (t : Bool) → (if t then Some k else kind_in ls y) ≡ None → kind_in ls y ≡ None
     by_name true e = absurd (none_some k e)
     by_name false e = e
 
-fewer_new : {ds es : List Declared} → Fewer ds es → (ks ls : List (Name × Kind)) → ((x : Name) → kind_in ls x ≡ None → kind_in ks x ≡ None)
+fewer_new : {ds es : List Declared} → Fewer ds es → (ks ls : List (Name × NameKind)) → ((x : Name) → kind_in ls x ≡ None → kind_in ks x ≡ None)
     → AreNew es ls → AreNew ds ks
 fewer_new nothing ks ls h new = tt
 fewer_new (keep d ds es f) ks ls h new = (
@@ -173,22 +173,22 @@ other_upto : (x : Name) (f : ℕ → Function) (k : ℕ) → ((j : ℕ) → j < 
 other_upto x f zero h = tt
 other_upto x f (suc k) h = other_both x (functions_upto f k) (f k ∷ []) (other_upto x f k (λ j l. h j (omega (arith, l)))) (h k (omega arith), tt)
 
-none_behind : (fs : List Function) (ks : List (Name × Kind)) (x : Name) → AreOther x fs → kind_in ks x ≡ None → kind_in (declaring_functions fs ks) x ≡ None
+none_behind : (fs : List Function) (ks : List (Name × NameKind)) (x : Name) → AreOther x fs → kind_in ks x ≡ None → kind_in (declaring_functions fs ks) x ≡ None
 none_behind [] ks x h e = e
 none_behind (f ∷ fs) ks x h e =
     none_behind fs ((f.name, kinds.Function) ∷ ks) x h.1 (cond-false (same_name f.name x) (Some kinds.Function) (kind_in ks x) h.0 ∙ e)
 
-declaring_both : (fs gs : List Function) (ks : List (Name × Kind)) → declaring_functions (fs ++ gs) ks ≡ declaring_functions gs (declaring_functions fs ks)
+declaring_both : (fs gs : List Function) (ks : List (Name × NameKind)) → declaring_functions (fs ++ gs) ks ≡ declaring_functions gs (declaring_functions fs ks)
 declaring_both [] gs ks = refl
 declaring_both (f ∷ fs) gs ks = declaring_both fs gs ((f.name, kinds.Function) ∷ ks)
 
-new_both : (fs gs : List Function) (ks : List (Name × Kind)) → AreNewFunctions fs ks → AreNewFunctions gs (declaring_functions fs ks)
+new_both : (fs gs : List Function) (ks : List (Name × NameKind)) → AreNewFunctions fs ks → AreNewFunctions gs (declaring_functions fs ks)
     → AreNewFunctions (fs ++ gs) ks
 new_both [] gs ks p q = q
 new_both (f ∷ fs) gs ks p q = (p.0, new_both fs gs ((f.name, kinds.Function) ∷ ks) p.1 q)
 
 -- numbered functions of one letter, none of which is declared
-new_upto : (f : ℕ → Function) (k : ℕ) (ks : List (Name × Kind)) → ((j : ℕ) → kind_in ks (f j).name ≡ None)
+new_upto : (f : ℕ → Function) (k : ℕ) (ks : List (Name × NameKind)) → ((j : ℕ) → kind_in ks (f j).name ≡ None)
     → ((i j : ℕ) → i < j → same_name (f i).name (f j).name ≡ false) → AreNewFunctions (functions_upto f k) ks
 new_upto f zero ks fresh apart = tt
 new_upto f (suc k) ks fresh apart =
@@ -209,7 +209,7 @@ fewer_variables nothing h = tt
 fewer_variables (keep d ds es f) h = (h.0, fewer_variables f h.1)
 fewer_variables (skip d ds es f) h = fewer_variables f h.1
 
-not_declared : (ds : List Declared) (ks : List (Name × Kind)) (x : Name) → is_function x ≡ true → AreVariables ds → kind_in ks x ≡ None
+not_declared : (ds : List Declared) (ks : List (Name × NameKind)) (x : Name) → is_function x ≡ true → AreVariables ds → kind_in ks x ≡ None
     → kind_in (declaring ds ks) x ≡ None
 not_declared [] ks x h v e = e
 not_declared (d ∷ ds) ks x h v e =
@@ -238,13 +238,13 @@ module _ (n : Parts) (rows : List (List Entry)) where
   no_variable : (x : Name) → is_function x ≡ true → kind_in (declaring (declarations n rows) []) x ≡ None
   no_variable x h = not_declared (declarations n rows) [] x h (fewer_variables (fewer_declared n rows) most_variables) refl
 
-  abbrev variables : List (Name × Kind)
+  abbrev variables : List (Name × NameKind)
   variables = declaring (declarations n rows) []
 
   abbrev others : List Function
   others = other_functions (has_own n rows) n
 
-  others_new : (ks : List (Name × Kind)) → ((k : ℕ) → kind_in ks (record { letter = 103; number = k }) ≡ None) → AreNewFunctions others ks
+  others_new : (ks : List (Name × NameKind)) → ((k : ℕ) → kind_in ks (record { letter = 103; number = k }) ≡ None) → AreNewFunctions others ks
   others_new ks h = by_tests (has_own n rows) (nat_lt 0 (port_count n))
     where
       by_tests : (o t : Bool) → AreNewFunctions (functions_where (not o) (settle_function n ∷ functions_where t (clear_function n ∷ []))

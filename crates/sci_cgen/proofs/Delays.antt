@@ -29,9 +29,9 @@ use Rattle.sci_pending.specs.Pending.{Pending}
 use Rattle.sci_run.specs.Activity.{Activity}
 use Rattle.sci_run.specs.Programs.{next_pending}
 use Rattle.c_mean.specs.Meaning.{World, Around, run_block}
-use Rattle.c_steps.specs.Places.{get, value_of}
-use Rattle.c_steps.specs.Texts.{assigns_only}
-use Rattle.c_steps.specs.Runs.{Leads, LeftAlone}
+use Rattle.c_mean.specs.Places.{get, value_of}
+use Rattle.c_mean.specs.Texts.{assigns_only}
+use Rattle.c_mean.specs.Runs.{Leads, LeftAlone}
 use Rattle.sci_due.specs.Due.{now as now_name, is_programming}
 use Rattle.sci_due.specs.Laws.{ShowsPending, AreOfPorts, HasProgrammed}
 use Rattle.sci_cgen_blocks.specs.Texts.{delay_expression}

@@ -7,14 +7,14 @@ use Rattle.std.proofs.lemmas.List.{take_more, take_all, length-take-le}
 use Rattle.sci_base.specs.Fit.{int_eq}
 use Rattle.c_ast.specs.declared.Name.{Name}
 use Rattle.c_mean.specs.Meaning.{World, same_name, Around, run_block}
-use Rattle.c_steps.specs.Places.{get, Has, Puts}
-use Rattle.c_steps.specs.Texts.{assigns_only, upto}
-use Rattle.c_steps.specs.Runs.{Leads, LeftAlone}
-use Rattle.c_steps.specs.Laws.{Within}
-use Rattle.c_steps.proofs.Memory.{put_there, put_other, put_apart, puts_same, has_puts}
-use Rattle.c_steps.proofs.Steps.{cell_runs, done_leads, joined_leads, leads_as}
-use Rattle.c_steps.proofs.Values.{number_is}
-use Rattle.c_steps.proofs.Frames.{alone_all, alone_then, puts_alone}
+use Rattle.c_mean.specs.Places.{get, Has, Puts}
+use Rattle.c_mean.specs.Texts.{assigns_only, upto}
+use Rattle.c_mean.specs.Runs.{Leads, LeftAlone}
+use Rattle.c_mean.specs.Laws.{Within}
+use Rattle.c_mean.proofs.Memory.{put_there, put_other, put_apart, puts_same, has_puts}
+use Rattle.c_mean.proofs.Steps.{cell_runs, done_leads, joined_leads, leads_as}
+use Rattle.c_mean.proofs.Values.{number_is}
+use Rattle.c_mean.proofs.Frames.{alone_all, alone_then, puts_alone}
 use Rattle.sci_pending.specs.Pending.{Event, Pending, is_pending, without_source, replaced}
 use Rattle.sci_net.specs.declared.Source.{Source}
 use Rattle.sci_net.specs.declared.Source.TheVariants.{Start, Port}

@@ -12,8 +12,8 @@ use Rattle.sci_places.specs.Flat.{start_of}
 use Rattle.sci_places.proofs.Outputs.{blocks_apart}
 use Rattle.c_ast.specs.declared.Name.{Name}
 use Rattle.c_mean.specs.Meaning.{World, same_name, truth}
-use Rattle.c_steps.specs.Places.{get, Puts, is_scratch, same_place}
-use Rattle.c_steps.proofs.Memory.{other_name, same_apart, put_elsewhere, has_puts}
+use Rattle.c_mean.specs.Places.{get, Puts, is_scratch, same_place}
+use Rattle.c_mean.proofs.Memory.{other_name, same_apart, put_elsewhere, has_puts}
 use Rattle.sci_cgen_blocks.specs.Texts.{values, masks}
 use Rattle.sci_cgen.specs.Names.{actives, branches}
 use Rattle.sci_forms.specs.Form.{reads_mask}

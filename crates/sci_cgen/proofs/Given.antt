@@ -20,7 +20,7 @@ use Rattle.sci_places.specs.Layout.{output_span}
 use Rattle.sci_span.specs.Values.{no_span}
 use Rattle.sci_places.proofs.Lists.{up_to}
 use Rattle.c_mean.specs.Meaning.{World}
-use Rattle.c_steps.specs.Places.{get}
+use Rattle.c_mean.specs.Places.{get}
 use Rattle.sci_cgen_blocks.specs.Texts.{values, states, input_place}
 use Rattle.sci_cgen_blocks.specs.Meant.{Holds, IsAny}
 use Rattle.sci_cgen.specs.Program.{places_of}

@@ -10,12 +10,12 @@ use Rattle.sci_forms.specs.Form.{is_halt}
 use Rattle.c_ast.specs.declared.Name.{Name}
 use Rattle.c_ast.specs.Syntax.{scalar, set, done}
 use Rattle.c_mean.specs.Meaning.{World, same_name, truth, Around, run_block}
-use Rattle.c_steps.specs.Places.{get}
-use Rattle.c_steps.specs.Texts.{assigns_only}
-use Rattle.c_steps.specs.Runs.{Leads, LeftAlone}
-use Rattle.c_steps.proofs.Memory.{put_there}
-use Rattle.c_steps.proofs.Steps.{done_leads, let_runs, leads_as}
-use Rattle.c_steps.proofs.Frames.{alone_all, alone_then, puts_alone}
+use Rattle.c_mean.specs.Places.{get}
+use Rattle.c_mean.specs.Texts.{assigns_only}
+use Rattle.c_mean.specs.Runs.{Leads, LeftAlone}
+use Rattle.c_mean.proofs.Memory.{put_there}
+use Rattle.c_mean.proofs.Steps.{done_leads, let_runs, leads_as}
+use Rattle.c_mean.proofs.Frames.{alone_all, alone_then, puts_alone}
 use Rattle.sci_cgen.specs.declared.parts.Part.{Part}
 use Rattle.sci_cgen.specs.Names.{halt_name}
 use Rattle.sci_cgen.specs.Program.{natural, one, each_block, text_where, where_part, has_halt, halt_text}

@@ -23,7 +23,7 @@ use Rattle.sci_places.specs.Layout.{output_span, input_spans}
 use Rattle.sci_places.proofs.Inputs.{output_within}
 use Rattle.sci_places.proofs.Laid.{numbered_old, numbered_new}
 use Rattle.sci_places.proofs.Outputs.{block_within}
-use Rattle.sci_cgen_blocks.specs.declared.block_layout.Layout.{Layout}
+use Rattle.sci_cgen_blocks.specs.declared.block_layout.BlockLayout.{BlockLayout}
 use Rattle.sci_cgen_blocks.specs.Texts.{Places, fixed}
 use Rattle.sci_cgen_blocks.specs.Plain.{AreFew, plain_places}
 use Rattle.sci_cgen.specs.Program.{places_of, states_before}
@@ -41,11 +41,11 @@ few_places n net b is = record {
 }
 
 -- the same of a layout that is kept
-pub few_laid : (n : Parts) (layouts : List Layout) → IsNet n → AreLaid n layouts → (b : ℕ) → IsBlock n b → AreFew (spec_of n b) (laid_at layouts b)
+pub few_laid : (n : Parts) (layouts : List BlockLayout) → IsNet n → AreLaid n layouts → (b : ℕ) → IsBlock n b → AreFew (spec_of n b) (laid_at layouts b)
 few_laid n layouts net laid b is = subst (AreFew (spec_of n b)) (sym (laid.places b is)) (few_places n net b is)
 
 -- and of a spec and places that are read for it
-pub few_read : (n : Parts) (layouts : List Layout) (b : ℕ) (s : Spec) (p : Places) → IsNet n → AreLaid n layouts → IsBlock n b → s ≡ spec_of n b
+pub few_read : (n : Parts) (layouts : List BlockLayout) (b : ℕ) (s : Spec) (p : Places) → IsNet n → AreLaid n layouts → IsBlock n b → s ≡ spec_of n b
     → p ≡ laid_at layouts b → AreFew s p
 few_read n layouts b s p net laid is e f =
     subst (λ (t : Spec). AreFew t p) (sym e) (subst (AreFew (spec_of n b)) (sym f) (few_laid n layouts net laid b is))
@@ -130,14 +130,14 @@ states_small n k s net l e =
     omega (arith, most, few_all_states n net)
 
 -- the first k blocks are laid down, and so many values have their states
-pub record LaidTo (n : Parts) (k : ℕ) (layouts : List Layout) (state : ℕ) : Type 0 where
+pub record LaidTo (n : Parts) (k : ℕ) (layouts : List BlockLayout) (state : ℕ) : Type 0 where
   pub one_each : length layouts ≡ k
   pub places : (b : ℕ) → 1 ≤ b → b ≤ k → laid_at layouts b ≡ places_of n b
   pub within : k ≤ length n.specs
   pub states : state ≡ states_before n.specs k
 
 -- one block more
-pub laid_next : (n : Parts) (k : ℕ) (old : List Layout) (state : ℕ) (one : Layout) (new : List Layout) (s : Spec) (len : ℕ) → LaidTo n k old state
+pub laid_next : (n : Parts) (k : ℕ) (old : List BlockLayout) (state : ℕ) (one : BlockLayout) (new : List BlockLayout) (s : Spec) (len : ℕ) → LaidTo n k old state
     → k < length n.specs → plain_places one ≡ places_of n (k + 1) → new ≡ old ++ one ∷ [] → s ≡ spec_of n (k + 1) → len ≡ state_len_of s.kind s
     → LaidTo n (k + 1) new (state + len)
 laid_next n k old state one new s len h l e f g is = record {

@@ -6,14 +6,14 @@ use Rattle.std.proofs.lemmas.Grind.{flat_map-append}
 use Rattle.std.proofs.lemmas.Bool.{cond-true, cond-false}
 use Rattle.std.proofs.lemmas.Bool.Decides.{nat_tests}
 use Rattle.c_ast.specs.declared.Name.{Name}
-use Rattle.c_ast.specs.declared.events.Kind.{Kind}
-use Rattle.c_ast.specs.declared.events.Kind.TheVariants as kinds
-use Rattle.c_ast.specs.declared.events.Event.{Event}
+use Rattle.c_ast.specs.declared.events.NameKind.{NameKind}
+use Rattle.c_ast.specs.declared.events.NameKind.TheVariants as kinds
+use Rattle.c_ast.specs.declared.events.TextEvent.{TextEvent}
 use Rattle.c_ast.specs.declared.events.Opened.TheVariants.{Branch}
 use Rattle.c_ast.specs.Syntax.{Block, Declared, Function}
 use Rattle.c_ast.specs.Events.{declared_event, function_events, main_events}
 use Rattle.c_ast.specs.Rules.{same_name, Routine, Scope, outset, kind_in, routine_in, is_scalar, is_array, elements_of, is_too_large, kind_of, behind, KeepsRules}
-use Rattle.c_steps.proofs.Memory.{name_eq, name_same}
+use Rattle.c_mean.proofs.Memory.{name_eq, name_same}
 use Rattle.sci_cgen_blocks.specs.Keeping.{Scene, BlockKeeps}
 use Rattle.sci_cgen_blocks.proofs.Rules.{IsBlameless, StandsBefore, IsBehind, unblamed, some_if, either_false, function_keeps, main_keeps}
 use Rattle.sci_cgen_blocks.proofs.WholeRules.{declaring, AreNew, sizes, AreNewFunctions, declaring_functions, IsKnown, AreKnown, AllKeep, scene}
@@ -27,7 +27,7 @@ not_too_large sum (Some n) h = by_sum (sum + n) h
     by_sum : (m : ℕ) → m ≤ 16777216 → nat_lt 16777216 m ≡ false
     by_sum m h = grind (arith, nat_tests)
 
-declared_keep : (ds : List Declared) (s : Scope) → AreNew ds s.declared → s.elements + sizes ds ≤ 16777216 → (rest : List Event)
+declared_keep : (ds : List Declared) (s : Scope) → AreNew ds s.declared → s.elements + sizes ds ≤ 16777216 → (rest : List TextEvent)
     → IsBlameless (record s { declared = declaring ds s.declared; elements = s.elements + sizes ds }) rest → IsBlameless s (map declared_event ds ++ rest)
 declared_keep [] s fresh few rest go = subst (λ (n : ℕ). IsBlameless (record s { elements = n }) rest) (omega arith) go
 declared_keep (d ∷ ds) s fresh few rest go =
@@ -75,8 +75,8 @@ module _ (c : Scene) (most : c.depth ≤ 64) (least : 1 ≤ c.depth) where
       deep = b.depth;
     }
 
-    kind_kept : (x : Name) (test : Option Kind → Bool) → test None ≡ false → test (kind_in s.declared x) ≡ true → test (kind_in t.declared x) ≡ true
-    kind_kept x test out h = ap (λ (l : List (Name × Kind)). test (kind_in l x)) b.declared ∙ by_name (same_name f.name x) refl
+    kind_kept : (x : Name) (test : Option NameKind → Bool) → test None ≡ false → test (kind_in s.declared x) ≡ true → test (kind_in t.declared x) ≡ true
+    kind_kept x test out h = ap (λ (l : List (Name × NameKind)). test (kind_in l x)) b.declared ∙ by_name (same_name f.name x) refl
       where
         by_name : (q : Bool) → same_name f.name x ≡ q → test (if q then Some kinds.Function else kind_in s.declared x) ≡ true
         by_name true e = absurd (true≢false (sym h ∙ (ap test (subst (λ (y : Name). kind_in s.declared y ≡ None) (name_eq f.name x e) new) ∙ out)))
@@ -84,7 +84,7 @@ module _ (c : Scene) (most : c.depth ≤ 64) (least : 1 ≤ c.depth) where
 
     -- a name that isn't declared behind the function was not declared before, and is another
     not_before : (g : Name) → kind_in t.declared g ≡ None → (same_name f.name g ≡ false) × (kind_in s.declared g ≡ None)
-    not_before g h = by_name (same_name f.name g) refl (ap (λ (l : List (Name × Kind)). kind_in l g) (sym b.declared) ∙ h)
+    not_before g h = by_name (same_name f.name g) refl (ap (λ (l : List (Name × NameKind)). kind_in l g) (sym b.declared) ∙ h)
       where
         by_name : (q : Bool) → same_name f.name g ≡ q → (if q then Some kinds.Function else kind_in s.declared g) ≡ None
             → (same_name f.name g ≡ false) × (kind_in s.declared g ≡ None)
@@ -110,7 +110,7 @@ module _ (c : Scene) (most : c.depth ≤ 64) (least : 1 ≤ c.depth) where
             between.declared g r (sym (cond-false (same_name b.routine.name g) (Some b.routine) (routine_in s.routines g) e) ∙ h) none
 
   -- Functions whose bodies keep the rules are not blamed.
-  functions_keep : (fs : List Function) (s : Scope) → IsBetween c s → AreNewFunctions fs s.declared → AllKeep c fs → (rest : List Event)
+  functions_keep : (fs : List Function) (s : Scope) → IsBetween c s → AreNewFunctions fs s.declared → AllKeep c fs → (rest : List TextEvent)
       → ((t : Scope) → IsBetween c t → Remembers s t → AreKnown c.may c.depth (routine_in t.routines) fs → t.declared ≡ declaring_functions fs s.declared
       → t.elements ≡ s.elements → IsBlameless t rest)
       → IsBlameless s (flat_map function_events fs ++ rest)
@@ -128,8 +128,8 @@ stands_between : (c : Scene) (ds : List Declared) (may : Name → Bool) (depth :
     → IsBetween (scene ds (routine_in s.routines) may depth) s
 stands_between c ds may depth s e b = record {
   stands = record {
-    scalars = λ x h. b.stands.scalars x (ap (λ (k : Name → Option Kind). is_scalar (k x)) e ∙ h);
-    arrays = λ x h. b.stands.arrays x (ap (λ (k : Name → Option Kind). is_array (k x)) e ∙ h);
+    scalars = λ x h. b.stands.scalars x (ap (λ (k : Name → Option NameKind). is_scalar (k x)) e ∙ h);
+    arrays = λ x h. b.stands.arrays x (ap (λ (k : Name → Option NameKind). is_array (k x)) e ∙ h);
     routines = λ f r h. h;
     blocks = b.stands.blocks;
   };
@@ -187,7 +187,7 @@ program_keeps ds first second third main may new few new_first new_second new_th
     arranged : flat_map function_events ((first ++ second) ++ third) ++ main_events main
         ≡ flat_map function_events first ++ (flat_map function_events second ++ (flat_map function_events third ++ main_events main))
     arranged =
-        ap (λ (l : List Event). l ++ main_events main) (flat_map-append function_events (first ++ second) third)
+        ap (λ (l : List TextEvent). l ++ main_events main) (flat_map-append function_events (first ++ second) third)
         ∙ (append_assoc (flat_map function_events (first ++ second)) (flat_map function_events third) (main_events main)
-        ∙ (ap (λ (l : List Event). l ++ (flat_map function_events third ++ main_events main)) (flat_map-append function_events first second)
+        ∙ (ap (λ (l : List TextEvent). l ++ (flat_map function_events third ++ main_events main)) (flat_map-append function_events first second)
         ∙ append_assoc (flat_map function_events first) (flat_map function_events second) (flat_map function_events third ++ main_events main)))

@@ -16,19 +16,20 @@ use Rattle.sci_places.specs.Flat.{start_of}
 use Rattle.c_ast.specs.declared.Name.{Name}
 use Rattle.c_ast.specs.Syntax.{Exp, Statement, scalar, cell, set, ask, choice, loop, call, tell, Block, done, next, Function}
 use Rattle.c_mean.specs.Meaning.{World, Ran, same_name}
-use Rattle.c_steps.specs.Texts.{May, place_name, takes, goes_on, statement_within, block_within, joined}
-use Rattle.c_steps.specs.Runs.{Leaves}
-use Rattle.c_steps.specs.Programs.{surroundings, functions_within}
-use Rattle.c_steps.proofs.Memory.{and_left, and_right, other_name, not_same}
-use Rattle.c_steps.proofs.Texts.{joined_within, upto_within}
-use Rattle.c_steps.proofs.Frames.{block_leaves}
-use Rattle.c_steps.proofs.Programs.{functions_leave}
+use Rattle.c_mean.specs.Texts.{May, place_name, takes, goes_on, statement_within, block_within, joined}
+use Rattle.c_mean.specs.Runs.{Leaves}
+use Rattle.c_mean.specs.Programs.{surroundings, functions_within}
+use Rattle.c_mean.proofs.Memory.{and_left, and_right, other_name, not_same}
+use Rattle.c_mean.proofs.Texts.{joined_within, upto_within}
+use Rattle.c_mean.proofs.Frames.{block_leaves}
+use Rattle.c_mean.proofs.Programs.{functions_leave}
 use Rattle.sci_cgen_blocks.specs.Terms.{is_looped}
 use Rattle.sci_cgen_blocks.specs.Texts.{masks, body_text, next_text, delay_expression, branch_expression}
 use Rattle.sci_cgen_blocks.specs.Meant.{body_may, next_may}
 use Rattle.sci_cgen_blocks.specs.Laws.{MayLaw}
 use Rattle.sci_due.specs.Due.{best as chosen_name}
-use Rattle.sci_due.specs.Texts.{program_text}
+use Rattle.sci_due.specs.Texts.{entry_text as due_entry, program_text, delayed_text}
+use Rattle.sci_due.proofs.Pending.{delayed_form}
 use Rattle.sci_cgen.specs.declared.parts.Part.{Part}
 use Rattle.sci_cgen.specs.declared.parts.Part.TheVariants.{Absent, Sure, Marked}
 use Rattle.sci_cgen.specs.Names.{actives, branches, limit_name, until_name, fired_name, halt_name, settle_name, clear_name, choose_name}
@@ -196,7 +197,8 @@ module _ (n : Parts) where
     delay_within : (i : ℕ) (s : Source) → block_within reacting (delay_text n part i s) ≡ true
     delay_within i Start = refl
     delay_within i (Port q) =
-        part_within (part q.block) q.block (program_text (i - 1) (delay_expression (spec_of n q.block) (places_of n q.block)) done) refl
+        part_within (part q.block) q.block (delayed_text (i - 1) (delay_expression (spec_of n q.block) (places_of n q.block)))
+        (delayed_form (λ (t : Block). block_within reacting t ≡ true) (i - 1) (delay_expression (spec_of n q.block) (places_of n q.block)) (λ d q. refl) refl)
 
     state_within : MayLaw → (b : ℕ) → block_within reacting (state_text n part b) ≡ true
     state_within law b =

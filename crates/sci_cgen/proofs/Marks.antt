@@ -18,13 +18,13 @@ use Rattle.c_ast.specs.declared.Name.{Name}
 use Rattle.c_ast.specs.declared.Op.TheVariants.{Add, Sub, Mul, Div, Rem}
 use Rattle.c_ast.specs.Syntax.{Exp, bin, cell, set, Block, done}
 use Rattle.c_mean.specs.Meaning.{World, Around, Ran, truth, run_block, then_run}
-use Rattle.c_steps.specs.Places.{get, value_of, Has, Puts, same_place}
-use Rattle.c_steps.specs.Laws.{Within}
-use Rattle.c_steps.specs.Texts.{place, joined}
-use Rattle.c_steps.specs.Runs.{Leads}
-use Rattle.c_steps.proofs.Memory.{put_there, put_elsewhere, has_puts}
-use Rattle.c_steps.proofs.Values.{add_is, sub_is, mul_is, div_is, rem_by, same_is, not_zero}
-use Rattle.c_steps.proofs.Steps.{cell_runs, done_leads, joined_leads, test_runs, then_leads}
+use Rattle.c_mean.specs.Places.{get, value_of, Has, Puts, same_place}
+use Rattle.c_mean.specs.Laws.{Within}
+use Rattle.c_mean.specs.Texts.{place, joined}
+use Rattle.c_mean.specs.Runs.{Leads}
+use Rattle.c_mean.proofs.Memory.{put_there, put_elsewhere, has_puts}
+use Rattle.c_mean.proofs.Values.{add_is, sub_is, mul_is, div_is, rem_by, same_is, not_zero}
+use Rattle.c_mean.proofs.Steps.{cell_runs, done_leads, joined_leads, test_runs, then_leads}
 use Rattle.sci_cgen_blocks.specs.Texts.{masks}
 use Rattle.sci_cgen_blocks.proofs.Patterns.{set_sum}
 use Rattle.sci_cgen.specs.Names.{actives, branches}

@@ -22,15 +22,15 @@ use Rattle.sci_run.proofs.Ordered.{stands_ahead}
 use Rattle.c_ast.specs.declared.Bound.TheVariants as bounds
 use Rattle.c_ast.specs.Syntax.{scalar, call, next}
 use Rattle.c_mean.specs.Meaning.{World, Around, Ran, How, going, over, halted, quietly, behind, then_run, run_block, one_turn, turns, needs, behind_functions, meaning, first_world}
-use Rattle.c_steps.specs.Places.{get, Has, Puts}
-use Rattle.c_steps.specs.Texts.{assigns_only}
-use Rattle.c_steps.specs.Runs.{Leads}
-use Rattle.c_steps.specs.Programs.{surroundings}
-use Rattle.c_steps.proofs.Memory.{put_there, put_other}
-use Rattle.c_steps.proofs.Steps.{joined_runs, joined_leads, limit_runs, then_seen}
-use Rattle.c_steps.proofs.Loops.{loop_runs}
-use Rattle.c_steps.proofs.Frames.{puts_alone}
-use Rattle.c_steps.proofs.Programs.{meaning_runs}
+use Rattle.c_mean.specs.Places.{get, Has, Puts}
+use Rattle.c_mean.specs.Texts.{assigns_only}
+use Rattle.c_mean.specs.Runs.{Leads}
+use Rattle.c_mean.specs.Programs.{surroundings}
+use Rattle.c_mean.proofs.Memory.{put_there, put_other}
+use Rattle.c_mean.proofs.Steps.{joined_runs, joined_leads, limit_runs, then_seen}
+use Rattle.c_mean.proofs.Loops.{loop_runs}
+use Rattle.c_mean.proofs.Frames.{puts_alone}
+use Rattle.c_mean.proofs.Programs.{meaning_runs}
 use Rattle.sci_due.specs.Due.{best as chosen_name}
 use Rattle.sci_due.specs.Laws.{ShowsPending}
 use Rattle.sci_cgen.proofs.Counting.{counts_stand}
@@ -117,7 +117,7 @@ module _ (n : Parts) (rows : List (List Entry)) (i : Columns) (until asked : ℕ
   chooses_so some now p w order shows room there =
       let c = choose_runs n rows (pos until) (pos asked) some in
       subst (λ (run : World → Ran). Leads (run w) (HasNext n p w)) (sym c.2)
-      (choice_leads (surroundings c.0 (pos until) (pos asked)) n now p c.1 w (omega (arith, few_ports)) order shows (room.chosen some) (room.scan some) there)
+      (choice_leads (surroundings c.0 (pos until) (pos asked)) n now p c.1 w some (omega (arith, few_ports)) order shows (room.chosen some) (room.scan some) there)
 
   calls : HasCalls env n scratch i own until asked reacts cleared chooses
   calls = record {

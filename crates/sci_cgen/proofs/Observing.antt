@@ -9,15 +9,15 @@ use Rattle.c_ast.specs.declared.Name.{Name}
 use Rattle.c_ast.specs.declared.Bound.TheVariants as bounds
 use Rattle.c_ast.specs.Syntax.{num, var, element, value, tell, Block, done}
 use Rattle.c_mean.specs.Meaning.{World, truth, Around, Ran, going, behind, then_run, later, turns, count_up, one_turn, run_block}
-use Rattle.c_steps.specs.Places.{get, value_of, Has, Puts, is_scratch}
-use Rattle.c_steps.specs.Texts.{place, joined, upto, assigns_only}
-use Rattle.c_steps.specs.Runs.{LeftAlone}
-use Rattle.c_steps.specs.Laws.{Within}
-use Rattle.c_steps.proofs.Memory.{put_there}
-use Rattle.c_steps.proofs.Steps.{number_after, run_joined, joined_done, joined_assoc, run_done, then_seen, value_runs, if_runs, skip_runs}
-use Rattle.c_steps.proofs.Loops.{loop_runs, count_is}
-use Rattle.c_steps.proofs.Frames.{alone_all, alone_then, puts_alone}
-use Rattle.c_steps.proofs.Values.{add_is, element_is}
+use Rattle.c_mean.specs.Places.{get, value_of, Has, Puts, is_scratch}
+use Rattle.c_mean.specs.Texts.{place, joined, upto, assigns_only}
+use Rattle.c_mean.specs.Runs.{LeftAlone}
+use Rattle.c_mean.specs.Laws.{Within}
+use Rattle.c_mean.proofs.Memory.{put_there}
+use Rattle.c_mean.proofs.Steps.{number_after, run_joined, joined_done, joined_assoc, run_done, then_seen, value_runs, if_runs, skip_runs}
+use Rattle.c_mean.proofs.Loops.{loop_runs, count_is}
+use Rattle.c_mean.proofs.Frames.{alone_all, alone_then, puts_alone}
+use Rattle.c_mean.proofs.Values.{add_is, element_is}
 use Rattle.sci_forms.specs.declared.ports.Port.{Port as Output}
 use Rattle.sci_forms.specs.declared.spec.Spec.{Spec}
 use Rattle.sci_forms.specs.Ports.{elements, total}
@@ -31,7 +31,7 @@ use Rattle.sci_cgen_blocks.specs.Texts.{values, counted_by, scratch_name, elemen
 use Rattle.sci_cgen.specs.declared.parts.Part.{Part}
 use Rattle.sci_cgen.specs.declared.parts.Part.TheVariants.{Absent, Sure, Marked}
 use Rattle.sci_cgen.specs.Names.{actives}
-use Rattle.sci_cgen.specs.Program.{natural, each_block, text_where, is_active, where_part, elements_shown, outputs_shown, values_shown, one, looped_shown, output_shown, is_any_looped, has_loop}
+use Rattle.sci_cgen.specs.Program.{natural, each_block, text_where, is_active, where_part, elements_shown, outputs_shown, values_shown, one, looped_shown, output_shown, is_any_looped, counts_behind, has_loop}
 use Rattle.sci_cgen.specs.Shows.{ShowsValues, Acts, ShowsActive}
 use Rattle.sci_places.proofs.Outputs.{block_within}
 use Rattle.sci_cgen_blocks.specs.Terms.{is_looped}
@@ -270,7 +270,7 @@ module _ (env : Around) (y : Signals) (part : ℕ → Part) (active : Activity) 
         shown_told env b (part b) (spec_of n b).outs (start_of n b) (y b) (active b) k v ((active_stays is_scratch w v same n part active refl marked).each b block)
         (long b block) (omega (arith, block_within n b block, net.small))
         (λ i l. (values_stay is_scratch w v same n y refl shows).each b i block (omega (arith, l, long b block)))
-        (λ h. same.there counter 0 (room (some_block n (λ s. is_any_looped s.outs) b block h)))
+        (λ h. same.there counter 0 (room (some_block n counts_behind b block (first_any (is_any_looped (spec_of n b).outs) _ h))))
 
     -- The values of the active blocks are observed, by block, port and element, and nothing changes but scratch.
     pub values_told : (k : ℕ) → Tells (run_block env k (each_block (values_shown n part) n) w) (blocks_seen 1 n.specs y active) w

@@ -26,13 +26,13 @@ use Rattle.sci_run.proofs.Ordered.{typed_firing}
 use Rattle.c_ast.specs.declared.Name.{Name}
 use Rattle.c_ast.specs.Syntax.{scalar, set, ask, until as ask_until, done, next}
 use Rattle.c_mean.specs.Meaning.{World, Around, run_block, same_name, truth}
-use Rattle.c_steps.specs.Places.{get, Has, Puts}
-use Rattle.c_steps.specs.Texts.{assigns_only}
-use Rattle.c_steps.specs.Runs.{Leads, LeftAlone}
-use Rattle.c_steps.specs.Laws.{Within}
-use Rattle.c_steps.proofs.Memory.{put_there, put_other, has_puts}
-use Rattle.c_steps.proofs.Steps.{done_leads, joined_leads, let_runs, until_runs}
-use Rattle.c_steps.proofs.Frames.{alone_all, alone_then, puts_alone}
+use Rattle.c_mean.specs.Places.{get, Has, Puts}
+use Rattle.c_mean.specs.Texts.{assigns_only}
+use Rattle.c_mean.specs.Runs.{Leads, LeftAlone}
+use Rattle.c_mean.specs.Laws.{Within}
+use Rattle.c_mean.proofs.Memory.{put_there, put_other, has_puts}
+use Rattle.c_mean.proofs.Steps.{done_leads, joined_leads, let_runs, until_runs}
+use Rattle.c_mean.proofs.Frames.{alone_all, alone_then, puts_alone}
 use Rattle.sci_cgen_blocks.specs.Texts.{values, states}
 use Rattle.sci_due.specs.Due.{dates, orders, last as programmed_name, now as now_name}
 use Rattle.sci_due.specs.Laws.{AreOfPorts, ShowsPending}

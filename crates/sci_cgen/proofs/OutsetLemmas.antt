@@ -24,8 +24,8 @@ use Rattle.sci_places.specs.Flat.{start_of}
 use Rattle.sci_places.proofs.Outputs.{block_within}
 use Rattle.c_ast.specs.declared.Name.{Name}
 use Rattle.c_ast.specs.Syntax.{Exp, Place, Block, scalar, cell, until, set, ask, next}
-use Rattle.c_steps.specs.Texts.{number, joined, upto}
-use Rattle.sci_cgen_blocks.specs.declared.block_layout.Layout.{Layout}
+use Rattle.c_mean.specs.Texts.{number, joined, upto}
+use Rattle.sci_cgen_blocks.specs.declared.block_layout.BlockLayout.{BlockLayout}
 use Rattle.sci_cgen_blocks.specs.Plain.{plain_places}
 use Rattle.sci_cgen_blocks.specs.Texts.{Places, values, states}
 use Rattle.sci_cgen_blocks.proofs.Written.{joined_assoc, joined_done}
@@ -111,7 +111,7 @@ state_least s i h l =
 
 -- ---- the places of a block
 
-module _ (n : Parts) (net : IsNet n) (layouts : List Layout) (laid : AreLaid n layouts) (k : ℕ) (l : k < length n.specs) (at : Layout)
+module _ (n : Parts) (net : IsNet n) (layouts : List BlockLayout) (laid : AreLaid n layouts) (k : ℕ) (l : k < length n.specs) (at : BlockLayout)
     (is : plain_places at ≡ laid_at layouts (k + 1)) (s : Spec) (own : s ≡ spec_of n (k + 1)) where
   pub block_is : IsBlock n (k + 1)
   block_is = record { least = omega arith; most = omega (arith, l) }

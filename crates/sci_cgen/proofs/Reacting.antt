@@ -24,9 +24,9 @@ use Rattle.sci_run.specs.Observed.{header, stop_seen}
 use Rattle.sci_run.specs.Run.{State, Reacts}
 use Rattle.sci_run.proofs.Unique.{halts_same}
 use Rattle.c_mean.specs.Meaning.{World, Around, Ran, going, halted, behind, then_run, run_block, truth}
-use Rattle.c_steps.specs.Places.{get}
-use Rattle.c_steps.specs.Programs.{surroundings}
-use Rattle.c_steps.proofs.Steps.{number_after, run_joined, then_seen}
+use Rattle.c_mean.specs.Places.{get}
+use Rattle.c_mean.specs.Programs.{surroundings}
+use Rattle.c_mean.proofs.Steps.{number_after, run_joined, then_seen}
 use Rattle.sci_cgen_blocks.specs.Laws.{ValuesLaw, SensorLaw, BranchLaw, MayLaw}
 use Rattle.sci_due.specs.Due.{now as now_name}
 use Rattle.sci_due.specs.Laws.{ShowsPending}

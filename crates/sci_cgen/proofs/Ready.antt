@@ -13,8 +13,8 @@ use Rattle.sci_run.specs.Run.{State, Reacts}
 use Rattle.sci_run.specs.Alike.{AreAlike}
 use Rattle.c_ast.specs.declared.Name.{Name}
 use Rattle.c_mean.specs.Meaning.{World, Ran, going, halted, same_name}
-use Rattle.c_steps.specs.Texts.{May}
-use Rattle.c_steps.specs.Runs.{Leaves}
+use Rattle.c_mean.specs.Texts.{May}
+use Rattle.c_mean.specs.Runs.{Leaves}
 use Rattle.sci_due.specs.Due.{best as chosen_name}
 use Rattle.sci_due.specs.Laws.{AreOfPorts}
 use Rattle.sci_cgen.specs.Names.{limit_name, until_name, fired_name, settle_name}

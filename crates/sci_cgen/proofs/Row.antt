@@ -29,11 +29,11 @@ use Rattle.sci_run.specs.Observed.{header}
 use Rattle.c_ast.specs.declared.Name.{Name}
 use Rattle.c_ast.specs.Syntax.{Block, done, set, cell, var}
 use Rattle.c_mean.specs.Meaning.{World, Around, Ran, truth, run_block, then_run, behind}
-use Rattle.c_steps.specs.Places.{get, value_of}
-use Rattle.c_steps.specs.Texts.{joined}
-use Rattle.c_steps.specs.Runs.{Leads}
-use Rattle.c_steps.proofs.Memory.{put_there, put_apart}
-use Rattle.c_steps.proofs.Steps.{joined_runs, joined_leads, done_leads, run_done, then_leads, then_stops, on_leads, test_runs, call_runs, cell_runs, start_runs, event_runs}
+use Rattle.c_mean.specs.Places.{get, value_of}
+use Rattle.c_mean.specs.Texts.{joined}
+use Rattle.c_mean.specs.Runs.{Leads}
+use Rattle.c_mean.proofs.Memory.{put_there, put_apart}
+use Rattle.c_mean.proofs.Steps.{joined_runs, joined_leads, done_leads, run_done, then_leads, then_stops, on_leads, test_runs, call_runs, cell_runs, start_runs, event_runs}
 use Rattle.sci_cgen_blocks.specs.Texts.{states as states_name, branch_expression}
 use Rattle.sci_cgen_blocks.specs.Laws.{BranchLaw}
 use Rattle.sci_due.specs.Due.{now as now_name}

@@ -4,7 +4,7 @@ use Rattle.std.proofs.lemmas.List.{length-map, get_or-map}
 use Rattle.c_ast.specs.declared.Stmt.{Stmt}
 use Rattle.c_ast.specs.Syntax.{Block}
 use Rattle.c_ast.specs.View.{statements_of}
-use Rattle.c_steps.specs.Texts.{joined, upto}
+use Rattle.c_mean.specs.Texts.{joined, upto}
 use Rattle.sci_forms.specs.declared.spec.Spec.{Spec}
 use Rattle.sci_forms.specs.Typed.{typed}
 use Rattle.sci_reaction.specs.Schedule.{Guard, Entry}

@@ -22,28 +22,29 @@ use Rattle.sci_forms.specs.Form.{is_halt}
 use Rattle.sci_run.specs.Laws.{AreLoopFree}
 use Rattle.c_ast.specs.declared.Name.{Name}
 use Rattle.c_ast.specs.declared.Bound.TheVariants as bounds
-use Rattle.c_ast.specs.declared.events.Kind.{Kind}
+use Rattle.c_ast.specs.declared.events.NameKind.{NameKind}
 use Rattle.c_ast.specs.declared.events.Opened.{Opened}
 use Rattle.c_ast.specs.declared.events.Opened.TheVariants.{Branch, Turn}
 use Rattle.c_ast.specs.Syntax.{var, scalar, cell, set, Block, done, Function}
 use Rattle.c_ast.specs.Rules.{Routine, same_name, is_guarded, is_hit}
-use Rattle.c_steps.specs.Texts.{joined}
+use Rattle.c_mean.specs.Texts.{place, joined}
 use Rattle.sci_cgen_blocks.specs.Terms.{is_looped}
-use Rattle.sci_cgen_blocks.specs.Recipes.{scratch_of}
+use Rattle.sci_cgen_blocks.specs.Recipes.{next_scratch, scratch_of}
 use Rattle.sci_cgen_blocks.specs.Texts.{values, states, masks, scratch_name, body_text, next_text, delay_expression, branch_expression}
 use Rattle.sci_cgen_blocks.specs.Keeping.{Scene, IsScalar, IsArray, ReadsWell, BlockKeeps, HasBlockNames}
 use Rattle.sci_cgen_blocks.proofs.TextRules.{joined_keep, upto_keeps, body_keeps, next_keeps, delay_keeps, branch_keeps}
 use Rattle.sci_cgen_blocks.proofs.WholeRules.{IsKnown, AreKnown, calls_well}
 use Rattle.sci_due.specs.Due.{dates, orders, best as chosen_name, scan as scan_name, now as now_name, last as programmed_name, delay as delay_name}
-use Rattle.sci_due.specs.Texts.{program_text}
+use Rattle.sci_due.specs.Texts.{choose_text as choose_of, entry_text as due_entry, program_text, delayed_text}
+use Rattle.sci_due.proofs.Pending.{delayed_form}
 use Rattle.sci_cgen.specs.declared.parts.Part.{Part}
 use Rattle.sci_cgen.specs.declared.parts.Part.TheVariants.{Absent, Sure, Marked}
 use Rattle.sci_cgen.specs.Names.{actives, branches, limit_name, until_name, fired_name, next_date, halt_name, block_name, settle_name}
-use Rattle.sci_cgen.specs.Program.{natural, one, texts, text_where, only_where, has_own, part_in, port_count, places_of, is_scheduled, block_function, source_function, is_active, where_part, mark, with_bit, with_bits, guard_text, call_text, entry_text, cleared_text, header_text, pass_text, following_text, has_sync, has_halt, clear_text, choose_text, elements_shown, outputs_shown, values_shown, delay_text, state_text, halt_text, settle_text, is_any_looped, has_loop, looped_shown, output_shown}
+use Rattle.sci_cgen.specs.Program.{natural, one, texts, text_where, only_where, has_own, part_in, port_count, places_of, is_scheduled, block_function, source_function, is_active, where_part, mark, with_bit, with_bits, guard_text, call_text, entry_text, cleared_text, header_text, pass_text, following_text, has_sync, has_halt, clear_text, choose_text, elements_shown, outputs_shown, values_shown, delay_text, state_text, halt_text, settle_text, is_any_looped, counts_behind, has_loop, looped_shown, output_shown, date_text}
 use Rattle.sci_cgen.proofs.Parted.{reads, masked, guarded, called, all_shown, all_delays, all_states, all_halts}
 use Rattle.sci_cgen.proofs.Marks.{IsGuarding}
 use Rattle.sci_cgen.proofs.Entries.{block_here, guarding}
-use Rattle.sci_cgen.proofs.Sizes.{first_any, other_any, some_block, port_has_delay}
+use Rattle.sci_cgen.proofs.Sizes.{first_any, other_any, some_block, port_has_delay, next_enough}
 
 -- what the program's texts find declared
 pub record Finds (n : Parts) (scratch : ℕ) (c : Scene) : Type 0 where
@@ -71,7 +72,7 @@ abbrev pub may_assign : Name → Bool
 may_assign x = not (same_name fired_name x || same_name limit_name x)
 
 -- what a function's body finds
-abbrev pub in_functions : (Name → Option Kind) → (Name → Option Routine) → ℕ → Scene
+abbrev pub in_functions : (Name → Option NameKind) → (Name → Option Routine) → ℕ → Scene
 in_functions kinds routines depth = record { kinds = kinds; routines = routines; may = may_assign; depth = depth }
 
 -- ---- texts
@@ -107,7 +108,7 @@ one_open = Branch ∷ []
 abbrev two_open : List Opened
 two_open = Branch ∷ Branch ∷ []
 
-module _ (n : Parts) (net : IsNet n) (scratch : ℕ) (kinds : Name → Option Kind) (routines : Name → Option Routine) (depth : ℕ) where
+module _ (n : Parts) (net : IsNet n) (scratch : ℕ) (kinds : Name → Option NameKind) (routines : Name → Option Routine) (depth : ℕ) where
   abbrev c : Scene
   c = in_functions kinds routines depth
 
@@ -167,7 +168,7 @@ module _ (n : Parts) (net : IsNet n) (scratch : ℕ) (kinds : Name → Option Ki
     module _ (part : ℕ → Part) where
       values_keep : (has_loop n ≡ true → 1 ≤ scratch) → (b : ℕ) → IsBlock n b → BlockKeeps c one_open (values_shown n part b)
       values_keep loops b is =
-          let looped = λ (h : is_any_looped (spec_of n b).outs ≡ true). loops (some_block n (λ s. is_any_looped s.outs) b is h) in
+          let looped = λ (h : is_any_looped (spec_of n b).outs ≡ true). loops (some_block n counts_behind b is (first_any (is_any_looped (spec_of n b).outs) _ h)) in
           let shown = outputs_shown b 1 (start_of n b) (spec_of n b).outs in
           where_keeps c one_open (nat_lt 0 (length (spec_of n b).outs)) (where_part (part b) b shown) (λ q.
           part_keeps (part b) b is shown (outputs_keep one_open (λ x. refl) b 1 (start_of n b) (spec_of n b).outs looped)
@@ -198,18 +199,32 @@ module _ (n : Parts) (net : IsNet n) (scratch : ℕ) (kinds : Name → Option Ki
             ),
           )
 
+      delayed_keeps : (opens : List Opened) → ((x : Name) → is_guarded opens x ≡ false) → (i : ℕ) (q : Feed) → 1 ≤ port_count n → IsSource n (Port q)
+          → BlockKeeps c opens (delayed_text i (delay_expression (spec_of n q.block) (places_of n q.block)))
+      delayed_keeps opens free i q l is =
+          delayed_form (BlockKeeps c opens) i (delay_expression (spec_of n q.block) (places_of n q.block)) (λ d e. (
+            ((finds.dates l, (refl, free dates), tt), (finds.now l, tt)),
+            (
+              ((finds.orders l, (refl, free orders), tt), finds.programmed l),
+              (((finds.programmed l, (refl, free programmed_name)), (finds.programmed l, tt)), tt),
+            ),
+          )) (programs_keep opens free i q l is)
+
       delay_text_keeps : (i : ℕ) (s : Source) → 1 ≤ port_count n → IsSource n s → BlockKeeps c one_open (delay_text n part i s)
       delay_text_keeps i Start l is = tt
       delay_text_keeps i (Port q) l is =
-          part_keeps (part q.block) q.block is.0.block (program_text (i - 1) (delay_expression (spec_of n q.block) (places_of n q.block)) done)
-          (programs_keep one_open (λ x. refl) (i - 1) q l is) (programs_keep two_open (λ x. refl) (i - 1) q l is)
+          part_keeps (part q.block) q.block is.0.block (delayed_text (i - 1) (delay_expression (spec_of n q.block) (places_of n q.block)))
+          (delayed_keeps one_open (λ x. refl) (i - 1) q l is) (delayed_keeps two_open (λ x. refl) (i - 1) q l is)
 
-      state_keeps : (b : ℕ) → IsBlock n b → BlockKeeps c one_open (state_text n part b)
-      state_keeps b is =
+      state_keeps : (has_loop n ≡ true → 1 ≤ scratch) → (b : ℕ) → IsBlock n b → BlockKeeps c one_open (state_text n part b)
+      state_keeps loops b is =
           let t = next_text (spec_of n b) (places_of n b) in
+          let found = names (next_scratch (spec_of n b).kind (spec_of n b)) (next_enough n scratch b is loops) in
           where_keeps c one_open (has_state (spec_of n b).kind) (where_part (part b) b t) (λ q.
-          part_keeps (part b) b is t (next_keeps c (spec_of n b) (places_of n b) (net.typed_specs b is) (names 0 (omega arith)) one_open (refl, refl))
-          (next_keeps c (spec_of n b) (places_of n b) (net.typed_specs b is) (names 0 (omega arith)) two_open (refl, refl)))
+          part_keeps (part b) b is t (next_keeps c (spec_of n b) (places_of n b) (net.typed_specs b is) found one_open
+          (record { states = (refl, refl); scratch = λ j lo hi. (refl, refl) }))
+          (next_keeps c (spec_of n b) (places_of n b) (net.typed_specs b is) found two_open
+          (record { states = (refl, refl); scratch = λ j lo hi. (refl, refl) })))
 
       halt_keeps : (b : ℕ) → IsBlock n b → BlockKeeps c one_open (halt_text n part b)
       halt_keeps b is =
@@ -232,7 +247,7 @@ module _ (n : Parts) (net : IsNet n) (scratch : ℕ) (kinds : Name → Option Ki
         (upto_keeps c one_open (λ k. delay_text n part (suc k) (source_of n (suc k))) (port_count n) (λ k l.
         delay_text_keeps part (suc k) (source_of n (suc k)) (omega (arith, l)) (source_is (suc k) (omega (arith, l)))))
         (joined_keep c one_open (all_states n part) (all_halts n part)
-        (upto_keeps c one_open (λ k. state_text n part (suc k)) (length n.specs) (λ k l. state_keeps part (suc k) (inside k l)))
+        (upto_keeps c one_open (λ k. state_text n part (suc k)) (length n.specs) (λ k l. state_keeps part loops (suc k) (inside k l)))
         (upto_keeps c one_open (λ k. halt_text n part (suc k)) (length n.specs) (λ k l. halt_keeps part (suc k) (inside k l)))))
 
     -- ---- before a reaction
@@ -253,30 +268,34 @@ module _ (n : Parts) (net : IsNet n) (scratch : ℕ) (kinds : Name → Option Ki
     )
 
     pub choose_keeps : 1 ≤ port_count n → BlockKeeps c one_open (choose_text n)
-    choose_keeps l =
-        let d = finds.dates l in
-        let o = finds.orders l in
-        let k = finds.scan l in
-        let b = finds.chosen l in
-        let t = finds.next_date in (
-          ((b, (refl, refl)), tt),
-          (
-            (
-              k,
-              (refl, refl),
-              tt,
+    choose_keeps l = by_count (nat_lt 1 (port_count n))
+      where
+        by_count : (t : Bool) → BlockKeeps c one_open (if t then choose_of (port_count n) date_text else one (set (scalar next_date) (place dates 0)))
+        by_count true =
+            let d = finds.dates l in
+            let o = finds.orders l in
+            let k = finds.scan l in
+            let b = finds.chosen l in
+            let t = finds.next_date in (
+              ((b, (refl, refl)), tt),
               (
                 (
-                  (((d, k), tt), ((b, tt), (((d, k), (d, b)), (((d, k), (d, b)), ((o, k), (o, b)))))),
-                  (((b, (refl, refl)), k), tt),
+                  k,
+                  (refl, refl),
                   tt,
+                  (
+                    (
+                      (((d, k), tt), ((b, tt), (((d, k), (d, b)), (((d, k), (d, b)), ((o, k), (o, b)))))),
+                      (((b, (refl, refl)), k), tt),
+                      tt,
+                    ),
+                    tt,
+                  ),
                 ),
-                tt,
+                (((t, (refl, refl)), tt), (((b, tt), (((t, (refl, refl)), (d, b)), tt), tt), tt)),
               ),
-            ),
-            (((t, (refl, refl)), tt), (((b, tt), (((t, (refl, refl)), (d, b)), tt), tt), tt)),
-          ),
-        )
+            )
+        by_count false = (((finds.next_date, (refl, refl)), (finds.dates l, tt)), tt)
 
     -- ---- a source's row
 

@@ -3,7 +3,7 @@ use Rattle.std.proofs.Common.{◌≡◌, List, ◌++◌, ap, ◌∙◌}
 use Rattle.c_ast.specs.declared.Stmt.{Stmt}
 use Rattle.c_ast.specs.Syntax.{Block}
 use Rattle.c_ast.specs.View.{statements_of}
-use Rattle.c_steps.specs.Texts.{joined}
+use Rattle.c_mean.specs.Texts.{joined}
 use Rattle.sci_cgen_blocks.proofs.Written.{joined_assoc, statements_behind}
 
 -- a text was put behind another

@@ -21,12 +21,12 @@ use Rattle.sci_run.proofs.Ranges.{fires_within}
 use Rattle.sci_run.proofs.Ordered.{fires_next}
 use Rattle.c_ast.specs.Syntax.{call}
 use Rattle.c_mean.specs.Meaning.{World, Around, Ran, going, over, halted, behind, quietly, then_run, run_block, one_turn, turns, count_up, later}
-use Rattle.c_steps.specs.Texts.{assigns_only}
-use Rattle.c_steps.specs.Runs.{Ends}
-use Rattle.c_steps.proofs.Steps.{then_assoc, then_seen, then_ends, behind_twice}
-use Rattle.c_steps.proofs.Memory.{put_there, put_other}
-use Rattle.c_steps.proofs.Loops.{count_is}
-use Rattle.c_steps.proofs.Frames.{alone_of, puts_alone}
+use Rattle.c_mean.specs.Texts.{assigns_only}
+use Rattle.c_mean.specs.Runs.{Ends}
+use Rattle.c_mean.proofs.Steps.{then_assoc, then_seen, then_ends, behind_twice}
+use Rattle.c_mean.proofs.Memory.{put_there, put_other}
+use Rattle.c_mean.proofs.Loops.{count_is}
+use Rattle.c_mean.proofs.Frames.{alone_of, puts_alone}
 use Rattle.sci_due.proofs.Lists.{next_first}
 use Rattle.sci_due.specs.Due.{best as chosen_name}
 use Rattle.sci_cgen.specs.Names.{fired_name, next_date, event_name}

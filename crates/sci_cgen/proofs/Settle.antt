@@ -30,11 +30,11 @@ use Rattle.sci_run.specs.Run.{State, after_reaction, Reacts}
 use Rattle.c_ast.specs.declared.Name.{Name}
 use Rattle.c_ast.specs.Syntax.{Block}
 use Rattle.c_mean.specs.Meaning.{World, truth, Around, Ran, going, behind, run_block}
-use Rattle.c_steps.specs.Places.{get, is_scratch}
-use Rattle.c_steps.specs.Texts.{assigns_only, joined, upto}
-use Rattle.c_steps.specs.Runs.{Leads, LeftAlone}
-use Rattle.c_steps.proofs.Steps.{number_after, run_joined, then_seen, joined_leads, leads_as, done_leads}
-use Rattle.c_steps.proofs.Frames.{alone_all, alone_then}
+use Rattle.c_mean.specs.Places.{get, is_scratch}
+use Rattle.c_mean.specs.Texts.{assigns_only, joined, upto}
+use Rattle.c_mean.specs.Runs.{Leads, LeftAlone}
+use Rattle.c_mean.proofs.Steps.{number_after, run_joined, then_seen, joined_leads, leads_as, done_leads}
+use Rattle.c_mean.proofs.Frames.{alone_all, alone_then}
 use Rattle.sci_due.specs.Due.{now as now_name, dates, orders, last, is_programming}
 use Rattle.sci_due.specs.Laws.{ShowsPending, AreOfPorts}
 use Rattle.sci_cgen_blocks.specs.Texts.{states}
@@ -82,7 +82,7 @@ next_unmasked GatedDelay s x m u i = refl
 next_unmasked _ s x m u i = refl
 
 module _ (env : Around) (n : Parts) (net : IsNet n) (scratch : ℕ) (i : Columns) (until limit date : ℕ) (s : Source) (st : State) (row : List Entry)
-    (before w : World) (asked told : ℕ → Bool) (part : ℕ → Part) (row_is : IsRow n s row) (in_range : IsMemory n st.memory) (counts : AreCounts n st.memory)
+    (loops : has_loop n ≡ true → 1 ≤ scratch) (before w : World) (asked told : ℕ → Bool) (part : ℕ → Part) (row_is : IsRow n s row) (in_range : IsMemory n st.memory) (counts : AreCounts n st.memory)
     (shows : ShowsState n scratch i until limit (at_date date st) before)
     (halted : halts n st.active ≡ false) (soon : date ≤ 2 ^ 62) (small : suc (st.pending.programmed + port_count n) < 2 ^ 63)
     (ports : AreOfPorts (port_count n) st.pending.events) (passed : HasPassed n scratch i asked told st.memory s row before w)
@@ -228,7 +228,7 @@ module _ (env : Around) (n : Parts) (net : IsNet n) (scratch : ℕ) (i : Columns
       (joined (each_block (state_text n part) n) (each_block (halt_text n part) n)) w (ports_lead k) (λ k1 w1 one.
       let acts = active_stays is_programming w w1 one.alone n part active refl acting in
       joined_leads (λ r. Leads r (ShowsState n scratch i until limit after)) env k1 (each_block (state_text n part) n) (each_block (halt_text n part) n) w1
-      (states_lead env n net scratch st.memory.state memory.state y part active passed.in_range in_range.states counts nexts w1
+      (states_lead env n net scratch loops st.memory.state memory.state y part active passed.in_range in_range.states counts nexts w1
       (values_stay is_programming w w1 one.alone n y refl passed.shows.values) acts
       (room_stays is_programming w w1 one.alone n scratch refl passed.shows.room)
       (states_stay is_programming w w1 one.alone n st.memory.state refl states_there) k1) (λ k2 w2 two.
@@ -275,7 +275,7 @@ module _ (env : Around) (n : Parts) (net : IsNet n) (scratch : ℕ) (i : Columns
         in_range = passed.in_range;
         shows = passed_stays n scratch i asked told (cursors n st.memory active) passed.found before w shown.to shown.alone passed.shows;
       } in
-      let l = rest_leads env n net scratch i until limit date s st row before shown.to asked told part row_is in_range counts shows halted soon small ports there
+      let l = rest_leads env n net scratch i until limit date s st row loops before shown.to asked told part row_is in_range counts shows halted soon small ports there
       (active_stays is_scratch w shown.to shown.alone n part active refl acting) memory next (number_after first k) in record {
         after = after_reaction n date st y active memory;
         seen = seen;

@@ -1,5 +1,5 @@
 -- What the code of the text that follows a reaction's values goes by.
-use Rattle.std.proofs.Common.{arith, ◌≡◌, ℕ, zero, suc, ◌+◌, ◌-◌, ◌<◌, ◌≤◌, ◌^◌, List, length, drop, Bool, true, false, refl, sym, ap, ◌∙◌, subst}
+use Rattle.std.proofs.Common.{arith, ◌≡◌, ℕ, zero, suc, ◌+◌, ◌-◌, ◌<◌, ◌≤◌, ◌^◌, List, length, drop, Bool, true, false, refl, sym, ap, ◌∙◌, subst, ℤ, pos, negsuc}
 use Rattle.std.specs.Prelude.{nat_lt}
 use Rattle.std.proofs.lemmas.List.{drop_more}
 use Rattle.sci_forms.specs.declared.Kind.{Kind}
@@ -18,8 +18,11 @@ use Rattle.sci_net.specs.Net.{IsNet}
 use Rattle.sci_net.specs.Sources.{sources_of, source_of}
 use Rattle.sci_places.proofs.Outputs.{block_within}
 use Rattle.sci_reaction.specs.Links.{IsSource}
-use Rattle.c_ast.specs.Syntax.{tell, value, Statement, Block, done}
-use Rattle.c_steps.specs.Texts.{place, joined, upto}
+use Rattle.std.specs.Prelude.{int_le}
+use Rattle.std.proofs.lemmas.Int.{ints}
+use Rattle.c_ast.specs.Syntax.{num, tell, value, Statement, Block, done}
+use Rattle.sci_due.specs.Texts.{is_ticks}
+use Rattle.c_mean.specs.Texts.{place, joined, upto}
 use Rattle.sci_cgen_blocks.specs.Texts.{Places, values}
 use Rattle.sci_cgen_blocks.proofs.Written.{joined_assoc, joined_done, all_dropped}
 use Rattle.sci_cgen.specs.declared.parts.Part.{Part}
@@ -120,3 +123,12 @@ port_source n q (suc j) l m e = port_is n q j (omega (arith, m)) e
 -- start isn't programmed
 pub start_absent : (n : Parts) (part : ℕ → Part) (i : ℕ) (s : Source) (b : Block) → s ≡ Start → b ≡ joined b (delay_text n part i s)
 start_absent n part i s b is = sym (joined_done b) ∙ ap (λ (t : Source). joined b (delay_text n part i t)) (sym is)
+
+-- ---- delays
+
+pub ticks_are : (z : ℤ) → is_ticks (num z) ≡ int_le (pos 0) z
+ticks_are (pos n) = sym (not_below n)
+  where
+    not_below : (n : ℕ) → int_le (pos 0) (pos n) ≡ true
+    not_below n = grind (arith, ints)
+ticks_are (negsuc n) = refl

@@ -1,5 +1,5 @@
 -- How large a program's arrays and numbers are.
-use Rattle.std.proofs.Common.{◌≡◌, ℕ, zero, suc, ◌+◌, ◌-◌, ◌*◌, ◌<◌, ◌≤◌, List, [], ◌∷◌, length, map, max, slice_index_or, Bool, true, false, ◌&&◌, ◌||◌, nat_le, if◌then◌else◌, refl, sym, ap, ◌∙◌, subst, arith, ℤ, pos, negsuc, true≢false, Contains, inl, inr, ◌≤ℤ◌}
+use Rattle.std.proofs.Common.{◌≡◌, ℕ, zero, suc, ◌+◌, ◌-◌, ◌*◌, ◌^◌, ◌<◌, ◌≤◌, List, [], ◌∷◌, length, map, max, slice_index_or, Bool, true, false, ◌&&◌, ◌||◌, nat_le, if◌then◌else◌, refl, sym, ap, ◌∙◌, subst, arith, ℤ, pos, negsuc, true≢false, Contains, inl, inr, ◌≤ℤ◌}
 use Rattle.std.specs.List.{list_any}
 use Rattle.std.proofs.lemmas.Bool.{cases_eq}
 use Rattle.std.proofs.lemmas.Bool.Decides.{nat_tests}
@@ -35,11 +35,12 @@ use Rattle.sci_places.proofs.Outputs.{block_within}
 use Rattle.sci_reaction.specs.Links.{IsSource}
 use Rattle.sci_reaction.specs.Schedule.{Entry}
 use Rattle.sci_reaction.proofs.Sources.{sources_are}
-use Rattle.sci_cgen_blocks.specs.Recipes.{scratch_of}
+use Rattle.sci_cgen_blocks.specs.Terms.{is_looped}
+use Rattle.sci_cgen_blocks.specs.Recipes.{next_alike, next_scratch, scratch_of}
 use Rattle.sci_cgen_blocks.specs.Texts.{input_place}
 use Rattle.sci_cgen_blocks.specs.Meant.{AreInBounds}
 use Rattle.sci_cgen_blocks.proofs.Bounds.{scratch_few as few_scratch}
-use Rattle.sci_cgen.specs.Program.{port_count, places_of, states_before, is_scheduled, has_loop, scratch_count}
+use Rattle.sci_cgen.specs.Program.{port_count, places_of, states_before, is_scheduled, is_any_looped, counts_behind, has_loop, scratch_count}
 
 -- ---- tests of some of a list
 
@@ -131,6 +132,9 @@ module _ (n : Parts) (net : IsNet n) where
       (let e : k ≡ suc k - 1 = omega arith in e)
       (state_part n.specs k (omega (arith, is.most)))
 
+  pub state_small : (b : ℕ) → IsBlock n b → state_len_of (spec_of n b).kind (spec_of n b) < 2 ^ 32
+  state_small b is = omega (arith, state_within b is, few_all_states)
+
   -- ---- places
 
   starts_at : (b k : ℕ) → IsBlock n b → k < length (spec_of n b).ins → slice_index_or (places_of n b).ins k 0 ≡ (output_span n (wire_of n b (suc k))).start
@@ -155,6 +159,7 @@ module _ (n : Parts) (net : IsNet n) where
     ins = λ k e h. omega (arith, input_within b k e is h.0 h.1, net.small);
     outs = omega (arith, block_within n b is, net.small);
     count = omega (arith, block_within n b is, net.small);
+    steps = omega (arith, state_within b is, few_all_states);
     state = omega (arith, state_within b is, few_all_states);
     mask = omega (arith, is.most, net.wired.few);
     number = omega (arith, is.most, net.wired.few);
@@ -179,6 +184,14 @@ scratch_few n rows (suc k) = max_most _ _ 5 (scratch_few n rows k) (by_test (is_
     by_test : (t : Bool) → (if t then scratch_of (spec_of n (suc k)).kind (spec_of n (suc k)) else 0) ≤ 5
     by_test true = few_scratch (spec_of n (suc k)).kind (spec_of n (suc k))
     by_test false = omega arith
+
+-- what a next state takes is there, where a loop takes one
+pub next_enough : (n : Parts) (scratch b : ℕ) → IsBlock n b → (has_loop n ≡ true → 1 ≤ scratch) → next_scratch (spec_of n b).kind (spec_of n b) ≤ scratch
+next_enough n scratch b is loops = by_test (is_looped (next_alike (spec_of n b).kind (spec_of n b))) refl
+  where
+    by_test : (t : Bool) → is_looped (next_alike (spec_of n b).kind (spec_of n b)) ≡ t → (if t then 1 else 0) ≤ scratch
+    by_test true e = loops (some_block n counts_behind b is (other_any (is_any_looped (spec_of n b).outs) _ e))
+    by_test false e = omega arith
 
 -- what a loop over values takes is there
 pub loop_enough : (n : Parts) (rows : List (List Entry)) (k : ℕ) → has_loop n ≡ true → 1 ≤ scratch_count n rows k

@@ -11,12 +11,12 @@ use Rattle.sci_run.specs.Observed.{stop_seen}
 use Rattle.sci_run.specs.Run.{State, first_state, Reacts}
 use Rattle.c_ast.specs.Syntax.{scalar, set, call, Block, done, next as followed}
 use Rattle.c_mean.specs.Meaning.{World, Around, Ran, going, halted, behind, then_run, run_block, later}
-use Rattle.c_steps.specs.Places.{get, Has}
-use Rattle.c_steps.specs.Texts.{number, assigns_only}
-use Rattle.c_steps.specs.Runs.{Leads}
-use Rattle.c_steps.proofs.Memory.{put_there}
-use Rattle.c_steps.proofs.Steps.{then_seen, done_leads, let_runs}
-use Rattle.c_steps.proofs.Frames.{alone_of, puts_alone}
+use Rattle.c_mean.specs.Places.{get, Has}
+use Rattle.c_mean.specs.Texts.{number, assigns_only}
+use Rattle.c_mean.specs.Runs.{Leads}
+use Rattle.c_mean.proofs.Memory.{put_there}
+use Rattle.c_mean.proofs.Steps.{then_seen, done_leads, let_runs}
+use Rattle.c_mean.proofs.Frames.{alone_of, puts_alone}
 use Rattle.sci_cgen.specs.Names.{fired_name, next_date, source_name, choose_name}
 use Rattle.sci_cgen.specs.Program.{one, port_count, first_text}
 use Rattle.sci_cgen.specs.Shows.{ShowsState}

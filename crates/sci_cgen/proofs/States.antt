@@ -17,22 +17,23 @@ use Rattle.sci_run.specs.Activity.{Activity}
 use Rattle.c_ast.specs.declared.Name.{Name}
 use Rattle.c_ast.specs.Syntax.{num, Block, done}
 use Rattle.c_mean.specs.Meaning.{World, same_name, truth, Around, run_block}
-use Rattle.c_steps.specs.Places.{get, Keeps, is_scratch}
-use Rattle.c_steps.specs.Texts.{assigns_only, upto}
-use Rattle.c_steps.specs.Runs.{Leads, LeftAlone}
-use Rattle.c_steps.proofs.Steps.{done_leads, joined_leads, then_leads, leads_as, if_runs, skip_runs}
-use Rattle.c_steps.proofs.Frames.{alone_all, alone_then}
-use Rattle.c_steps.proofs.Values.{element_is}
+use Rattle.c_mean.specs.Places.{get, Keeps, is_scratch}
+use Rattle.c_mean.specs.Texts.{assigns_only, upto}
+use Rattle.c_mean.specs.Runs.{Leads, LeftAlone}
+use Rattle.c_mean.proofs.Steps.{done_leads, joined_leads, then_leads, leads_as, if_runs, skip_runs}
+use Rattle.c_mean.proofs.Frames.{alone_all, alone_then}
+use Rattle.c_mean.proofs.Values.{element_is}
 use Rattle.sci_cgen_blocks.specs.Texts.{states, next_text}
 use Rattle.sci_cgen_blocks.specs.Laws.{IsCount}
-use Rattle.sci_cgen_blocks.proofs.NextStates.{next_law, next_reads_law}
+use Rattle.sci_cgen_blocks.proofs.NextStates.{next_law, next_reads_law, next_along_law, next_along_reads_law}
 use Rattle.sci_cgen_blocks.proofs.NextTexts.{next_is}
 use Rattle.sci_cgen.specs.declared.parts.Part.{Part}
 use Rattle.sci_cgen.specs.declared.parts.Part.TheVariants.{Absent, Sure, Marked}
 use Rattle.sci_cgen.specs.Names.{actives}
-use Rattle.sci_cgen.specs.Program.{each_block, text_where, is_active, where_part, places_of, states_before, state_text}
+use Rattle.sci_cgen.specs.Program.{each_block, text_where, is_active, where_part, places_of, states_before, state_text, has_loop}
 use Rattle.sci_cgen.specs.Shows.{ShowsValues, ShowsStates, Acts, ShowsActive, HasRoom}
 use Rattle.sci_cgen.proofs.Given.{holds_unread, state_unread}
+use Rattle.sci_cgen.proofs.Sizes.{in_bounds, next_enough}
 use Rattle.sci_cgen.proofs.Staying.{neither, values_stay, active_stays, room_stays}
 
 -- ---- texts one behind another
@@ -117,8 +118,8 @@ pub record AreNext (n : Parts) (y : Signals) (active : Activity) (x next : Signa
       → at (next b) i ≡ next_of (spec_of n b).kind (spec_of n b) (x b) 0 (all_inputs (spec_of n b) (input_in n y b)) i
   pub kept : (b : ℕ) → IsBlock n b → active b ≡ false → next b ≡ x b
 
-module _ (env : Around) (n : Parts) (net : IsNet n) (scratch : ℕ) (x next y : Signals) (part : ℕ → Part) (active : Activity) (in_range : AreInRange n y)
-    (states_are : (b : ℕ) → IsBlock n b → IsState (spec_of n b) (x b)) (counts : (b : ℕ) → IsBlock n b → IsCount (spec_of n b) (x b)) (nexts : AreNext n y active x next) where
+module _ (env : Around) (n : Parts) (net : IsNet n) (scratch : ℕ) (loops : has_loop n ≡ true → 1 ≤ scratch) (x next y : Signals) (part : ℕ → Part) (active : Activity)
+    (in_range : AreInRange n y) (states_are : (b : ℕ) → IsBlock n b → IsState (spec_of n b) (x b)) (counts : (b : ℕ) → IsBlock n b → IsCount (spec_of n b) (x b)) (nexts : AreNext n y active x next) where
   one_state : (b k : ℕ) (w : World) → IsBlock n b → ShowsValues n y w → ShowsActive n part active w → HasRoom n scratch w
       → ((i : ℕ) → i < state_size n b → get w states (state_start n b + i) ≡ Some (at (x b) i))
       → Leads (run_block env k (state_text n part b) w) (HasState n b (next b) w)
@@ -138,7 +139,9 @@ module _ (env : Around) (n : Parts) (net : IsNet n) (scratch : ℕ) (x next y : 
           })
           (next_is env (spec_of n b) (places_of n b) (x b) 0 (all_inputs (spec_of n b) (input_in n y b)) w
           (holds_unread n net y (λ c h. (in_range c h).enough) w values b scratch (x b) block (state_unread (spec_of n b).kind has) held room)
-          next_law next_reads_law (net.typed_specs b block) (states_are b block) (counts b block) (inputs_in_range n net y b block in_range) k)
+          next_law next_reads_law (net.typed_specs b block) (states_are b block) (counts b block) (inputs_in_range n net y b block in_range)
+          next_along_law next_along_reads_law (in_bounds n net b block)
+          (λ j lo hi. room.scratch_names j lo (let few = next_enough n scratch b block loops in omega (arith, hi, few))) k)
 
       by_kind : (t : Bool) → has_state (spec_of n b).kind ≡ t
           → Leads (run_block env k (text_where t (where_part (part b) b (next_text (spec_of n b) (places_of n b)))) w) (HasState n b (next b) w)

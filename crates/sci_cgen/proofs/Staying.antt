@@ -3,8 +3,8 @@ use Rattle.std.proofs.Common.{◌≡◌, ℕ, Bool, true, false, refl, ◌∙◌
 use Rattle.std.specs.Prelude.{◌||◌}
 use Rattle.c_ast.specs.declared.Name.{Name}
 use Rattle.c_mean.specs.Meaning.{World}
-use Rattle.c_steps.specs.Texts.{assigns_only}
-use Rattle.c_steps.specs.Runs.{LeftAlone}
+use Rattle.c_mean.specs.Texts.{assigns_only}
+use Rattle.c_mean.specs.Runs.{LeftAlone}
 use Rattle.sci_net.specs.Parts.{Parts}
 use Rattle.sci_reaction.specs.Equations.{Signals}
 use Rattle.sci_run.specs.Activity.{Activity}

@@ -2,13 +2,13 @@
 use Rattle.std.proofs.Common.{◌≡◌, ℕ, zero, suc, ◌+◌, ◌-◌, ◌<◌, ◌≤◌, ◌^◌, ◌≤ℤ◌, ℤ, pos, negsuc, List, [], ◌∷◌, ◌++◌, length, take, Bool, true, Some, if◌then◌else◌, refl, sym, ap, ◌∙◌, subst, arith}
 use Rattle.std.proofs.lemmas.Int.{ints}
 use Rattle.std.proofs.lemmas.List.{take_more, take_all, length-take-le}
-use Rattle.c_ast.specs.Syntax.{done}
+use Rattle.c_ast.specs.Syntax.{Exp, num, Block, done}
 use Rattle.c_mean.specs.Meaning.{World, Around, run_block}
-use Rattle.c_steps.specs.Places.{get, value_of, Has}
-use Rattle.c_steps.specs.Texts.{assigns_only, upto}
-use Rattle.c_steps.specs.Runs.{Leads, LeftAlone}
-use Rattle.c_steps.proofs.Steps.{done_leads, joined_leads, leads_as}
-use Rattle.c_steps.proofs.Frames.{alone_all, alone_then}
+use Rattle.c_mean.specs.Places.{get, value_of, Has}
+use Rattle.c_mean.specs.Texts.{assigns_only, upto}
+use Rattle.c_mean.specs.Runs.{Leads, LeftAlone}
+use Rattle.c_mean.proofs.Steps.{done_leads, joined_leads, leads_as}
+use Rattle.c_mean.proofs.Frames.{alone_all, alone_then}
 use Rattle.sci_pending.specs.Pending.{Pending}
 use Rattle.sci_net.specs.declared.Feed.{Feed}
 use Rattle.sci_net.specs.declared.Source.{Source}
@@ -17,9 +17,9 @@ use Rattle.sci_net.specs.Parts.{Parts, spec_of}
 use Rattle.sci_net.specs.Sources.{sources_of, sources_from, source_of}
 use Rattle.sci_run.specs.Programs.{with_delay, with_delays}
 use Rattle.sci_due.specs.Due.{now as now_name, delay as delay_name, is_programming}
-use Rattle.sci_due.specs.Texts.{program_text}
+use Rattle.sci_due.specs.Texts.{entry_text as due_entry, program_text, delayed_text}
 use Rattle.sci_due.specs.Laws.{ShowsPending, AreOfPorts, HasProgrammed}
-use Rattle.sci_due.proofs.Pending.{program_next, program_none, programmed_ports}
+use Rattle.sci_due.proofs.Pending.{program_next, due_next, delayed_form, program_none, programmed_ports}
 use Rattle.sci_cgen_blocks.specs.Texts.{delay_expression}
 use Rattle.sci_cgen.specs.declared.parts.Part.{Part}
 use Rattle.sci_cgen.specs.Program.{port_count, each_port, places_of, delay_text}
@@ -61,9 +61,9 @@ module _ (env : Around) (n : Parts) (part : ℕ → Part) (date most : ℕ) (soo
       → (a ≡ true → value_of (delay_expression (spec_of n q.block) (places_of n q.block)) w ≡ Some z) → z ≤ℤ pos 2147483647
       → Leads (run_block env k (delay_text n part i (Port q)) w) (HasDelayed n (suc most) (with_delay date i (if a then z else negsuc 0) p) w)
   port_leads i q p a z k w lo hi few ports s now_is there acts val bound =
-      where_active env (part q.block) q.block (program_text (i - 1) (delay_expression (spec_of n q.block) (places_of n q.block)) done) a k w acts
-      (λ on l. subst (λ (t : Bool). Leads (run_block env l (program_text (i - 1) (delay_expression (spec_of n q.block) (places_of n q.block)) done) w)
-      (HasDelayed n (suc most) (with_delay date i (if t then z else negsuc 0) p) w)) (sym on) (by_delay z l (val on) bound))
+      where_active env (part q.block) q.block (delayed_text (i - 1) (delay_expression (spec_of n q.block) (places_of n q.block))) a k w acts
+      (λ on l. subst (λ (t : Bool). Leads (run_block env l (delayed_text (i - 1) (delay_expression (spec_of n q.block) (places_of n q.block))) w)
+      (HasDelayed n (suc most) (with_delay date i (if t then z else negsuc 0) p) w)) (sym on) (by_form z l (val on) bound))
       (λ off. subst (λ (t : Bool). HasDelayed n (suc most) (with_delay date i (if t then z else negsuc 0) p) w w) (sym off) nothing)
     where
       nothing : HasDelayed n (suc most) p w w
@@ -86,6 +86,30 @@ module _ (env : Around) (n : Parts) (part : ℕ → Part) (date most : ℕ) (soo
           (omega (arith, few, small)) (record { above = omega (arith, ints); below = omega (arith, ints, soon, b) }) ports s now_is is there
           (λ j w' h.
           done_leads env j w' (record { done = h; ports = programmed_ports (port_count n) p (date + d) (i - 1) within ports; few = omega (arith, few) })))
+
+      -- where the delay is a number
+      by_number : (d l : ℕ) → pos d ≤ℤ pos 2147483647
+          → Leads (run_block env l (due_entry (i - 1) (num (pos d))) w) (HasDelayed n (suc most) (with_delay date i (pos d) p) w)
+      by_number d l b =
+          let own : suc (i - 1) ≡ i = omega (arith, lo) in
+          let within : (i - 1) < port_count n = omega (arith, lo, hi) in
+          subst (λ (j : ℕ). Leads (run_block env l (due_entry (i - 1) (num (pos d))) w) (HasDelayed n (suc most) (with_delay date j (pos d) p) w)) own
+          (due_next (λ r. Leads r (HasDelayed n (suc most) (with_delay date (suc (i - 1)) (pos d) p) w)) env (port_count n) (i - 1) date d p l w within
+          (omega (arith, few, small)) (record { above = omega (arith, ints); below = omega (arith, ints, soon, b) }) ports s now_is (λ j w' h.
+          done_leads env j w' (record { done = h; ports = programmed_ports (port_count n) p (date + d) (i - 1) within ports; few = omega (arith, few) })))
+
+      some_same : (x y : ℤ) → Some x ≡ Some y → x ≡ y
+      some_same x y h = cc
+
+      by_form : (z : ℤ) (l : ℕ) → value_of (delay_expression (spec_of n q.block) (places_of n q.block)) w ≡ Some z → z ≤ℤ pos 2147483647
+          → Leads (run_block env l (delayed_text (i - 1) (delay_expression (spec_of n q.block) (places_of n q.block))) w)
+          (HasDelayed n (suc most) (with_delay date i z p) w)
+      by_form z l is b =
+          delayed_form (λ (t : Block). Leads (run_block env l t w) (HasDelayed n (suc most) (with_delay date i z p) w)) (i - 1)
+          (delay_expression (spec_of n q.block) (places_of n q.block)) (λ d e.
+          let same : pos d ≡ z = some_same (pos d) z (ap (λ (x : Exp). value_of x w) (sym e) ∙ is) in
+          subst (λ (y : ℤ). Leads (run_block env l (due_entry (i - 1) (num (pos d))) w) (HasDelayed n (suc most) (with_delay date i y p) w)) same
+          (by_number d l (subst (λ (y : ℤ). y ≤ℤ pos 2147483647) (sym same) b))) (by_delay z l is b)
 
 -- ---- all ports
 

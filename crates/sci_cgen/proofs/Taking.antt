@@ -18,12 +18,12 @@ use Rattle.sci_reaction.proofs.Spreading.{Spread-block, from_always}
 use Rattle.c_ast.specs.declared.Name.{Name}
 use Rattle.c_ast.specs.Syntax.{cell, set, done}
 use Rattle.c_mean.specs.Meaning.{World, Around, run_block, same_name}
-use Rattle.c_steps.specs.Places.{get, Has, is_scratch, same_place}
-use Rattle.c_steps.specs.Texts.{assigns_only}
-use Rattle.c_steps.specs.Runs.{Leads, LeftAlone}
-use Rattle.c_steps.proofs.Memory.{put_there}
-use Rattle.c_steps.proofs.Steps.{cell_runs, done_leads, joined_leads, leads_as}
-use Rattle.c_steps.proofs.Frames.{alone_all, alone_then, puts_alone}
+use Rattle.c_mean.specs.Places.{get, Has, is_scratch, same_place}
+use Rattle.c_mean.specs.Texts.{assigns_only}
+use Rattle.c_mean.specs.Runs.{Leads, LeftAlone}
+use Rattle.c_mean.proofs.Memory.{put_there}
+use Rattle.c_mean.proofs.Steps.{cell_runs, done_leads, joined_leads, leads_as}
+use Rattle.c_mean.proofs.Frames.{alone_all, alone_then, puts_alone}
 use Rattle.sci_cgen_blocks.specs.Texts.{values, masks}
 use Rattle.sci_cgen.specs.declared.parts.Part.{Part}
 use Rattle.sci_cgen.specs.declared.parts.Part.TheVariants.{Absent, Sure, Marked}

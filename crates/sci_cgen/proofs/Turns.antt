@@ -19,12 +19,12 @@ use Rattle.c_ast.specs.declared.Name.{Name}
 use Rattle.c_ast.specs.declared.Op.TheVariants.{Lt, Gt}
 use Rattle.c_ast.specs.Syntax.{Exp, var, bin, tell, finish, call, Block, done, next as followed}
 use Rattle.c_mean.specs.Meaning.{World, Around, Ran, then_run, run_block, later, truth, end_word, same_name}
-use Rattle.c_steps.specs.Places.{get, value_of, Has}
-use Rattle.c_steps.specs.Texts.{assigns_only}
-use Rattle.c_steps.specs.Runs.{Leads, Ends, LeftAlone}
-use Rattle.c_steps.proofs.Steps.{then_same, then_ends, joined_runs, joined_leads, leads_as, done_leads, if_runs, else_runs, finish_ends}
-use Rattle.c_steps.proofs.Frames.{alone_all}
-use Rattle.c_steps.proofs.Values.{lt_is, gt_is}
+use Rattle.c_mean.specs.Places.{get, value_of, Has}
+use Rattle.c_mean.specs.Texts.{assigns_only}
+use Rattle.c_mean.specs.Runs.{Leads, Ends, LeftAlone}
+use Rattle.c_mean.proofs.Steps.{then_same, then_ends, joined_runs, joined_leads, leads_as, done_leads, if_runs, else_runs, finish_ends}
+use Rattle.c_mean.proofs.Frames.{alone_all}
+use Rattle.c_mean.proofs.Values.{lt_is, gt_is}
 use Rattle.sci_due.specs.Due.{best as chosen_name, scan as scan_name, is_taking}
 use Rattle.sci_due.specs.Laws.{ShowsPending, AreOfPorts, HasTaken, next_port}
 use Rattle.sci_due.proofs.Lists.{has_first, next_first, was_there}
@@ -56,7 +56,7 @@ pub record HasCalls (env : Around) (n : Parts) (scratch : ℕ) (i : Columns) (ow
 -- memory between two events, where so many were counted
 pub record Stands (n : Parts) (scratch : ℕ) (i : Columns) (until limit count : ℕ) (st : State) (w : World) : Type 0 where
   pub shows : ShowsState n scratch i until limit st w
-  pub chosen : 1 ≤ port_count n → get w chosen_name 0 ≡ Some (next_port (next st.pending.events))
+  pub chosen : 2 ≤ port_count n → get w chosen_name 0 ≡ Some (next_port (next st.pending.events))
   pub coming : get w next_date 0 ≡ Some (date_of (next st.pending.events))
   pub fired : get w fired_name 0 ≡ Some (pos count)
 
@@ -262,7 +262,8 @@ module _ (env : Around) (n : Parts) (scratch : ℕ) (i : Columns) (own : Bool) (
     pub fired : get w fired_name 0 ≡ Some (pos count)
     pub coming : Has w next_date 0
 
-  reacts_alone : (k : ℕ) (e : Event) (w : World) → 1 ≤ e.source → e.source ≤ port_count n → get w chosen_name 0 ≡ Some (pos (e.source - 1))
+  reacts_alone : (k : ℕ) (e : Event) (w : World) → 1 ≤ e.source → e.source ≤ port_count n
+      → (2 ≤ port_count n → get w chosen_name 0 ≡ Some (pos (e.source - 1)))
       → (Q : Ran → Type 0) → Q (then_run (react e.source w) choose)
       → Q (run_block env k (followed (react_step react_deep 0 (port_count n)) (one (call choose_name))) w)
   reacts_alone k e w lo hi is Q h =
@@ -270,8 +271,8 @@ module _ (env : Around) (n : Parts) (scratch : ℕ) (i : Columns) (own : Bool) (
       let within : e.source < length (sources_of n) = omega (arith, lo, hi) in
       joined_runs Q env k (one (react_step react_deep 0 (port_count n))) (one (call choose_name)) w (λ m.
       subst Q (sym (ap (λ (r : Ran). then_run r (run_block env m (one (call choose_name))))
-      (dispatch_is env (e.source - 1) w is (react e.source)
-      (subst (λ (j : ℕ). env.calls (source_name j) ≡ Some (react e.source)) (sym own) (calls.react_called e.source within)) n k (omega (arith, lo, hi))
+      (dispatch_is env (e.source - 1) (port_count n) w is (react e.source)
+      (subst (λ (j : ℕ). env.calls (source_name j) ≡ Some (react e.source)) (sym own) (calls.react_called e.source within)) k (omega (arith, lo, hi))
       calls.few_ports)
       ∙ then_same (react e.source w) (run_block env m (one (call choose_name))) choose
       (λ u. call_alone env m choose_name u choose (calls.choose_called (omega (arith, lo, hi)))))) h)
@@ -299,12 +300,12 @@ module _ (env : Around) (n : Parts) (scratch : ℕ) (i : Columns) (own : Bool) (
       source : (1 ≤ e.source) × (e.source ≤ port_count n)
       source = are_of_ports n st.now st.pending o.pending e (next_first st.pending.events e is)
 
-      chosen_first : get w chosen_name 0 ≡ Some (next_port (Some e))
-      chosen_first = s.chosen ports ∙ ap (λ (o : Option Event). Some (next_port o)) is
+      chosen_first : 2 ≤ port_count n → get w chosen_name 0 ≡ Some (next_port (Some e))
+      chosen_first l = s.chosen l ∙ ap (λ (o : Option Event). Some (next_port o)) is
 
       chosen_is : (w2 w3 : World) → HasTaken (port_count n) st.pending e w w2 → LeftAlone (assigns_only is_clearing) w2 w3
-          → get w3 chosen_name 0 ≡ Some (pos (e.source - 1))
-      chosen_is w2 w3 t h = h.same chosen_name 0 refl ∙ (t.rest.same chosen_name 0 refl ∙ chosen_first)
+          → 2 ≤ port_count n → get w3 chosen_name 0 ≡ Some (pos (e.source - 1))
+      chosen_is w2 w3 t h l = h.same chosen_name 0 refl ∙ (t.rest.same chosen_name 0 refl ∙ chosen_first l)
 
       s2 : (w2 : World) → HasTaken (port_count n) st.pending e w w2 → ShowsState n scratch i until limit (record (taken st e) { now = e.date }) w2
       s2 w2 t = record {

@@ -16,14 +16,14 @@ use Rattle.sci_reaction.specs.Schedule.{Entry, IsSchedule}
 use Rattle.sci_run.specs.Laws.{AreLoopFree}
 use Rattle.c_ast.specs.declared.Name.{Name}
 use Rattle.c_ast.specs.declared.Bound.TheVariants as bounds
-use Rattle.c_ast.specs.declared.events.Kind.{Kind}
+use Rattle.c_ast.specs.declared.events.NameKind.{NameKind}
 use Rattle.c_ast.specs.declared.events.Opened.{Opened}
 use Rattle.c_ast.specs.declared.events.Opened.TheVariants.{Branch, Turn}
 use Rattle.c_ast.specs.Syntax.{bin, var, scalar, cell, set, call, tell, finish, Statement, next, Declared, Function}
 use Rattle.c_ast.specs.declared.Op.TheVariants.{Lt, Gt}
 use Rattle.c_ast.specs.Rules.{Routine, same_name, kind_in, kind_of, is_scalar, is_array, is_guarded, is_hit, KeepsRules}
-use Rattle.c_steps.specs.Texts.{number, joined}
-use Rattle.c_steps.proofs.Memory.{name_eq, name_same}
+use Rattle.c_mean.specs.Texts.{number, joined}
+use Rattle.c_mean.proofs.Memory.{name_eq, name_same}
 use Rattle.sci_cgen_blocks.specs.Texts.{values, states, masks, scratch_name}
 use Rattle.sci_cgen_blocks.specs.Keeping.{Scene, ReadsWell, BlockKeeps, CallsWell}
 use Rattle.sci_cgen_blocks.proofs.TextRules.{joined_keep, upto_keeps}
@@ -31,7 +31,7 @@ use Rattle.sci_cgen_blocks.proofs.WholeRules.{declaring, AreNew, IsKnown, AreKno
 use Rattle.sci_due.specs.Due.{dates, orders, best as chosen_name, scan as scan_name, now as now_name, last as programmed_name, delay as delay_name}
 use Rattle.sci_cgen.specs.declared.parts.Part.TheVariants.{Marked}
 use Rattle.sci_cgen.specs.Names.{actives, branches, limit_name, until_name, fired_name, next_date, halt_name, block_name, source_name, clear_name, settle_name, choose_name, event_name}
-use Rattle.sci_cgen.specs.Program.{natural, one, text_where, has_own, port_count, places_of, has_sync, has_halt, states_before, array, a_scalar, declared_where, scratch_declared, scratch_count, declarations, functions_upto, functions_where, other_functions, source_function, end_or, react_step, react_deep, fire_text, event_text, turn_text, first_text, begin_text, event_function, begun_text, list_begun, held_begun, state_begun, firing_at, programmed_before, firing_begun, source_begun, outset_text, main_text, program}
+use Rattle.sci_cgen.specs.Program.{natural, one, text_where, chosen_place, has_own, port_count, places_of, has_sync, has_halt, states_before, array, a_scalar, declared_where, scratch_declared, scratch_count, declarations, functions_upto, functions_where, other_functions, source_function, end_or, react_step, react_deep, fire_text, event_text, turn_text, first_text, begin_text, event_function, begun_text, list_begun, held_begun, state_begun, firing_at, programmed_before, firing_begun, source_begun, outset_text, main_text, program}
 use Rattle.sci_cgen.specs.Laws.{ProgramIsWhole}
 use Rattle.sci_cgen.proofs.Parted.{value_arrays, active_array, branch_array, due_arrays, limit_scalars, event_scalars, halt_scalar, all_held, first_states, all_begun, until_asked, where_ports, starting, ending, running, own, blocks, sources, clear_function, choose_function, shared, chooses}
 use Rattle.sci_cgen.proofs.Halves.{in_first, react_last, react_more}
@@ -61,7 +61,7 @@ among_where : (test : Bool) (d : Declared) (ds : List Declared) → test ≡ tru
 among_where true d ds e h = h
 among_where false d ds e h = absurd (true≢false (sym e))
 
-kind_stays : (ds : List Declared) (ks : List (Name × Kind)) (x : Name) (k : Kind) → AreNew ds ks → kind_in ks x ≡ Some k
+kind_stays : (ds : List Declared) (ks : List (Name × NameKind)) (x : Name) (k : NameKind) → AreNew ds ks → kind_in ks x ≡ Some k
     → kind_in (declaring ds ks) x ≡ Some k
 kind_stays [] ks x k new h = h
 kind_stays (d ∷ ds) ks x k new h = kind_stays ds ((d.name, kind_of d.size) ∷ ks) x k new.1 (by_name (same_name d.name x) refl)
@@ -73,7 +73,7 @@ kind_stays (d ∷ ds) ks x k new h = kind_stays ds ((d.name, kind_of d.size) ∷
     by_name true e = absurd (none_some (sym (subst (λ (y : Name). kind_in ks y ≡ None) (name_eq d.name x e) new.0) ∙ h))
     by_name false e = h
 
-kind_is : (ds : List Declared) (ks : List (Name × Kind)) (d : Declared) → AreNew ds ks → Among d ds → kind_in (declaring ds ks) d.name ≡ Some (kind_of d.size)
+kind_is : (ds : List Declared) (ks : List (Name × NameKind)) (d : Declared) → AreNew ds ks → Among d ds → kind_in (declaring ds ks) d.name ≡ Some (kind_of d.size)
 kind_is [] ks d new h = absurd h
 kind_is (x ∷ ds) ks d new (inl e) =
     kind_stays ds ((x.name, kind_of x.size) ∷ ks) d.name (kind_of d.size) new.1
@@ -216,7 +216,7 @@ keep_upto c f (suc m) h =
 
 -- ---- sci_main
 
-module _ (n : Parts) (net : IsNet n) (scratch : ℕ) (kinds : Name → Option Kind) (routines : Name → Option Routine) where
+module _ (n : Parts) (net : IsNet n) (scratch : ℕ) (kinds : Name → Option NameKind) (routines : Name → Option Routine) where
   abbrev c : Scene
   c = record { kinds = kinds; routines = routines; may = λ x. true; depth = 64 }
 
@@ -304,7 +304,7 @@ module _ (n : Parts) (net : IsNet n) (scratch : ℕ) (kinds : Name → Option Ki
 
 -- ---- one event
 
-module _ (n : Parts) (own : Bool) (scratch : ℕ) (kinds : Name → Option Kind) (routines : Name → Option Routine)
+module _ (n : Parts) (own : Bool) (scratch : ℕ) (kinds : Name → Option NameKind) (routines : Name → Option Routine)
     (finds : Finds n scratch (in_functions kinds routines 3))
     (clear : 1 ≤ port_count n → own ≡ false → IsKnown may_assign 1 routines clear_name)
     (choose : 1 ≤ port_count n → IsKnown may_assign 1 routines choose_name)
@@ -352,12 +352,20 @@ module _ (n : Parts) (own : Bool) (scratch : ℕ) (kinds : Name → Option Kind)
           )
       by_count go false q = go i c opens apart l m
 
+  -- the place of the chosen source is read
+  place_reads : 1 ≤ port_count n → (k : ℕ) → ReadsWell here (chosen_place k)
+  place_reads l k = by_count (nat_lt 1 k)
+    where
+      by_count : (t : Bool) → ReadsWell here (if t then var chosen_name else natural 0)
+      by_count true = finds.chosen l
+      by_count false = tt
+
   fire_keeps : (opens : List Opened) → ((x : Name) → is_guarded opens x ≡ false) → list_any (is_hit may_assign) opens ≡ false
       → 1 ≤ port_count n → BlockKeeps here opens (fire_text own n)
   fire_keeps opens free apart l = (
-    ((finds.now l, (refl, free now_name)), (finds.dates l, finds.chosen l)),
+    ((finds.now l, (refl, free now_name)), (finds.dates l, place_reads l (port_count n))),
     (
-      ((finds.dates l, (refl, free dates), finds.chosen l), tt),
+      ((finds.dates l, (refl, free dates), place_reads l (port_count n)), tt),
       joined_keep here opens (text_where (not own) (one (call clear_name))) (next (react_step react_deep 0 (port_count n)) (one (call choose_name)))
           (cleared own refl) (
             (react_keeps react_deep 0 (port_count n) opens apart (omega (arith, l)) (omega arith)).0,
@@ -396,7 +404,7 @@ module _ (n : Parts) (own : Bool) (scratch : ℕ) (kinds : Name → Option Kind)
 -- ---- the program
 
 module _ (n : Parts) (rows : List (List Entry)) (net : IsNet n) (free : AreLoopFree n) (schedule : IsSchedule n rows) where
-  abbrev variables : Name → Option Kind
+  abbrev variables : Name → Option NameKind
   variables = kind_in (declaring (declarations n rows) [])
 
   abbrev count : ℕ

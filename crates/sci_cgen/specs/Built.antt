@@ -2,7 +2,7 @@
 use Rattle.std.specs.Prelude.{◌≡◌, ℕ, ◌^◌, ◌<◌, Bool, false, if◌then◌else◌, List, [], map, length, All}
 use Rattle.sci_net.specs.Parts.{Parts, IsBlock, spec_of, numbered}
 use Rattle.sci_reaction.specs.Schedule.{Guard, Entry}
-use Rattle.sci_cgen_blocks.specs.declared.block_layout.Layout.{Layout}
+use Rattle.sci_cgen_blocks.specs.declared.block_layout.BlockLayout.{BlockLayout}
 use Rattle.sci_cgen_blocks.specs.Plain.{plain_places}
 use Rattle.sci_cgen_blocks.specs.Texts.{Places, fixed, body_text}
 use Rattle.c_ast.specs.Syntax.{Function}
@@ -16,11 +16,11 @@ abbrev pub no_places : Places
 no_places = record { number = 0; ins = []; outs = 0; state = 0; mask = 0; which = fixed 0 }
 
 -- the layout of a block, by its number
-abbrev pub laid_at : List Layout → ℕ → Places
+abbrev pub laid_at : List BlockLayout → ℕ → Places
 laid_at layouts b = numbered no_places (map plain_places layouts) b
 
 -- these are where the values of each block of the net lie
-pub record AreLaid (n : Parts) (layouts : List Layout) : Type 0 where
+pub record AreLaid (n : Parts) (layouts : List BlockLayout) : Type 0 where
   pub one_each : length layouts ≡ length n.specs
   pub places : (b : ℕ) → IsBlock n b → laid_at layouts b ≡ places_of n b
 

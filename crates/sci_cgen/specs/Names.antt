@@ -1,7 +1,7 @@
 -- The names of a generated program, beside those of its blocks (sci_cgen_blocks) and of its table of due dates (sci_due).
 use Rattle.std.specs.Prelude.{ℕ}
 use Rattle.c_ast.specs.declared.Name.{Name}
-use Rattle.c_steps.specs.Places.{named}
+use Rattle.c_mean.specs.Places.{named}
 
 -- arrays beside those of values, states and masks (v1 to v3): by block whether it is active, and the branch that it has taken, 0 for none
 abbrev pub actives : Name

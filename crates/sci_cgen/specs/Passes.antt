@@ -17,8 +17,8 @@ use Rattle.sci_reaction.specs.Schedule.{Entry, blocks_of}
 use Rattle.sci_reaction.specs.Pass.{Progress, put, IsFront}
 use Rattle.sci_places.specs.Flat.{start_of}
 use Rattle.c_mean.specs.Meaning.{World, Ran, going, halted, Around, run_block}
-use Rattle.c_steps.specs.Places.{get, KeepsPlaces, is_scratch}
-use Rattle.c_steps.specs.Runs.{Leads, Stops}
+use Rattle.c_mean.specs.Places.{get, KeepsPlaces, is_scratch}
+use Rattle.c_mean.specs.Runs.{Leads, Stops}
 use Rattle.sci_cgen_blocks.specs.Texts.{values, masks, body_text}
 use Rattle.sci_due.specs.Due.{now as now_name}
 use Rattle.sci_cgen.specs.Names.{block_name}

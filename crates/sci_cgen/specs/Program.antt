@@ -25,12 +25,12 @@ use Rattle.c_ast.specs.declared.Name.{Name}
 use Rattle.c_ast.specs.declared.Bound.TheVariants as bounds
 use Rattle.c_ast.specs.declared.Op.TheVariants.{Add, Sub, Mul, Div, Rem, Lt, Gt, Ge, Eq}
 use Rattle.c_ast.specs.Syntax.{Exp, num, var, element, bin, scalar, cell, until, limit, start, event, value, finish, Statement, set, ask, choice, loop, call, tell, Block, done, next, Declared, Function, Whole}
-use Rattle.c_steps.specs.Texts.{number, place, joined, upto}
+use Rattle.c_mean.specs.Texts.{number, place, joined, upto}
 use Rattle.sci_cgen_blocks.specs.Terms.{is_looped}
-use Rattle.sci_cgen_blocks.specs.Recipes.{scratch_of}
+use Rattle.sci_cgen_blocks.specs.Recipes.{next_alike, scratch_of}
 use Rattle.sci_cgen_blocks.specs.Texts.{Places, fixed, counted_by, values, states, masks, scratch_name, element_place, body_text, next_text, delay_expression, branch_expression}
 use Rattle.sci_due.specs.Due.{dates, orders, best as chosen_name, scan as scan_name, now as now_name, last as programmed_name, delay as delay_name}
-use Rattle.sci_due.specs.Texts.{at_best, choose_text as choose_of, take_text, program_text}
+use Rattle.sci_due.specs.Texts.{at_best, choose_text as choose_of, take_text, delayed_text}
 use Rattle.sci_cgen.specs.declared.parts.Part.{Part}
 use Rattle.sci_cgen.specs.declared.parts.Part.TheVariants.{Absent, Sure, Marked}
 use Rattle.sci_cgen.specs.Names.{actives, branches, limit_name, until_name, fired_name, halt_name, next_date, block_name, source_name, clear_name, settle_name, choose_name, event_name}
@@ -229,7 +229,7 @@ values_shown n part b = text_where (nat_lt 0 (length (spec_of n b).outs)) (where
 abbrev pub delay_text : Parts → (ℕ → Part) → ℕ → Source → Block
 delay_text n part i Start = done
 delay_text n part i (Port q) =
-    where_part (part q.block) q.block (program_text (i - 1) (delay_expression (spec_of n q.block) (places_of n q.block)) done)
+    where_part (part q.block) q.block (delayed_text (i - 1) (delay_expression (spec_of n q.block) (places_of n q.block)))
 
 abbrev pub state_text : Parts → (ℕ → Part) → ℕ → Block
 state_text n part b = text_where (has_state (spec_of n b).kind) (where_part (part b) b (next_text (spec_of n b) (places_of n b)))
@@ -265,9 +265,13 @@ date_text =
     next (set (scalar next_date) (number (negsuc 0)))
     (only_where (bin Ge (var chosen_name) (natural 0)) (one (set (scalar next_date) (at_best dates))))
 
--- of all sources the one whose event comes first, -1 where none is pending; and its date
+-- Of all sources the one whose event comes first, -1 where none is pending; and its date. Where there is one source, its date is asked alone.
 abbrev pub choose_text : Parts → Block
-choose_text n = choose_of (port_count n) date_text
+choose_text n = if nat_lt 1 (port_count n) then choose_of (port_count n) date_text else one (set (scalar next_date) (place dates 0))
+
+-- the place of the chosen one of so many sources
+abbrev pub chosen_place : ℕ → Exp
+chosen_place c = if nat_lt 1 c then var chosen_name else natural 0
 
 -- ---- the run
 
@@ -293,7 +297,7 @@ react_deep = 11
 
 -- the chosen event is taken, its source reacts, and the next event is chosen
 abbrev pub fire_text : Bool → Parts → Block
-fire_text own n = take_text (joined (text_where (not own) (one (call clear_name))) (next (react_step react_deep 0 (port_count n)) (one (call choose_name))))
+fire_text own n = take_text (chosen_place (port_count n)) (joined (text_where (not own) (one (call clear_name))) (next (react_step react_deep 0 (port_count n)) (one (call choose_name))))
 
 -- where the run isn't over, its next event fires
 abbrev pub event_text : Bool → Parts → Block
@@ -371,12 +375,16 @@ declared_where test ds = if test then ds else []
 abbrev pub a_scalar : Name → Declared
 a_scalar x = record { name = x; size = None }
 
--- whether the values of an output are observed in a loop
+-- whether the values of an output of a block are observed in a loop
 abbrev pub is_any_looped : List Output → Bool
 is_any_looped qs = list_any (λ q. is_looped (elements q)) qs
 
+-- or those of its next state are worked out in one
+abbrev pub counts_behind : Spec → Bool
+counts_behind s = is_any_looped s.outs || is_looped (next_alike s.kind s)
+
 abbrev pub has_loop : Parts → Bool
-has_loop n = list_any (λ s. is_any_looped s.outs) n.specs
+has_loop n = list_any counts_behind n.specs
 
 -- how many scratch numbers such a loop takes, or a block that the schedule has
 abbrev pub scratch_count : Parts → List (List Entry) → ℕ → ℕ

@@ -15,7 +15,7 @@ use Rattle.sci_run.specs.Run.{State}
 use Rattle.sci_places.specs.Flat.{start_of}
 use Rattle.c_ast.specs.declared.Name.{Name}
 use Rattle.c_mean.specs.Meaning.{World, same_name, truth}
-use Rattle.c_steps.specs.Places.{get, Has, is_scratch}
+use Rattle.c_mean.specs.Places.{get, Has, is_scratch}
 use Rattle.sci_cgen_blocks.specs.Texts.{values, states, masks, scratch_name}
 use Rattle.sci_due.specs.Due.{best as chosen_name, scan as scan_name, now as now_name, delay as delay_name}
 use Rattle.sci_due.specs.Laws.{ShowsPending}

@@ -14,9 +14,9 @@ use Rattle.c_ast.specs.declared.Name.{Name}
 use Rattle.c_ast.specs.declared.Bound.TheVariants as bounds
 use Rattle.c_ast.specs.Syntax.{loop, call, Block, done, next, Whole}
 use Rattle.c_mean.specs.Meaning.{World, behind_functions, first_world, Ran, going, then_run, run_block, turns, calling}
-use Rattle.c_steps.specs.Places.{get}
-use Rattle.c_steps.specs.Programs.{surroundings}
-use Rattle.c_steps.specs.Texts.{joined}
+use Rattle.c_mean.specs.Places.{get}
+use Rattle.c_mean.specs.Programs.{surroundings}
+use Rattle.c_mean.specs.Texts.{joined}
 use Rattle.sci_cgen.specs.Names.{limit_name, fired_name, next_date, event_name}
 use Rattle.sci_cgen.specs.Program.{program}
 use Rattle.sci_cgen.specs.Laws.{answer_by}

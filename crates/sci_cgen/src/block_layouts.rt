@@ -10,7 +10,7 @@ ghost use Rattle.sci_cgen.specs.Program.{states_before, places_of};
 ghost use Rattle.sci_cgen.specs.Built.{AreLaid, AreNamed, AreMarked};
 
 use sci_base::NoMemory;
-use sci_cgen_blocks::Layout;
+use sci_cgen_blocks::BlockLayout;
 use sci_net::Net;
 use sci_places::{Places, Span};
 use sci_sched::{Entry, Schedule};
@@ -35,7 +35,7 @@ fn block_layout(
     places: &Places,
     block: u32,
     state: u32,
-) -> Result<Layout, NoMemory>
+) -> Result<BlockLayout, NoMemory>
     requires block { IsBlock net.now block }
     requires places { IsLayout net.now places.now }
     requires state { state ≡ states_before net.now.specs (block - 1) }
@@ -44,7 +44,7 @@ fn block_layout(
     net.well_formed();
     let ins = starts(alloc, places.ins(block))?;
     let outs = places.outs(block).start as u32;
-    Ok(Layout {
+    Ok(BlockLayout {
         number: block,
         ins,
         outs,
@@ -54,7 +54,7 @@ fn block_layout(
 }
 
 /// Where the values of each block lie.
-pub(crate) fn layouts(alloc: Global, net: &Net) -> Result<Vec<Layout>, NoMemory>
+pub(crate) fn layouts(alloc: Global, net: &Net) -> Result<Vec<BlockLayout>, NoMemory>
     ensures { IfOk result (λ v. AreLaid net.now v.items) }
 {
     net.well_formed();

@@ -2,6 +2,7 @@
 ghost use Rattle.std.specs.Prelude.{◌≡◌, ◌+◌, ◌<◌, ◌≤◌, ◌^◌, ◌++◌, ◌∷◌, [], List, false, nat_lt, if◌then◌else◌, map, length, IfOk, OnOk};
 ghost use Rattle.c_ast.specs.View.{declared_of};
 ghost use Rattle.sci_forms.specs.Ports.{total, elements};
+ghost use Rattle.sci_forms.specs.Words.{state_len_of};
 ghost use Rattle.sci_net.specs.Parts.{numbered, spec_of};
 ghost use Rattle.sci_net.specs.Net.{all_elements};
 ghost use Rattle.sci_forms.specs.Form.{is_halt as is_halt_of};
@@ -14,7 +15,8 @@ ghost use Rattle.sci_cgen_blocks.specs.Texts.{values as values_name, states as s
 ghost use Rattle.sci_cgen.specs.Names.{actives as actives_name, branches as branches_name, limit_name, fired_name, next_date as next_date_name};
 ghost use Rattle.sci_cgen.specs.Names.{until_name, halt_name};
 ghost use Rattle.sci_cgen.specs.Program.{declarations as declarations_of, has_sync as has_sync_of, has_halt as has_halt_of, port_count as port_count_of};
-ghost use Rattle.sci_cgen.specs.Program.{states_before, array as array_of, a_scalar, declared_where, is_any_looped as is_any_looped_of, has_loop as has_loop_of};
+ghost use Rattle.sci_cgen.specs.Program.{states_before, array as array_of, a_scalar, declared_where, is_any_looped as is_any_looped_of, counts_behind as counts_behind_of};
+ghost use Rattle.sci_cgen.specs.Program.{has_loop as has_loop_of};
 ghost use Rattle.sci_cgen.specs.Program.{scratch_count as scratch_count_of, scratch_declared};
 ghost use Rattle.sci_cgen.specs.Built.{AreMarked};
 
@@ -25,8 +27,8 @@ use crate::names::{
 use c_ast::{Decl, Name};
 use sci_base::NoMemory;
 use sci_cgen_blocks::array_names::{masks, scratch, states, values};
-use sci_cgen_blocks::scratch_of;
-use sci_forms::{Port, Ports};
+use sci_cgen_blocks::{counts_next, scratch_of};
+use sci_forms::{Port, Ports, Spec};
 use sci_net::Net;
 use std::alloc::Global;
 
@@ -141,12 +143,21 @@ fn is_any_looped(outs: &Ports) -> bool
     false
 }
 
-/// Whether those of an output of the net are.
+/// Whether those of a block are, or values of its next state are worked out in a loop.
+fn counts_behind(s: &Spec) -> bool
+    requires { state_len_of s.now.kind s.now < 2 ^ 32 }
+    ensures { result ≡ counts_behind_of s.now }
+{
+    is_any_looped(&s.outs) || counts_next(s)
+}
+
+/// Whether one of the net does so.
 fn has_loop(net: &Net) -> bool
     ensures { result ≡ has_loop_of net.now }
 {
+    net.well_formed();
     for at in 0..net.len() {
-        if is_any_looped(&net.spec(at + 1).outs) {
+        if counts_behind(net.spec(at + 1)) {
             return true;
         }
     }

@@ -23,7 +23,7 @@ use crate::run_texts::{choose_text, clear_text, main_text, turn_text};
 use crate::settle_texts::push_settle;
 use c_ast::{Func, Program, Stmt};
 use sci_base::NoMemory;
-use sci_cgen_blocks::{Layout, block_body};
+use sci_cgen_blocks::{BlockLayout, block_body};
 use sci_net::Net;
 use sci_sched::{Entry, Schedule};
 use std::alloc::Global;
@@ -32,7 +32,7 @@ use std::alloc::Global;
 fn body(
     alloc: Global,
     net: &Net,
-    layouts: &[Layout],
+    layouts: &[BlockLayout],
     block: u32,
     is_scheduled: bool,
 ) -> Result<Vec<Stmt>, NoMemory>
@@ -51,7 +51,7 @@ fn body(
 fn block_function(
     alloc: Global,
     net: &Net,
-    layouts: &[Layout],
+    layouts: &[BlockLayout],
     block: u32,
     is_scheduled: bool,
 ) -> Result<Func, NoMemory>
@@ -70,7 +70,7 @@ fn push_block_functions(
     alloc: Global,
     funcs: &mut Vec<Func>,
     net: &Net,
-    layouts: &[Layout],
+    layouts: &[BlockLayout],
     marks: &[bool],
 ) -> Result<(), NoMemory>
     requires laid { AreLaid net.now layouts.now }
@@ -85,7 +85,7 @@ fn push_block_functions(
 }
 
 /// What follows each reaction, in one text for all sources.
-fn settle_function(alloc: Global, net: &Net, layouts: &[Layout]) -> Result<Func, NoMemory>
+fn settle_function(alloc: Global, net: &Net, layouts: &[BlockLayout]) -> Result<Func, NoMemory>
     requires { AreLaid net.now layouts.now }
     ensures { IfOk result (λ f. function_of f ≡ record { name = settle_name; body = shared_text net.now }) }
 {
@@ -117,7 +117,7 @@ fn push_shared_functions(
     alloc: Global,
     funcs: &mut Vec<Func>,
     net: &Net,
-    layouts: &[Layout],
+    layouts: &[BlockLayout],
     own: bool,
 ) -> Result<(), NoMemory>
     requires laid { AreLaid net.now layouts.now }
@@ -150,7 +150,7 @@ fn push_other_functions(
     alloc: Global,
     funcs: &mut Vec<Func>,
     net: &Net,
-    layouts: &[Layout],
+    layouts: &[BlockLayout],
     own: bool,
 ) -> Result<(), NoMemory>
     requires laid { AreLaid net.now layouts.now }
@@ -165,7 +165,7 @@ fn push_other_functions(
 fn source_function(
     alloc: Global,
     net: &Net,
-    layouts: &[Layout],
+    layouts: &[BlockLayout],
     own: bool,
     source: u32,
     row: &[Entry],
@@ -186,7 +186,7 @@ fn push_source_functions(
     alloc: Global,
     funcs: &mut Vec<Func>,
     net: &Net,
-    layouts: &[Layout],
+    layouts: &[BlockLayout],
     own: bool,
     schedule: &Schedule,
 ) -> Result<(), NoMemory>
@@ -208,7 +208,7 @@ fn push_source_functions(
 fn called_functions(
     alloc: Global,
     net: &Net,
-    layouts: &[Layout],
+    layouts: &[BlockLayout],
     marks: &[bool],
     own: bool,
     schedule: &Schedule,
@@ -241,7 +241,7 @@ fn event_function(alloc: Global, net: &Net, own: bool) -> Result<Func, NoMemory>
 fn functions(
     alloc: Global,
     net: &Net,
-    layouts: &[Layout],
+    layouts: &[BlockLayout],
     marks: &[bool],
     schedule: &Schedule,
 ) -> Result<Vec<Func>, NoMemory>

@@ -9,7 +9,7 @@ ghost use Rattle.sci_forms.specs.Words.{held_of};
 ghost use Rattle.sci_net.specs.Sources.{sources_of, source_of};
 ghost use Rattle.c_ast.specs.Syntax.{scalar, set as assign, ask as asking, until as last_date, next};
 ghost use Rattle.c_ast.specs.View.{statements_of};
-ghost use Rattle.c_steps.specs.Texts.{joined};
+ghost use Rattle.c_mean.specs.Texts.{joined};
 ghost use Rattle.sci_cgen_blocks.specs.Texts.{values as values_name, states as states_name};
 ghost use Rattle.sci_due.specs.Due.{last as programmed_name};
 ghost use Rattle.sci_cgen.specs.Names.{until_name};
@@ -21,7 +21,7 @@ use crate::names::{dates, orders, programmed, until};
 use crate::pieces::{cell, layout, natural, push};
 use c_ast::{Ask, Name, Stmt, Target};
 use sci_base::{Ints, NoMemory};
-use sci_cgen_blocks::Layout;
+use sci_cgen_blocks::BlockLayout;
 use sci_cgen_blocks::array_names::{states, values};
 use sci_cgen_blocks::writing::number;
 use sci_kinds::{Ports, Spec};
@@ -70,7 +70,7 @@ fn spread(values: &Ints, e: usize) -> i64
 }
 
 /// The values of a block's outputs before its first activation.
-fn push_held(alloc: Global, out: &mut Vec<Stmt>, s: &Spec, at: &Layout) -> Result<(), NoMemory>
+fn push_held(alloc: Global, out: &mut Vec<Stmt>, s: &Spec, at: &BlockLayout) -> Result<(), NoMemory>
     requires is_typed { typed s.now ≡ true }
     requires few { at.now.outs + total s.now.outs ≤ 2 ^ 20 }
     ensures { OnOk result (statements_of out.new.items ≡ joined (statements_of out.old.items) (list_begun values_name at.now.outs (held_at_first s.now))) }
@@ -82,7 +82,12 @@ fn push_held(alloc: Global, out: &mut Vec<Stmt>, s: &Spec, at: &Layout) -> Resul
 }
 
 /// The first state of a block.
-fn push_state(alloc: Global, out: &mut Vec<Stmt>, s: &Spec, at: &Layout) -> Result<(), NoMemory>
+fn push_state(
+    alloc: Global,
+    out: &mut Vec<Stmt>,
+    s: &Spec,
+    at: &BlockLayout,
+) -> Result<(), NoMemory>
     requires is_typed { typed s.now ≡ true }
     requires few { at.now.state + state_len_of s.now.kind s.now ≤ 2 ^ 20 }
     ensures { OnOk result (statements_of out.new.items ≡ joined (statements_of out.old.items) (list_begun states_name at.now.state (state_at_first s.now))) }
@@ -104,7 +109,7 @@ fn push_all_held(
     alloc: Global,
     out: &mut Vec<Stmt>,
     net: &Net,
-    layouts: &[Layout],
+    layouts: &[BlockLayout],
 ) -> Result<(), NoMemory>
     requires laid { AreLaid net.now layouts.now }
     ensures { OnOk result (statements_of out.new.items ≡ joined (statements_of out.old.items) (each_block (held_begun net.now) net.now)) }
@@ -121,7 +126,7 @@ fn push_all_states(
     alloc: Global,
     out: &mut Vec<Stmt>,
     net: &Net,
-    layouts: &[Layout],
+    layouts: &[BlockLayout],
 ) -> Result<(), NoMemory>
     requires laid { AreLaid net.now layouts.now }
     ensures { OnOk result (statements_of out.new.items ≡ joined (statements_of out.old.items) (each_block (state_begun net.now) net.now)) }
@@ -215,7 +220,7 @@ pub(crate) fn push_outset(
     alloc: Global,
     out: &mut Vec<Stmt>,
     net: &Net,
-    layouts: &[Layout],
+    layouts: &[BlockLayout],
 ) -> Result<(), NoMemory>
     requires laid { AreLaid net.now layouts.now }
     ensures { OnOk result (statements_of out.new.items ≡ joined (statements_of out.old.items) (outset_text net.now)) }

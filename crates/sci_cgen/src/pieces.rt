@@ -2,14 +2,14 @@
 ghost use Rattle.std.specs.Prelude.{◌≡◌, ◌≤◌, length, IfOk, OnOk};
 ghost use Rattle.c_ast.specs.Syntax.{cell as cell_of, set as assign, next, done};
 ghost use Rattle.c_ast.specs.View.{exp_of, place_of, statement_of, statements_of};
-ghost use Rattle.c_steps.specs.Texts.{joined};
+ghost use Rattle.c_mean.specs.Texts.{joined};
 ghost use Rattle.sci_cgen.specs.Program.{natural as natural_of, one as one_of, only_where as only_where_of};
 ghost use Rattle.sci_cgen.specs.Built.{laid_at};
 ghost use Rattle.sci_cgen_blocks.specs.Plain.{plain_places};
 
 use c_ast::{Expr, Name, Stmt, Target};
 use sci_base::NoMemory;
-use sci_cgen_blocks::Layout;
+use sci_cgen_blocks::BlockLayout;
 use sci_cgen_blocks::writing::only_where;
 use std::alloc::Global;
 
@@ -65,7 +65,7 @@ pub(crate) fn push_where(
 }
 
 /// Where the values of a block lie.
-pub(crate) fn layout(layouts: &[Layout], block: u32) -> &Layout
+pub(crate) fn layout(layouts: &[BlockLayout], block: u32) -> &BlockLayout
     requires least { 1 ≤ block }
     requires most { block ≤ length layouts.now }
     ensures { plain_places result.now ≡ laid_at layouts.now block }

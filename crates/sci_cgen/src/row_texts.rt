@@ -4,7 +4,7 @@ ghost use Rattle.std.specs.Int.{bit_at};
 ghost use Rattle.c_ast.specs.Syntax.{bin as operation, set as assign, cell as cell_of};
 ghost use Rattle.c_ast.specs.declared.Op.TheVariants as ops;
 ghost use Rattle.c_ast.specs.View.{exp_of, statement_of, statements_of};
-ghost use Rattle.c_steps.specs.Texts.{joined};
+ghost use Rattle.c_mean.specs.Texts.{joined};
 ghost use Rattle.sci_forms.specs.Form.{is_sync};
 ghost use Rattle.sci_net.specs.Parts.{IsBlock, spec_of};
 ghost use Rattle.sci_reaction.specs.Schedule.{Guard as PlainGuard};
@@ -27,7 +27,7 @@ use c_ast::{Expr, Op, Stmt, Tell};
 use sci_base::NoMemory;
 use sci_cgen_blocks::array_names::masks;
 use sci_cgen_blocks::writing::{bin, element};
-use sci_cgen_blocks::{Layout, block_branch};
+use sci_cgen_blocks::{BlockLayout, block_branch};
 use sci_net::{Net, Source};
 use sci_sched::{Entry, Guard};
 use std::alloc::Global;
@@ -262,7 +262,7 @@ fn push_mask(out: &mut Vec<Stmt>, net: &Net, entry: &Entry) -> Result<(), NoMemo
 }
 
 /// The branch that a synchronous block takes.
-fn branch(alloc: Global, net: &Net, layouts: &[Layout], block: u32) -> Result<Stmt, NoMemory>
+fn branch(alloc: Global, net: &Net, layouts: &[BlockLayout], block: u32) -> Result<Stmt, NoMemory>
     requires laid { AreLaid net.now layouts.now }
     requires block { IsBlock net.now block }
     requires sync { is_sync (spec_of net.now block).kind ≡ true }
@@ -278,7 +278,7 @@ fn push_branch(
     alloc: Global,
     out: &mut Vec<Stmt>,
     net: &Net,
-    layouts: &[Layout],
+    layouts: &[BlockLayout],
     block: u32,
 ) -> Result<(), NoMemory>
     requires laid { AreLaid net.now layouts.now }
@@ -299,7 +299,7 @@ fn push_call(
     alloc: Global,
     out: &mut Vec<Stmt>,
     net: &Net,
-    layouts: &[Layout],
+    layouts: &[BlockLayout],
     block: u32,
 ) -> Result<(), NoMemory>
     requires laid { AreLaid net.now layouts.now }
@@ -323,7 +323,7 @@ fn push_active_call(
     alloc: Global,
     out: &mut Vec<Stmt>,
     net: &Net,
-    layouts: &[Layout],
+    layouts: &[BlockLayout],
     block: u32,
 ) -> Result<(), NoMemory>
     requires laid { AreLaid net.now layouts.now }
@@ -340,7 +340,7 @@ fn push_values(
     alloc: Global,
     out: &mut Vec<Stmt>,
     net: &Net,
-    layouts: &[Layout],
+    layouts: &[BlockLayout],
     entry: &Entry,
 ) -> Result<(), NoMemory>
     requires laid { AreLaid net.now layouts.now }
@@ -367,7 +367,7 @@ fn push_entry(
     alloc: Global,
     out: &mut Vec<Stmt>,
     net: &Net,
-    layouts: &[Layout],
+    layouts: &[BlockLayout],
     own: bool,
     entry: &Entry,
 ) -> Result<(), NoMemory>
@@ -386,7 +386,7 @@ fn push_entries(
     alloc: Global,
     out: &mut Vec<Stmt>,
     net: &Net,
-    layouts: &[Layout],
+    layouts: &[BlockLayout],
     own: bool,
     row: &[Entry],
 ) -> Result<(), NoMemory>
@@ -493,7 +493,7 @@ fn header(source: Source) -> Stmt
 fn pass_text(
     alloc: Global,
     net: &Net,
-    layouts: &[Layout],
+    layouts: &[BlockLayout],
     own: bool,
     source: Source,
     row: &[Entry],
@@ -514,7 +514,7 @@ fn push_own_following(
     alloc: Global,
     out: &mut Vec<Stmt>,
     net: &Net,
-    layouts: &[Layout],
+    layouts: &[BlockLayout],
     row: &[Entry],
 ) -> Result<(), NoMemory>
     requires laid { AreLaid net.now layouts.now }
@@ -530,7 +530,7 @@ fn push_following(
     alloc: Global,
     out: &mut Vec<Stmt>,
     net: &Net,
-    layouts: &[Layout],
+    layouts: &[BlockLayout],
     own: bool,
     row: &[Entry],
 ) -> Result<(), NoMemory>
@@ -549,7 +549,7 @@ fn push_following(
 pub(crate) fn row_text(
     alloc: Global,
     net: &Net,
-    layouts: &[Layout],
+    layouts: &[BlockLayout],
     own: bool,
     source: Source,
     row: &[Entry],

@@ -2,16 +2,17 @@
 ghost use Rattle.std.specs.Prelude.{◌≡◌, ◌+◌, ◌-◌, ◌≤◌, ◌^◌, not, pos, negsuc, IfOk, OnOk};
 ghost use Rattle.c_ast.specs.declared.Bound.TheVariants as bounds;
 ghost use Rattle.c_ast.specs.declared.Op.TheVariants as ops;
-ghost use Rattle.c_ast.specs.Syntax.{num, var, neg, bin, scalar, cell as cell_of, set as assign, ask, limit as limit_asked, choice, loop, call, tell};
+ghost use Rattle.c_ast.specs.Syntax.{num, var, element as element_of, neg, bin, scalar, cell as cell_of, set as assign, ask, limit as limit_asked, choice, loop, call, tell};
 ghost use Rattle.c_ast.specs.Syntax.{finish as finish_of, done, next};
 ghost use Rattle.c_ast.specs.View.{exp_of, statement_of, statements_of};
-ghost use Rattle.c_steps.specs.Texts.{joined, number as number_of};
+ghost use Rattle.c_mean.specs.Texts.{joined, place, number as number_of};
 ghost use Rattle.sci_due.specs.Due.{best as chosen_name, scan as scan_name, dates as dates_name, now as now_name};
-ghost use Rattle.sci_due.specs.Texts.{at_scan as at_scan_of, at_best as at_best_of, sooner_exp, better_exp};
+ghost use Rattle.sci_due.specs.Texts.{at_scan as at_scan_of, at_best as at_best_of, sooner_exp, better_exp, choose_text as choose_of};
 ghost use Rattle.sci_cgen.specs.Names.{actives as actives_name, branches as branches_name, until_name, limit_name, fired_name};
 ghost use Rattle.sci_cgen.specs.Names.{next_date as next_date_name, source_name, clear_name, event_name};
 ghost use Rattle.sci_cgen.specs.Program.{natural as natural_of, one, text_where, react_step, end_or as end_or_of};
 ghost use Rattle.sci_cgen.specs.Program.{halted_or as halted_or_of, fire_text as fire_text_of, event_text as event_text_of, turn_text as turn_text_of, first_text, has_sync as has_sync_of};
+ghost use Rattle.sci_cgen.specs.Program.{port_count as port_count_of, date_text, chosen_place as chosen_place_of};
 ghost use Rattle.sci_cgen.specs.Program.{main_text as main_text_of, clear_text as clear_text_of, choose_text as choose_text_of};
 ghost use Rattle.sci_cgen.specs.Built.{AreLaid};
 
@@ -24,8 +25,8 @@ use crate::outset_texts::push_outset;
 use crate::pieces::{natural, push};
 use c_ast::{Ask, Bound, Expr, Name, Op, Stmt, Target, Tell};
 use sci_base::NoMemory;
-use sci_cgen_blocks::Layout;
-use sci_cgen_blocks::writing::{bin, either, number, only_where, repeated};
+use sci_cgen_blocks::BlockLayout;
+use sci_cgen_blocks::writing::{bin, either, element, number, only_where, repeated};
 use sci_net::Net;
 use std::alloc::Global;
 
@@ -126,9 +127,9 @@ fn date_chosen(alloc: Global) -> Result<Stmt, NoMemory>
     Ok(only_where(alloc, is_some, vec![in alloc; date]?))
 }
 
-/// Of all sources the one whose event comes first, and its date.
-pub(crate) fn choose_text(alloc: Global, net: &Net) -> Result<Vec<Stmt>, NoMemory>
-    ensures { IfOk result (λ v. statements_of v.items ≡ choose_text_of net.now) }
+/// Of several sources the one whose event comes first, and its date.
+fn scan_text(alloc: Global, net: &Net) -> Result<Vec<Stmt>, NoMemory>
+    ensures { IfOk result (λ v. statements_of v.items ≡ choose_of (port_count_of net.now) date_text) }
 {
     let none = Stmt::Set(Target::Var(chosen()), number(alloc, -1)?);
     let turn = vec![in alloc; choose_turn(alloc)?]?;
@@ -138,6 +139,25 @@ pub(crate) fn choose_text(alloc: Global, net: &Net) -> Result<Vec<Stmt>, NoMemor
         undated(alloc)?,
         date_chosen(alloc)?,
     ]?)
+}
+
+/// The date of the only source.
+fn only_text(alloc: Global) -> Result<Vec<Stmt>, NoMemory>
+    ensures { IfOk result (λ v. statements_of v.items ≡ one (assign (scalar next_date_name) (place dates_name 0))) }
+{
+    let date = element(alloc, dates(), 0)?;
+    Ok(vec![in alloc; Stmt::Set(Target::Var(next_date()), date)]?)
+}
+
+/// Of all sources the one whose event comes first, and its date.
+pub(crate) fn choose_text(alloc: Global, net: &Net) -> Result<Vec<Stmt>, NoMemory>
+    ensures { IfOk result (λ v. statements_of v.items ≡ choose_text_of net.now) }
+{
+    if 1 < port_count(net) {
+        scan_text(alloc, net)
+    } else {
+        only_text(alloc)
+    }
 }
 
 /// The run ends with the word of this number.
@@ -166,19 +186,31 @@ fn halted_or(alloc: Global, net: &Net, rest: Vec<Stmt>) -> Result<Vec<Stmt>, NoM
     }
 }
 
-/// The date of the reaction becomes that of the chosen event.
-fn dated(alloc: Global) -> Result<Stmt, NoMemory>
-    ensures { IfOk result (λ s. statement_of s ≡ assign (scalar now_name) (at_best_of dates_name)) }
+/// The place of the chosen source; that of the only one, where there is one.
+fn chosen_place(net: &Net) -> Expr
+    ensures { exp_of result ≡ chosen_place_of (port_count_of net.now) }
 {
-    Ok(Stmt::Set(Target::Var(now()), at_chosen(alloc, dates())?))
+    if 1 < port_count(net) {
+        Expr::Var(chosen())
+    } else {
+        natural(0)
+    }
+}
+
+/// The date of the reaction becomes that of the chosen event.
+fn dated(alloc: Global, net: &Net) -> Result<Stmt, NoMemory>
+    ensures { IfOk result (λ s. statement_of s ≡ assign (scalar now_name) (element_of dates_name (chosen_place_of (port_count_of net.now)))) }
+{
+    let date = Expr::At(dates(), Box::new(alloc, chosen_place(net))?);
+    Ok(Stmt::Set(Target::Var(now()), date))
 }
 
 /// The chosen event is no longer pending.
-fn freed(alloc: Global) -> Result<Stmt, NoMemory>
-    ensures { IfOk result (λ s. statement_of s ≡ assign (cell_of dates_name (var chosen_name)) (neg (num (pos 1)))) }
+fn freed(alloc: Global, net: &Net) -> Result<Stmt, NoMemory>
+    ensures { IfOk result (λ s. statement_of s ≡ assign (cell_of dates_name (chosen_place_of (port_count_of net.now))) (neg (num (pos 1)))) }
 {
     let none = number(alloc, -1)?;
-    Ok(Stmt::Set(Target::At(dates(), Expr::Var(chosen())), none))
+    Ok(Stmt::Set(Target::At(dates(), chosen_place(net)), none))
 }
 
 /// How many sources the first half has, where so many decisions are left.
@@ -226,8 +258,8 @@ fn push_fire(alloc: Global, out: &mut Vec<Stmt>, net: &Net, own: bool) -> Result
     ensures { OnOk result (statements_of out.new.items ≡ joined (statements_of out.old.items) (fire_text_of own net.now)) }
 {
     net.well_formed();
-    push(out, dated(alloc)?)?;
-    push(out, freed(alloc)?)?;
+    push(out, dated(alloc, net)?)?;
+    push(out, freed(alloc, net)?)?;
     push_before(out, own)?;
     push(out, react(alloc, 11, 0, port_count(net))?)?;
     push(out, Stmt::Call(choose()))?;
@@ -348,7 +380,11 @@ fn push_run(alloc: Global, out: &mut Vec<Stmt>, net: &Net) -> Result<(), NoMemor
 }
 
 /// The statements of `sci_main`.
-pub(crate) fn main_text(alloc: Global, net: &Net, layouts: &[Layout]) -> Result<Vec<Stmt>, NoMemory>
+pub(crate) fn main_text(
+    alloc: Global,
+    net: &Net,
+    layouts: &[BlockLayout],
+) -> Result<Vec<Stmt>, NoMemory>
     requires laid { AreLaid net.now layouts.now }
     ensures { IfOk result (λ v. statements_of v.items ≡ main_text_of net.now) }
 {

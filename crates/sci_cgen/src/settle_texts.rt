@@ -9,8 +9,9 @@ ghost use Rattle.sci_reaction.specs.Links.{IsSource};
 ghost use Rattle.sci_forms.specs.Form.{is_halt as is_halt_of};
 ghost use Rattle.c_ast.specs.Syntax.{tell, value as value_told, done};
 ghost use Rattle.c_ast.specs.View.{exp_of, statement_of, statements_of};
-ghost use Rattle.c_steps.specs.Texts.{joined, place as element_at};
-ghost use Rattle.sci_due.specs.Texts.{entry_text as entry_text_of, program_text as program_text_of};
+ghost use Rattle.c_mean.specs.Texts.{joined, place as element_at};
+ghost use Rattle.sci_due.specs.Texts.{entry_text as entry_text_of, program_text as program_text_of, is_ticks as is_ticks_of};
+ghost use Rattle.sci_due.specs.Texts.{delayed_text as delayed_text_of};
 ghost use Rattle.sci_cgen_blocks.specs.Texts.{values as values_name};
 ghost use Rattle.sci_cgen.specs.Program.{natural as natural_of, is_active as is_active_of, where_part, elements_shown, looped_shown as looped_shown_of};
 ghost use Rattle.sci_cgen.specs.Program.{output_shown, outputs_shown, values_shown, delay_text};
@@ -24,7 +25,7 @@ use c_ast::{Expr, Op, Stmt, Target, Tell};
 use sci_base::NoMemory;
 use sci_cgen_blocks::array_names::{scratch, values};
 use sci_cgen_blocks::writing::{bin, counted_place, element, indexed, only_where, repeated};
-use sci_cgen_blocks::{Layout, block_delay, block_next};
+use sci_cgen_blocks::{BlockLayout, block_delay, block_next};
 use sci_forms::Ports;
 use sci_net::{Feed, Net, Source};
 use std::alloc::Global;
@@ -98,7 +99,7 @@ fn looped_shown(
     ensures { IfOk result (λ s. statement_of s ≡ looped_shown_of block port start count) }
 {
     let number = counted_place(alloc, 1, 1)?;
-    let value = indexed(alloc, values(), counted_place(alloc, 1, start)?)?;
+    let value = indexed(alloc, values(), counted_place(alloc, 1, start as u64)?)?;
     let shown = Stmt::Tell(Tell::Val(natural(block), natural(port), number, value));
     let body = vec![in alloc; shown]?;
     Ok(repeated(scratch(1), count, body))
@@ -149,7 +150,7 @@ fn push_values(
     alloc: Global,
     out: &mut Vec<Stmt>,
     net: &Net,
-    layouts: &[Layout],
+    layouts: &[BlockLayout],
     taking: &Taking,
     block: u32,
 ) -> Result<(), NoMemory>
@@ -172,7 +173,7 @@ fn push_all_values(
     alloc: Global,
     out: &mut Vec<Stmt>,
     net: &Net,
-    layouts: &[Layout],
+    layouts: &[BlockLayout],
     taking: &Taking,
 ) -> Result<(), NoMemory>
     requires laid { AreLaid net.now layouts.now }
@@ -184,11 +185,11 @@ fn push_all_values(
     Ok(())
 }
 
-/// The entry of a source, counted from 0 without start, becomes the event after the delay that was read.
-fn entry_text(alloc: Global, at: u32) -> Result<Vec<Stmt>, NoMemory>
-    ensures { IfOk result (λ v. statements_of v.items ≡ entry_text_of at) }
+/// The entry of a source, counted from 0 without start, becomes the event after a delay of 0 or more.
+fn entry_text(alloc: Global, at: u32, ticks: Expr) -> Result<Vec<Stmt>, NoMemory>
+    ensures { IfOk result (λ v. statements_of v.items ≡ entry_text_of at (exp_of ticks)) }
 {
-    let date = bin(alloc, Op::Add, Expr::Var(now()), Expr::Var(delay()))?;
+    let date = bin(alloc, Op::Add, Expr::Var(now()), ticks)?;
     let next_order = bin(alloc, Op::Add, Expr::Var(programmed()), natural(1))?;
     Ok(vec![in alloc;
         Stmt::Set(cell(dates(), at), date),
@@ -202,11 +203,33 @@ fn program_text(alloc: Global, at: u32, ticks: Expr) -> Result<Vec<Stmt>, NoMemo
     ensures { IfOk result (λ v. statements_of v.items ≡ program_text_of at (exp_of ticks) done) }
 {
     let is_programmed = bin(alloc, Op::Ge, Expr::Var(delay()), natural(0))?;
-    let entry = entry_text(alloc, at)?;
+    let entry = entry_text(alloc, at, Expr::Var(delay()))?;
     Ok(vec![in alloc;
         Stmt::Set(Target::Var(delay()), ticks),
         only_where(alloc, is_programmed, entry),
     ]?)
+}
+
+/// Whether a delay is a number of 0 or more.
+#[tactic(auto, using(crate::proofs::SettleLemmas::ticks_are))]
+fn is_ticks(ticks: &Expr) -> bool
+    ensures { result ≡ is_ticks_of (exp_of ticks.now) }
+{
+    match ticks {
+        Expr::Num(n) => *n >= 0,
+        _ => false,
+    }
+}
+
+/// A source, counted from 0 without start, is programmed with a delay, of which nothing is asked where it is a number.
+fn delayed_text(alloc: Global, at: u32, ticks: Expr) -> Result<Vec<Stmt>, NoMemory>
+    ensures { IfOk result (λ v. statements_of v.items ≡ delayed_text_of at (exp_of ticks)) }
+{
+    if is_ticks(&ticks) {
+        entry_text(alloc, at, ticks)
+    } else {
+        program_text(alloc, at, ticks)
+    }
 }
 
 /// A source that is an activation output is programmed with its delay, where the output's block takes part.
@@ -214,7 +237,7 @@ fn push_port_delay(
     alloc: Global,
     out: &mut Vec<Stmt>,
     net: &Net,
-    layouts: &[Layout],
+    layouts: &[BlockLayout],
     taking: &Taking,
     source: u32,
     q: Feed,
@@ -226,8 +249,8 @@ fn push_port_delay(
 {
     net.well_formed();
     let spec = net.spec(q.block);
-    let ticks = block_delay(alloc, spec, layout(layouts, q.block), q.port)?;
-    let programs = program_text(alloc, source - 1, ticks)?;
+    let ticks = block_delay(alloc, spec, layout(layouts, q.block))?;
+    let programs = delayed_text(alloc, source - 1, ticks)?;
     push_part(alloc, out, taking, q.block, programs)
 }
 
@@ -236,7 +259,7 @@ fn push_delay(
     alloc: Global,
     out: &mut Vec<Stmt>,
     net: &Net,
-    layouts: &[Layout],
+    layouts: &[BlockLayout],
     taking: &Taking,
     source: u32,
 ) -> Result<(), NoMemory>
@@ -256,7 +279,7 @@ fn push_delays(
     alloc: Global,
     out: &mut Vec<Stmt>,
     net: &Net,
-    layouts: &[Layout],
+    layouts: &[BlockLayout],
     taking: &Taking,
 ) -> Result<(), NoMemory>
     requires laid { AreLaid net.now layouts.now }
@@ -274,7 +297,7 @@ fn push_state(
     alloc: Global,
     out: &mut Vec<Stmt>,
     net: &Net,
-    layouts: &[Layout],
+    layouts: &[BlockLayout],
     taking: &Taking,
     block: u32,
 ) -> Result<(), NoMemory>
@@ -296,7 +319,7 @@ fn push_states(
     alloc: Global,
     out: &mut Vec<Stmt>,
     net: &Net,
-    layouts: &[Layout],
+    layouts: &[BlockLayout],
     taking: &Taking,
 ) -> Result<(), NoMemory>
     requires laid { AreLaid net.now layouts.now }
@@ -346,7 +369,7 @@ pub(crate) fn push_settle(
     alloc: Global,
     out: &mut Vec<Stmt>,
     net: &Net,
-    layouts: &[Layout],
+    layouts: &[BlockLayout],
     taking: &Taking,
 ) -> Result<(), NoMemory>
     requires laid { AreLaid net.now layouts.now }

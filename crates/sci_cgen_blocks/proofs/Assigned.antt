@@ -1,5 +1,5 @@
 -- What the texts of a block may do.
-use Rattle.std.proofs.Common.{◌≡◌, ℕ, suc, Bool, true, false, if◌then◌else◌, ◌||◌, ◌⊎◌, inl, inr, refl, sym, subst, List, [], ◌∷◌}
+use Rattle.std.proofs.Common.{◌≡◌, ℕ, suc, ◌+◌, ◌-◌, Bool, true, false, if◌then◌else◌, ◌||◌, ◌⊎◌, inl, inr, refl, sym, subst, List, [], ◌∷◌}
 use Rattle.std.specs.Prelude.{◌≢◌}
 use Rattle.std.proofs.lemmas.Bool.{and_from}
 use Rattle.sci_forms.specs.declared.Kind.{Kind}
@@ -7,14 +7,14 @@ use Rattle.sci_forms.specs.declared.Kind.TheVariants.{Sensor}
 use Rattle.sci_forms.specs.declared.spec.Spec.{Spec}
 use Rattle.sci_forms.specs.Ports.{total}
 use Rattle.sci_forms.specs.Words.{state_len_of}
-use Rattle.c_ast.specs.Syntax.{Block}
+use Rattle.c_ast.specs.Syntax.{Block, next}
 use Rattle.c_mean.specs.Meaning.{same_name}
-use Rattle.c_steps.specs.Places.{is_scratch}
-use Rattle.c_steps.specs.Texts.{May, upto, statement_within, block_within}
-use Rattle.c_steps.proofs.Texts.{upto_within}
+use Rattle.c_mean.specs.Places.{is_scratch}
+use Rattle.c_mean.specs.Texts.{May, upto, statement_within, block_within}
+use Rattle.c_mean.proofs.Texts.{upto_within}
 use Rattle.sci_cgen_blocks.specs.Terms.{Work, assign, assign_if, Step, change, stop_if, repeat, Recipe, Way, each, all, decide, is_looped}
-use Rattle.sci_cgen_blocks.specs.Recipes.{way_of}
-use Rattle.sci_cgen_blocks.specs.Texts.{fixed, counted_by, Places, written, values, work_statement, works_text, step_statement, steps_text, recipe_text, looped_text, way_text, values_text, body_text, next_text}
+use Rattle.sci_cgen_blocks.specs.Recipes.{way_of, next_alike}
+use Rattle.sci_cgen_blocks.specs.Texts.{fixed, counted_by, Places, written, values, work_statement, works_text, step_statement, steps_text, recipe_text, looped_text, way_text, values_text, body_text, next_value_text, next_loop, next_text}
 use Rattle.sci_cgen_blocks.proofs.Bodies.{values_are}
 use Rattle.sci_cgen_blocks.proofs.Sensing.{is_kind}
 use Rattle.sci_cgen_blocks.specs.Meant.{takes_input, body_may, next_may}
@@ -68,6 +68,13 @@ values_within c s p (inr n) =
 pub body_within : (s : Spec) (p : Places) → block_within (body_may s) (body_text s p) ≡ true
 body_within s p = values_within s.kind s p (is_kind s.kind)
 
--- That of the next state assigns states alone.
+-- That of the next state assigns scratch and states alone.
 pub next_within : (s : Spec) (p : Places) → block_within next_may (next_text s p) ≡ true
-next_within s p = upto_within next_may _ (state_len_of s.kind s) (λ i h. refl)
+next_within s p = by_size (is_looped (next_alike s.kind s))
+  where
+    by_size : (t : Bool) → block_within next_may (
+        if t then next (next_loop s p (next_alike s.kind s)) (upto (λ i. next_value_text s p (next_alike s.kind s + i)) (state_len_of s.kind s - next_alike s.kind s))
+        else upto (next_value_text s p) (state_len_of s.kind s)) ≡ true
+    by_size true =
+        upto_within next_may (λ i. next_value_text s p (next_alike s.kind s + i)) (state_len_of s.kind s - next_alike s.kind s) (λ i h. refl)
+    by_size false = upto_within next_may (next_value_text s p) (state_len_of s.kind s) (λ i h. refl)

@@ -10,8 +10,8 @@ use Rattle.sci_kinds.specs.Asks.{IsState, IsMask}
 use Rattle.sci_kinds.specs.Table.{Answer, Values, NoFit, NoQuotient, cell, out}
 use Rattle.c_ast.specs.Syntax.{Block, done}
 use Rattle.c_mean.specs.Meaning.{World, Ran, then_run, is_zero, Around, run_block}
-use Rattle.c_steps.specs.Places.{get, Has, Keeps, is_scratch}
-use Rattle.c_steps.specs.Texts.{upto}
+use Rattle.c_mean.specs.Places.{get, Has, Keeps, is_scratch}
+use Rattle.c_mean.specs.Texts.{upto}
 use Rattle.sci_cgen_blocks.specs.Terms.{Scratch, value, Recipe, Gives, Way, each, all, decide, Under, WayGives, is_looped, RecipeFits, WayFits}
 use Rattle.sci_cgen_blocks.specs.Recipes.{way_of, scratch_of, given, fed}
 use Rattle.sci_cgen_blocks.specs.Laws.{CellLaw, CellReadsLaw}
@@ -58,7 +58,7 @@ shows_counted s p x m u w h room bounds j e l few here = record {
     is = here;
     input = λ k f. bounds.ins k e f.0;
     state = λ f. omega (arith, f, bounds.state);
-    outs = omega (arith, l, bounds.outs);
+    next = λ f. omega (arith, f, bounds.state);
   };
   same = refl;
 }
@@ -113,7 +113,8 @@ module _ (env : Around) (s : Spec) (p : Places) (x : List ℤ) (m : ℕ) (u : Li
   each_does f j k w few fits gives h =
       all_elements env p (total s.outs) (λ e. recipe_text (written p (fixed e)) (f e)) (cell s x m u) Stands stands_on
       (λ e l k' v i. as_cell (fixed e) p e v (cell s x m u e) (run_block env k' (recipe_text (written p (fixed e)) (f e)) v)
-      (recipe_does env (written p (fixed e)) (record (fed s) { scratch = j; element = e }) (record (given s x m u) { element = e }) v (i.holds.outs e l) (f e)
+      (recipe_does env (written p (fixed e)) (record (fed s) { scratch = j; element = e }) (record (given s x m u) { element = e }) v (i.holds.outs e l)
+      (omega (arith, l, bounds.outs)) (f e)
       (cell s x m u e) k' (scratch_in v) (fits e l) (shows_fed s p x m u v i.holds i.room j e few) (gives e l (scratch_in v)))) k w h
 
   -- in a loop
@@ -125,7 +126,7 @@ module _ (env : Around) (s : Spec) (p : Places) (x : List ℤ) (m : ℕ) (u : Li
       loop_does env p (total s.outs) (suc j) (recipe_text (written p (counted_by (suc j))) r) (cell s x m u) Stands bounds.count stands_on
       (λ e l k' v i here. as_turn (counted_by (suc j)) p e v (cell s x m u e) (run_block env k' (recipe_text (written p (counted_by (suc j))) r) v)
       (recipe_does env (written p (counted_by (suc j))) (record (fed s) { scratch = j; element = e }) (record (given s x m u) { element = e }) v
-      (i.holds.outs e l) r (cell s x m u e) k' (scratch_in v) (fits e l) (shows_counted s p x m u v i.holds i.room bounds j e l few here)
+      (i.holds.outs e l) (omega (arith, l, bounds.outs)) r (cell s x m u e) k' (scratch_in v) (fits e l) (shows_counted s p x m u v i.holds i.room bounds j e l few here)
       (gives e l (scratch_in v)))) k w (h.room (suc j) (omega arith) few) h
 
   -- The text of a way that gives the cells does so.

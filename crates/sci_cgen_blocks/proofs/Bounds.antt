@@ -1,5 +1,5 @@
 -- The texts of a block are within the bounds of the subset.
-use Rattle.std.proofs.Common.{◌≡◌, ℕ, zero, suc, ◌+◌, ◌<◌, ◌≤◌, ◌^◌, true, refl, sym, ap, ◌∙◌, subst, arith, inl, inr, ◌⊎◌, pos, negsuc, List, [], ◌∷◌, Bool, false, ◌&&◌, if◌then◌else◌, ltb-true}
+use Rattle.std.proofs.Common.{◌≡◌, ℕ, zero, suc, ◌+◌, ◌-◌, ◌<◌, ◌≤◌, ◌^◌, true, refl, sym, ap, ◌∙◌, subst, arith, inl, inr, ◌⊎◌, pos, negsuc, List, [], ◌∷◌, Bool, false, ◌&&◌, if◌then◌else◌, ltb-true}
 use Rattle.std.specs.Prelude.{◌≢◌}
 use Rattle.std.proofs.lemmas.Int.{ints}
 use Rattle.sci_forms.specs.declared.Kind.{Kind}
@@ -16,11 +16,11 @@ use Rattle.sci_forms.specs.Words.{state_len_of}
 use Rattle.sci_forms.specs.Typed.{typed}
 use Rattle.c_ast.specs.Syntax.{Exp, num, var, element, neg, not, bin, Block, done, next}
 use Rattle.c_ast.specs.Bounds.{Fits, IsExp, StatementFits, BlockFits, IsName}
-use Rattle.c_steps.specs.Texts.{joined, upto}
-use Rattle.sci_cgen_blocks.specs.Terms.{Term, constant, input, along, state, state_along, mask, scratch, both, Work, assign, assign_if, Step, change, stop_if, repeat, Recipe, Way, each, all, decide, is_looped, Readable, TermFits, WorkFits, WorksFit, StepFits, StepsFit, RecipeFits, WayFits}
-use Rattle.sci_cgen_blocks.specs.Recipes.{way_of, next_term, delay_term, branch_term, worked_of, is_alike, scratch_of, fed, from_value, inputs}
-use Rattle.sci_cgen_blocks.specs.Laws.{CellReadsLaw, NextReadsLaw}
-use Rattle.sci_cgen_blocks.specs.Texts.{Which, fixed, counted_by, Places, written, scratch_name, input_start, input_place, element_place, expression, work_statement, works_text, step_statement, steps_text, recipe_text, looped_text, way_text, sensor_text, body_text, next_text, delay_expression, branch_expression}
+use Rattle.c_mean.specs.Texts.{joined, upto}
+use Rattle.sci_cgen_blocks.specs.Terms.{Term, constant, input, along, state, state_along, state_behind, mask, scratch, both, Work, assign, assign_if, Step, change, stop_if, repeat, Recipe, Way, each, all, decide, is_looped, Readable, TermFits, WorkFits, WorksFit, StepFits, StepsFit, RecipeFits, WayFits}
+use Rattle.sci_cgen_blocks.specs.Recipes.{way_of, next_term, next_alike, next_along, delay_term, branch_term, worked_of, is_alike, scratch_of, fed, from_value, inputs}
+use Rattle.sci_cgen_blocks.specs.Laws.{CellReadsLaw, NextReadsLaw, NextAlongReadsLaw}
+use Rattle.sci_cgen_blocks.specs.Texts.{Which, fixed, counted_by, Places, written, scratch_name, input_start, input_place, element_place, expression, work_statement, works_text, step_statement, steps_text, recipe_text, looped_text, way_text, sensor_text, body_text, next_value_text, next_loop, next_text, delay_expression, branch_expression}
 use Rattle.sci_cgen_blocks.specs.Meant.{AreInBounds}
 use Rattle.sci_cgen_blocks.proofs.Effects.{delay_term_law, branch_term_law}
 use Rattle.sci_cgen_blocks.proofs.Bodies.{values_are}
@@ -71,6 +71,8 @@ expression_fits p r h (suc d) (input k e) f = ((refl, omega arith), h.input k e 
 expression_fits p r h (suc d) (along k) f = ((refl, omega arith), place_fits p.which r.element (input_start p k) d h.which (h.input k r.element f))
 expression_fits p r h (suc d) (state i) f = ((refl, omega arith), h.state i f)
 expression_fits p r h (suc d) state_along f = ((refl, omega arith), place_fits p.which r.element p.state d h.which (h.state r.element f))
+expression_fits p r h (suc d) state_behind f =
+    ((refl, omega arith), place_fits p.which r.element (suc p.state) d h.which (omega (arith, h.state (suc r.element) f)))
 expression_fits p r h (suc d) mask f = ((refl, omega arith), h.mask)
 expression_fits p r h (suc d) (scratch n) f = scratch_is_name p r n h f.1
 expression_fits p r h (suc d) (both op a b) f = (expression_fits p r h d a f.0, expression_fits p r h d b f.1)
@@ -249,14 +251,44 @@ module _ (s : Spec) (p : Places) (places : AreInBounds s p) where
     ),
   )
 
-  pub next_fits : NextReadsLaw → typed s ≡ true → (d : ℕ) → BlockFits (suc d) (next_text s p)
-  next_fits reads is_typed d = upto_fits (suc d) _ (state_len_of s.kind s) (λ i l. (
+  next_value_fits : NextReadsLaw → typed s ≡ true → (d i : ℕ) → i < state_len_of s.kind s → BlockFits (suc d) (next_value_text s p i)
+  next_value_fits reads is_typed d i l = (
     (
       ((refl, omega arith), number_is_exp (p.state + i) (omega (arith, l, places.state))),
       is_exp (written p (fixed 0)) (from_value s i) (from_bounds i) (next_term s.kind s i) (reads s is_typed i l),
     ),
     tt,
-  ))
+  )
+
+  next_loop_fits : TermFits (record (from_value s 0) { element = 0 }) 32 (next_along s.kind s) → (d n : ℕ) → 0 < n → n ≤ state_len_of s.kind s
+      → StatementFits (suc (suc d)) (next_loop s p n)
+  next_loop_fits reads d n some few = (
+    (refl, omega arith),
+    omega (arith, few, places.steps),
+    (
+      (
+        ((refl, omega arith), place_is_exp (counted_by 1) 0 p.state (omega arith) (omega (arith, some, few, places.state))),
+        is_exp (written p (counted_by 1)) (works_on (from_value s 0) 0 0)
+            (numbered_bounds p (from_value s 0) (counted_by 1) 0 0 (from_bounds 0) (omega arith) (omega arith)) (next_along s.kind s) reads,
+      ),
+      tt,
+    ),
+  )
+
+  pub next_fits : NextReadsLaw → NextAlongReadsLaw → typed s ≡ true → (d : ℕ) → BlockFits (suc (suc d)) (next_text s p)
+  next_fits reads alike_reads is_typed d = by_size (is_looped (next_alike s.kind s)) refl
+    where
+      by_size : (t : Bool) → is_looped (next_alike s.kind s) ≡ t → BlockFits (suc (suc d)) (
+          if t then next (next_loop s p (next_alike s.kind s)) (upto (λ i. next_value_text s p (next_alike s.kind s + i)) (state_len_of s.kind s - next_alike s.kind s))
+          else upto (next_value_text s p) (state_len_of s.kind s))
+      by_size true e =
+          let few = (alike_reads s is_typed).0 in
+          let some = some_looped (next_alike s.kind s) e in (
+            next_loop_fits ((alike_reads s is_typed).1 0 some) d (next_alike s.kind s) some few,
+            upto_fits (suc (suc d)) (λ i. next_value_text s p (next_alike s.kind s + i)) (state_len_of s.kind s - next_alike s.kind s)
+                (λ i l. next_value_fits reads is_typed (suc d) (next_alike s.kind s + i) (omega (arith, l, few))),
+          )
+      by_size false e = upto_fits (suc (suc d)) (next_value_text s p) (state_len_of s.kind s) (λ i l. next_value_fits reads is_typed (suc d) i l)
 
   pub values_fit : CellReadsLaw → typed s ≡ true → s.kind ≢ Sensor → (d : ℕ) → BlockFits (12 + d) (body_text s p)
   values_fit reads is_typed other d =

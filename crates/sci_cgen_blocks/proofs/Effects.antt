@@ -16,7 +16,7 @@ use Rattle.sci_kinds.proofs.LawProofs.{asks}
 use Rattle.sci_kinds.proofs.TypedLemmas.{Tests, tests, only_total}
 use Rattle.c_ast.specs.declared.Op.TheVariants.{Add, Sub, Mul, Lt, Le, Gt, Ge}
 use Rattle.c_mean.specs.Meaning.{operate, truth}
-use Rattle.c_steps.specs.Laws.{Within}
+use Rattle.c_mean.specs.Laws.{Within}
 use Rattle.sci_cgen_blocks.specs.Terms.{Readable, Term, value, input, Scratch, TermFits}
 use Rattle.sci_cgen_blocks.specs.Recipes.{given, inputs, at_most, delay_term, branch_term}
 use Rattle.sci_cgen_blocks.specs.Laws.{DelayTermLaw, BranchTermLaw}

@@ -1,5 +1,5 @@
 -- The text of one element, and of all elements together.
-use Rattle.std.proofs.Common.{◌≡◌, ℕ, zero, suc, ◌+◌, ◌<◌, ◌≤◌, inl, inr, List, [], ◌∷◌, length, Some, refl, sym, ap, ◌∙◌, subst, arith, ℤ, pos, length-append}
+use Rattle.std.proofs.Common.{◌≡◌, ℕ, zero, suc, ◌+◌, ◌^◌, ◌<◌, ◌≤◌, inl, inr, List, [], ◌∷◌, length, Some, refl, sym, ap, ◌∙◌, subst, arith, ℤ, pos, length-append}
 use Rattle.std.proofs.lemmas.Bool.{cases_lt}
 use Rattle.std.proofs.lemmas.List.{get_or_append_left, get_or_push}
 use Rattle.sci_base.specs.declared.observation.StopWord.TheVariants as stops
@@ -9,11 +9,11 @@ use Rattle.sci_kinds.specs.declared.Cell.TheVariants.{Value, Overflow, Zero}
 use Rattle.sci_kinds.specs.Table.{Answer, Values, NoFit, NoQuotient, then_cell, gathered}
 use Rattle.c_ast.specs.Syntax.{cell, set, Block, done, next}
 use Rattle.c_mean.specs.Meaning.{World, Ran, then_run, Around, run_block}
-use Rattle.c_steps.specs.Places.{get, Has, Puts, Keeps, is_scratch}
-use Rattle.c_steps.specs.Texts.{upto}
-use Rattle.c_steps.specs.Runs.{Leads, Stops}
-use Rattle.c_steps.proofs.Memory.{put_there, put_other, keeps_all, keeps_then, keeps_cell, keeps_wider}
-use Rattle.c_steps.proofs.Steps.{number_after, run_joined, then_going, then_stops, element_runs, run_done, done_leads, leads_as}
+use Rattle.c_mean.specs.Places.{get, Has, Puts, Keeps, is_scratch}
+use Rattle.c_mean.specs.Texts.{upto}
+use Rattle.c_mean.specs.Runs.{Leads, Stops}
+use Rattle.c_mean.proofs.Memory.{put_there, put_other, keeps_all, keeps_then, keeps_cell, keeps_wider}
+use Rattle.c_mean.proofs.Steps.{number_after, run_joined, then_going, then_stops, element_runs, run_done, done_leads, leads_as}
 use Rattle.sci_cgen_blocks.specs.Terms.{Given, Scratch, value, Recipe, Gives, Readable, RecipeFits}
 use Rattle.sci_cgen_blocks.specs.Texts.{Which, fixed, counted_by, Places, written, values, scratch_name, element_place, expression, recipe_text}
 use Rattle.sci_cgen_blocks.proofs.Shown.{IsFor, ShowsGiven, place_is, expression_is, IsWorked}
@@ -39,7 +39,7 @@ DoesTurn q p e w Zero r = Stops r stops.Zero p.number
 
 -- ---- one element
 
-module _ (env : Around) (p : Places) (r : Readable) (g : Given) (w : World) (there : Has w values (p.outs + g.element)) where
+module _ (env : Around) (p : Places) (r : Readable) (g : Given) (w : World) (there : Has w values (p.outs + g.element)) (small : p.outs + g.element < 2 ^ 63) where
   abbrev place : ℕ
   place = p.outs + g.element
 
@@ -55,7 +55,7 @@ module _ (env : Around) (p : Places) (r : Readable) (g : Given) (w : World) (the
       → Leads (run_block env k (next (set (cell values (element_place p.which p.outs)) (expression p x.value)) done) w') (Behind v)
   put_leads x k s v w' f h is =
       element_runs (λ q. Leads q (Behind v)) env k values (element_place p.which p.outs) (expression p x.value) done w' place v
-      (place_is p.which p r g.element p.outs w' h.shows.which (λ c n. n.outs)) (expression_is p r g s w' h.shows 32 x.value f.1 ∙ is)
+      (place_is p.which p r g.element p.outs w' h.shows.which (λ c n. small)) (expression_is p r g s w' h.shows 32 x.value f.1 ∙ is)
       (h.keeps.there values place there)
       (λ k'' w'' q. done_leads env k'' w'' (
         keeps_then h.keeps (keeps_cell is_scratch values place 1 w' w'' place v (omega arith) (omega arith) q),

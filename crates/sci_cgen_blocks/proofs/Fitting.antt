@@ -11,7 +11,7 @@ use Rattle.sci_base.specs.Fit.{low, high, span, wrap, fit}
 use Rattle.sci_base.proofs.FitLemmas.{low_at_least, high_at_most, low+span, span_pos, span_at_most, fit_inside, fit_below, fit_above, low≤high, rem_bounds}
 use Rattle.c_ast.specs.declared.Op.TheVariants.{Add, Sub, Rem}
 use Rattle.c_mean.specs.Meaning.{operate}
-use Rattle.c_steps.specs.Laws.{Within}
+use Rattle.c_mean.specs.Laws.{Within}
 use Rattle.sci_cgen_blocks.proofs.Operators.{add_is, sub_is, rem_by}
 
 -- ---- remainders

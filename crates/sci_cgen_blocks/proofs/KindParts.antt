@@ -3,7 +3,7 @@ use Rattle.std.proofs.Common.{◌≡◌, ◌≤◌, ◌<◌, ℕ, zero, suc, ◌
 use Rattle.std.proofs.lemmas.List.{drop_more}
 use Rattle.sci_forms.specs.declared.ports.Port.{Port}
 use Rattle.sci_forms.specs.Ports.{elements, port_at, no_port, total}
-use Rattle.sci_cgen_blocks.specs.Terms.{Term, constant, input, along, state, state_along, mask, scratch, both, Work, assign, assign_if, Step, change, stop_if, repeat, Recipe, Readable, TermFits, WorkFits, WorksFit, StepFits, StepsFit, RecipeFits}
+use Rattle.sci_cgen_blocks.specs.Terms.{Term, constant, input, along, state, state_along, state_behind, mask, scratch, both, Work, assign, assign_if, Step, change, stop_if, repeat, Recipe, Readable, TermFits, WorkFits, WorksFit, StepFits, StepsFit, RecipeFits}
 use Rattle.sci_cgen_blocks.specs.Plain.{AreSpelled, IsWorkSpelled, AreWorksSpelled, IsStepSpelled, AreStepsSpelled, IsRecipeSpelled}
 use Rattle.sci_cgen_blocks.proofs.Written.{all_dropped}
 use Rattle.sci_cgen_blocks.specs.Recipes.{flat_from}
@@ -29,6 +29,7 @@ fits_spelled r (suc d) (input k e) h = tt
 fits_spelled r (suc d) (along k) h = tt
 fits_spelled r (suc d) (state i) h = tt
 fits_spelled r (suc d) state_along h = tt
+fits_spelled r (suc d) state_behind h = tt
 fits_spelled r (suc d) mask h = tt
 fits_spelled r (suc d) (scratch n) h = tt
 fits_spelled r (suc d) (both op a b) h = (fits_spelled r d a h.0, fits_spelled r d b h.1)

@@ -11,13 +11,13 @@ use Rattle.sci_forms.specs.Words.{param, state_len_of}
 use Rattle.sci_kinds.specs.Asks.{Asks}
 use Rattle.sci_kinds.proofs.LawProofs.{asks}
 use Rattle.sci_cgen_blocks.specs.Terms.{IsSpelled, Way, input, each, all, WayFits}
-use Rattle.sci_cgen_blocks.specs.Recipes.{plain, recipe_of, worked_of, part_of, is_alike, scratch_of, switches, way_of, next_term, delay_term, branch_term, fed, from_value}
+use Rattle.sci_cgen_blocks.specs.Recipes.{plain, recipe_of, worked_of, part_of, is_alike, scratch_of, switches, way_of, next_term, next_alike, next_along, delay_term, branch_term, fed, from_value}
 use Rattle.sci_cgen_blocks.specs.Texts.{Places, values_text, way_text}
 use Rattle.sci_cgen_blocks.specs.Plain.{AreSpelled, IsRecipeSpelled, AreFew}
 use Rattle.sci_cgen_blocks.proofs.Bodies.{values_are}
 use Rattle.sci_cgen_blocks.proofs.Bounds.{works_on}
 use Rattle.sci_cgen_blocks.proofs.KindLaws.{cell_reads_law}
-use Rattle.sci_cgen_blocks.proofs.NextStates.{next_reads_law}
+use Rattle.sci_cgen_blocks.proofs.NextStates.{next_reads_law, next_along_reads_law}
 use Rattle.sci_cgen_blocks.proofs.KindParts.{fits_spelled, recipe_spelled}
 
 pub way_of_alike : (k : Kind) (s : Spec) → k ≢ Switch2 → k ≢ Select → k ≢ Logic → is_alike k s ≡ true → way_of k s ≡ all (worked_of k s) (recipe_of k s)
@@ -60,6 +60,9 @@ switch_spelled s h is =
 
 pub next_spelled : (s : Spec) → typed s ≡ true → (i : ℕ) → i < state_len_of s.kind s → AreSpelled (next_term s.kind s i)
 next_spelled s h i l = fits_spelled (from_value s i) 32 (next_term s.kind s i) (next_reads_law s h i l)
+
+pub along_spelled : (s : Spec) → typed s ≡ true → 0 < next_alike s.kind s → AreSpelled (next_along s.kind s)
+along_spelled s h some = fits_spelled (works_on (from_value s 0) 0 0) 32 (next_along s.kind s) ((next_along_reads_law s h).1 0 some)
 
 natural_spelled : (n : ℕ) → n ≤ 4294967296 → IsSpelled (pos n)
 natural_spelled n h = (omega (arith, ints), omega (arith, ints, h))

@@ -12,11 +12,11 @@ use Rattle.c_ast.specs.declared.Name.{Name}
 use Rattle.c_ast.specs.declared.Bound.TheVariants as bounds
 use Rattle.c_ast.specs.Syntax.{loop, Block, done, next}
 use Rattle.c_mean.specs.Meaning.{World, Ran, How, going, undefined, over, halted, quietly, on_how, then_run, later, turns, count_up, one_turn, Around, run_block}
-use Rattle.c_steps.specs.Places.{get, Has, Puts, Keeps, is_scratch}
-use Rattle.c_steps.specs.Runs.{Leads, Stops}
-use Rattle.c_steps.proofs.Memory.{put_there, put_other, keeps_all, keeps_then, keeps_spare, keeps_wider}
-use Rattle.c_steps.proofs.Steps.{then_assoc, then_same, then_going, then_stops}
-use Rattle.c_steps.proofs.Loops.{loop_runs, count_is}
+use Rattle.c_mean.specs.Places.{get, Has, Puts, Keeps, is_scratch}
+use Rattle.c_mean.specs.Runs.{Leads, Stops}
+use Rattle.c_mean.proofs.Memory.{put_there, put_other, keeps_all, keeps_then, keeps_spare, keeps_wider}
+use Rattle.c_mean.proofs.Steps.{then_assoc, then_same, then_going, then_stops}
+use Rattle.c_mean.proofs.Loops.{loop_runs, count_is}
 use Rattle.sci_cgen_blocks.specs.Texts.{counted_by, Places, values, scratch_name}
 use Rattle.sci_cgen_blocks.proofs.Elements.{DoesTurn, DoesAll, done_does}
 

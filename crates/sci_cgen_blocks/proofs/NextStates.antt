@@ -1,5 +1,5 @@
 -- The next states of the kinds that have a state.
-use Rattle.std.proofs.Common.{◌≡◌, ℕ, ◌+◌, ◌<◌, ◌≤◌, ◌≤ℤ◌, ◌+ℤ◌, Some, Bool, true, false, refl, sym, ap, ◌∙◌, ◌%◌, ◌<ℤ◌, inl, inr, arith, ℤ, pos, negsuc, if◌then◌else◌, List, length}
+use Rattle.std.proofs.Common.{◌≡◌, ◌≢◌, ℕ, suc, ◌+◌, ◌-◌, ◌<◌, ◌≤◌, ◌≤ℤ◌, ◌+ℤ◌, Some, Bool, true, false, refl, sym, ap, ◌∙◌, ◌%◌, ◌<ℤ◌, inl, inr, arith, ℤ, pos, negsuc, if◌then◌else◌, List, length, lt-ltb}
 use Rattle.std.specs.Prelude.{nat_lt, int_lt}
 use Rattle.std.specs.Int.{int_rem_euclid}
 use Rattle.std.proofs.Math.Nat.{mod-eq_of_lt, mod_self}
@@ -15,10 +15,10 @@ use Rattle.sci_kinds.specs.Asks.{Asks, IsState}
 use Rattle.sci_kinds.proofs.TypedLemmas.{before_one}
 use Rattle.sci_kinds.proofs.LawProofs.{asks}
 use Rattle.c_ast.specs.declared.Op.TheVariants.{Add, Mul, Lt}
-use Rattle.c_steps.specs.Laws.{Within}
-use Rattle.sci_cgen_blocks.specs.Terms.{constant, input, state, both, value, Scratch, Readable, TermFits, IsSpelled}
-use Rattle.sci_cgen_blocks.specs.Recipes.{natural, next_term, given, IsElement}
-use Rattle.sci_cgen_blocks.specs.Laws.{IsCount, NextLaw, NextReadsLaw}
+use Rattle.c_mean.specs.Laws.{Within}
+use Rattle.sci_cgen_blocks.specs.Terms.{constant, input, along, state, both, value, Scratch, Readable, TermFits, IsSpelled}
+use Rattle.sci_cgen_blocks.specs.Recipes.{natural, next_term, next_alike, next_along, given, IsElement}
+use Rattle.sci_cgen_blocks.specs.Laws.{IsCount, NextLaw, NextReadsLaw, NextAlongLaw, NextAlongReadsLaw}
 use Rattle.sci_cgen_blocks.proofs.Operators.{add_is, lt_is}
 use Rattle.sci_cgen_blocks.proofs.Fitting.{cases_below, lt_yes, lt_no}
 use Rattle.sci_cgen_blocks.proofs.StateKinds.{chosen}
@@ -59,8 +59,22 @@ module _ (s : Spec) (x : List ℤ) (m : ℕ) (u : List ℤ) (t : Scratch) where
   next_is ModuloCount e a st c i h = let is = c e in counted (param s 0) a.3 is.0 is.1
   next_is _ e a st c i h = absurd (omega (arith, h))
 
+  along_is : (k : Kind) → Asks k s → (i : ℕ) → i < next_alike k s
+      → value (record (given s x m u) { element = i }) t (next_along k s) ≡ Some (next_of k s x m u i)
+  along_is Dollar a i h = ap Some (given_first s x m u i)
+  along_is GatedDelay a i h = ap Some (given_first s x m u i)
+  along_is Register a i h =
+      let more : i + 1 < length s.state = omega (arith, h) in
+      let up : suc i ≡ i + 1 = omega arith in
+      ap (λ (j : ℕ). Some (at x j)) up
+      ∙ ap (λ (b : Bool). Some (if b then at x (i + 1) else at u 0)) (sym (lt-ltb (i + 1) (length s.state) more))
+  along_is _ a i h = absurd (omega (arith, h))
+
 pub next_law : NextLaw
 next_law s x m u h st c f i l t = next_is s x m u t s.kind refl (asks s h) st c i l
+
+pub next_along_law : NextAlongLaw
+next_along_law s x m u h f i l t = along_is s x m u t s.kind (asks s h) i l
 
 -- ---- what they read
 
@@ -83,3 +97,28 @@ next_reads _ s a i h = absurd (omega (arith, h))
 
 pub next_reads_law : NextReadsLaw
 next_reads_law s h i l = next_reads s.kind s (asks s h) i l
+
+along_reads : (k : Kind) (s : Spec) → Asks k s → (i : ℕ) → i < next_alike k s → TermFits (record (from_value_of k s i) { element = i }) 32 (next_along k s)
+along_reads Dollar s a i h = let n = a.0.ins_alike.sizes 0 (omega (arith, a.1)) in (omega (arith, a.1), omega (arith, h, n))
+along_reads GatedDelay s a i h = (omega (arith, a.1), omega (arith, h, before_one s.ins (omega (arith, a.1)), a.0.first_size))
+along_reads Register s a i h = (omega arith, omega (arith, h))
+along_reads _ s a i h = absurd (omega (arith, h))
+
+alike_few : (k : Kind) (s : Spec) → next_alike k s ≤ state_len_of k s
+alike_few Dollar s = omega arith
+alike_few GatedDelay s = omega arith
+alike_few _ s = omega arith
+
+pub next_along_reads_law : NextAlongReadsLaw
+next_along_reads_law s h = (alike_few s.kind s, λ i l. along_reads s.kind s (asks s h) i l)
+
+-- ---- kinds with another number of such values, and with another term
+
+pub alike_other : (k : Kind) (s : Spec) → k ≢ Dollar → k ≢ GatedDelay → next_alike k s ≡ state_len_of k s - 1
+alike_other Dollar s h i = absurd (h refl)
+alike_other GatedDelay s h i = absurd (i refl)
+alike_other _ s h i = refl
+
+pub along_other : (k : Kind) (s : Spec) → k ≢ Register → next_along k s ≡ along 0
+along_other Register s h = absurd (h refl)
+along_other _ s h = refl

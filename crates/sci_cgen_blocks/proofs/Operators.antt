@@ -5,8 +5,8 @@ use Rattle.std.proofs.lemmas.Int.{ints}
 use Rattle.sci_base.specs.Fit.{int_eq}
 use Rattle.c_ast.specs.declared.Op.TheVariants.{Add, Sub, Mul, Div, Rem, Lt, Le, Gt, Ge, Eq, Ne, And, Or}
 use Rattle.c_mean.specs.Meaning.{operate, is_zero, truth, ◌>>=◌}
-use Rattle.c_steps.specs.Laws.{Within}
-use Rattle.c_steps.proofs.Values.{in_word_is, not_zero}
+use Rattle.c_mean.specs.Laws.{Within}
+use Rattle.c_mean.proofs.Values.{in_word_is, not_zero}
 
 -- ---- numbers
 

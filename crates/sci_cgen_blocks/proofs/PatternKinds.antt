@@ -23,7 +23,7 @@ use Rattle.sci_kinds.specs.Table.{number, fitted, shifted as shifted_cell, turne
 use Rattle.c_ast.specs.declared.Op.TheVariants.{Add, Mul, Div, Rem}
 use Rattle.sci_kinds.specs.Asks.{Asks, IsAlikeSpec}
 use Rattle.sci_kinds.proofs.Ranges.{elem}
-use Rattle.c_steps.specs.Laws.{Within}
+use Rattle.c_mean.specs.Laws.{Within}
 use Rattle.sci_cgen_blocks.specs.Terms.{Given, Term, both, value, along, Scratch, Gives, RecipeFits, IsSpelled, IsScratch}
 use Rattle.sci_cgen_blocks.specs.Recipes.{result, recipe_of, wrapped, pattern as pattern_term, with_bit, without_bit, bits, floor_quotient, shifted, turned, plain, natural}
 use Rattle.sci_cgen_blocks.proofs.Operators.{sub_is, mul_is, div_by}

@@ -14,7 +14,7 @@ use Rattle.sci_base.proofs.FitLemmas.{span_pos, span_at_most}
 use Rattle.sci_kinds.specs.Table.{number}
 use Rattle.c_ast.specs.declared.Op.TheVariants.{Add, Sub, Mul, Div, Rem}
 use Rattle.c_mean.specs.Meaning.{operate}
-use Rattle.c_steps.specs.Laws.{Within}
+use Rattle.c_mean.specs.Laws.{Within}
 use Rattle.sci_cgen_blocks.specs.Terms.{Given, Term, value, Scratch}
 use Rattle.sci_cgen_blocks.specs.Recipes.{wrapped}
 use Rattle.sci_cgen_blocks.proofs.Operators.{add_is, sub_is, mul_is, div_by, rem_by}

@@ -22,8 +22,8 @@ use Rattle.sci_kinds.specs.Asks.{Asks}
 use Rattle.sci_kinds.proofs.Elements.{input_in_range, first_input_in_range}
 use Rattle.c_ast.specs.declared.Op.TheVariants.{Add, Mul, Div, Rem, Eq}
 use Rattle.c_mean.specs.Meaning.{operate, is_zero, truth}
-use Rattle.c_steps.specs.Laws.{Within}
-use Rattle.c_steps.proofs.Values.{not_zero}
+use Rattle.c_mean.specs.Laws.{Within}
+use Rattle.c_mean.proofs.Values.{not_zero}
 use Rattle.sci_cgen_blocks.specs.Terms.{Given, Term, constant, along, both, value, Scratch, stop_if, Gives, Readable, TermFits, RecipeFits, IsScratch}
 use Rattle.sci_cgen_blocks.specs.Recipes.{natural, result, set, fit_steps, halves_product, product_fits, product_is_large, large_product, product, quotient, recipe_of}
 use Rattle.sci_cgen_blocks.proofs.Operators.{add_is, mul_is, div_is, div_by, rem_by, le_is, gt_is, eq_is, ne_is, and_is, or_is}

@@ -7,13 +7,13 @@ use Rattle.std.specs.List.{list_any}
 use Rattle.std.proofs.lemmas.List.{append-nil}
 use Rattle.std.proofs.lemmas.List.Folds.{list_any-append}
 use Rattle.c_ast.specs.declared.Name.{Name}
-use Rattle.c_steps.proofs.Memory.{name_eq}
+use Rattle.c_mean.proofs.Memory.{name_eq}
 use Rattle.c_ast.specs.declared.Bound.{Bound}
 use Rattle.c_ast.specs.declared.Bound.TheVariants as bounds
-use Rattle.c_ast.specs.declared.events.Kind.{Kind}
-use Rattle.c_ast.specs.declared.events.Kind.TheVariants as kinds
-use Rattle.c_ast.specs.declared.events.Event.{Event}
-use Rattle.c_ast.specs.declared.events.Event.TheVariants as events
+use Rattle.c_ast.specs.declared.events.NameKind.{NameKind}
+use Rattle.c_ast.specs.declared.events.NameKind.TheVariants as kinds
+use Rattle.c_ast.specs.declared.events.TextEvent.{TextEvent}
+use Rattle.c_ast.specs.declared.events.TextEvent.TheVariants as events
 use Rattle.c_ast.specs.declared.events.Opened.{Opened}
 use Rattle.c_ast.specs.declared.events.Opened.TheVariants.{Branch, Turn}
 use Rattle.c_ast.specs.Syntax.{Exp, num, var, element, neg, not as denied, bin, Place, scalar, cell, Asked, more, input, until, limit, Told, start, event, value, finish, stop, Statement, set, ask, choice, loop, call, tell, Block, done, next, Function}
@@ -22,7 +22,7 @@ use Rattle.c_ast.specs.Rules.{same_name, Routine, Scope, kind_in, routine_in, is
 use Rattle.sci_cgen_blocks.specs.Keeping.{Scene, IsScalar, IsArray, ReadsWell, AssignsWell, AsksWell, TellsWell, IsBoundWell, StatementKeeps, BlockKeeps, StandsIn}
 
 -- from here on nothing is blamed
-abbrev pub IsBlameless : Scope → List Event → Type 0
+abbrev pub IsBlameless : Scope → List TextEvent → Type 0
 IsBlameless s es = (i : ℕ) → first_blamed i s es ≡ None
 
 -- The same scope, but for what the body assigns, and how deep its calls are.
@@ -61,15 +61,15 @@ goes_then c s t u g h = record {
 
 stands_on : (c : Scene) (opens : List Opened) (s s' : Scope) → StandsIn c opens s → GoesOnAs c s s' → StandsIn c opens s'
 stands_on c opens s s' h g = record {
-  scalars = λ x q. ap (λ (d : List (Name × Kind)). is_scalar (kind_in d x)) g.declared ∙ h.scalars x q;
-  arrays = λ x q. ap (λ (d : List (Name × Kind)). is_array (kind_in d x)) g.declared ∙ h.arrays x q;
+  scalars = λ x q. ap (λ (d : List (Name × NameKind)). is_scalar (kind_in d x)) g.declared ∙ h.scalars x q;
+  arrays = λ x q. ap (λ (d : List (Name × NameKind)). is_array (kind_in d x)) g.declared ∙ h.arrays x q;
   routines = λ f r q. ap (λ (d : List Routine). routine_in d f) g.routines ∙ h.routines f r q;
   blocks = g.blocks ∙ h.blocks;
   within = h.within;
 }
 
 -- one event that isn't blamed
-pub unblamed : (s : Scope) (e : Event) (es : List Event) → ((i : ℕ) → blamed_at i s e ≡ None) → ((i : ℕ) → first_blamed (i + 1) (behind i s e) es ≡ None)
+pub unblamed : (s : Scope) (e : TextEvent) (es : List TextEvent) → ((i : ℕ) → blamed_at i s e ≡ None) → ((i : ℕ) → first_blamed (i + 1) (behind i s e) es ≡ None)
     → IsBlameless s (e ∷ es)
 unblamed s e es h k i = rw (h i, k i) refl
 
@@ -79,13 +79,13 @@ some_if i b h = rw h refl
 -- ---- reads
 
 module _ (c : Scene) (opens : List Opened) (s : Scope) (stands : StandsIn c opens s) where
-  scalar_read : (x : Name) (rest : List Event) → IsScalar c x → IsBlameless s rest → IsBlameless s (events.Read x kinds.Scalar ∷ rest)
+  scalar_read : (x : Name) (rest : List TextEvent) → IsScalar c x → IsBlameless s rest → IsBlameless s (events.Read x kinds.Scalar ∷ rest)
   scalar_read x rest h go = unblamed s (events.Read x kinds.Scalar) rest (λ i. some_if i _ (ap not (stands.scalars x h))) (λ i. go (i + 1))
 
-  array_read : (x : Name) (rest : List Event) → IsArray c x → IsBlameless s rest → IsBlameless s (events.Read x kinds.Array ∷ rest)
+  array_read : (x : Name) (rest : List TextEvent) → IsArray c x → IsBlameless s rest → IsBlameless s (events.Read x kinds.Array ∷ rest)
   array_read x rest h go = unblamed s (events.Read x kinds.Array) rest (λ i. some_if i _ (ap not (stands.arrays x h))) (λ i. go (i + 1))
 
-  reads : (e : Exp) (rest : List Event) → ReadsWell c e → IsBlameless s rest → IsBlameless s (exp_events e ++ rest)
+  reads : (e : Exp) (rest : List TextEvent) → ReadsWell c e → IsBlameless s rest → IsBlameless s (exp_events e ++ rest)
   reads (num z) rest h go = go
   reads (var x) rest h go = scalar_read x rest h go
   reads (element x e) rest h go = array_read x (exp_events e ++ rest) h.0 (reads e rest h.1 go)
@@ -94,23 +94,23 @@ module _ (c : Scene) (opens : List Opened) (s : Scope) (stands : StandsIn c open
   reads (bin op a b) rest h go =
       subst (IsBlameless s) (sym (append_assoc (exp_events a) (exp_events b) rest)) (reads a (exp_events b ++ rest) h.0 (reads b rest h.1 go))
 
-  reads_two : (a b : Exp) (rest : List Event) → ReadsWell c a → ReadsWell c b → IsBlameless s rest → IsBlameless s ((exp_events a ++ exp_events b) ++ rest)
+  reads_two : (a b : Exp) (rest : List TextEvent) → ReadsWell c a → ReadsWell c b → IsBlameless s rest → IsBlameless s ((exp_events a ++ exp_events b) ++ rest)
   reads_two a b rest h k go =
       subst (IsBlameless s) (sym (append_assoc (exp_events a) (exp_events b) rest)) (reads a (exp_events b ++ rest) h (reads b rest k go))
 
-  asks : (a : Asked) (rest : List Event) → AsksWell c a → IsBlameless s rest → IsBlameless s (asked_events a ++ rest)
+  asks : (a : Asked) (rest : List TextEvent) → AsksWell c a → IsBlameless s rest → IsBlameless s (asked_events a ++ rest)
   asks (more e) rest h go = reads e rest h go
   asks (input e) rest h go = reads e rest h go
   asks until rest h go = go
   asks limit rest h go = go
 
-  reads_three : (x y z : Exp) (rest : List Event) → ReadsWell c x → ReadsWell c y → ReadsWell c z → IsBlameless s rest
+  reads_three : (x y z : Exp) (rest : List TextEvent) → ReadsWell c x → ReadsWell c y → ReadsWell c z → IsBlameless s rest
       → IsBlameless s ((exp_events x ++ (exp_events y ++ exp_events z)) ++ rest)
   reads_three x y z rest h k l go =
       subst (IsBlameless s) (sym (append_assoc (exp_events x) (exp_events y ++ exp_events z) rest))
       (reads x ((exp_events y ++ exp_events z) ++ rest) h (reads_two y z rest k l go))
 
-  tells : (t : Told) (rest : List Event) → TellsWell c t → IsBlameless s rest → IsBlameless s (told_events t ++ rest)
+  tells : (t : Told) (rest : List TextEvent) → TellsWell c t → IsBlameless s rest → IsBlameless s (told_events t ++ rest)
   tells start rest h go = go
   tells (event x y z) rest h go = reads_three x y z rest h.0 h.1 h.2 go
   tells (value x y z v) rest h go =
@@ -119,7 +119,7 @@ module _ (c : Scene) (opens : List Opened) (s : Scope) (stands : StandsIn c open
   tells (finish x) rest h go = reads x rest h go
   tells (stop x y z) rest h go = reads_three x y z rest h.0 h.1 h.2 go
 
-  bound_read : (x : Name) (n : Bound) (rest : List Event) → IsBoundWell c x n → IsBlameless s rest → IsBlameless s (bound_events n ++ rest)
+  bound_read : (x : Name) (n : Bound) (rest : List TextEvent) → IsBoundWell c x n → IsBlameless s rest → IsBlameless s (bound_events n ++ rest)
   bound_read x (bounds.Num z) rest h go = go
   bound_read x (bounds.Var y) rest h go = scalar_read y rest h.0 go
 
@@ -154,7 +154,7 @@ module _ (c : Scene) (opens : List Opened) (s : Scope) (stands : StandsIn c open
   guarded_not : (x : Name) → is_guarded opens x ≡ false → is_guarded s.blocks x ≡ false
   guarded_not x h = ap (λ (b : List Opened). is_guarded b x) stands.blocks ∙ h
 
-  places : (p : Place) (rest : List Event) → AssignsWell c opens p → ((s' : Scope) → GoesOnAs c s s' → IsBlameless s' rest)
+  places : (p : Place) (rest : List TextEvent) → AssignsWell c opens p → ((s' : Scope) → GoesOnAs c s s' → IsBlameless s' rest)
       → IsBlameless s (place_events p ++ rest)
   places (scalar x) rest h go =
       unblamed s (events.Assign x kinds.Scalar) rest (λ i. some_if i _ (either_false _ _ (ap not (stands.scalars x h.0)) (guarded_not x h.1.1)))
@@ -234,7 +234,7 @@ module _ (c : Scene) (opens : List Opened) (s : Scope) (b : Opened) (stands : St
     depth = g.depth;
   }
 
-  close_runs : (rest : List Event) → ((s' : Scope) → GoesOnAs c s s' → IsBlameless s' rest) → IsBlameless t (events.Close ∷ rest)
+  close_runs : (rest : List TextEvent) → ((s' : Scope) → GoesOnAs c s s' → IsBlameless s' rest) → IsBlameless t (events.Close ∷ rest)
   close_runs rest go =
       unblamed t events.Close rest (λ i. cond-false (is_last t.blocks) (too_deep t t.owner) None isnt_last) (λ i. go (closed t) goes_closed (i + 1))
 
@@ -242,7 +242,7 @@ module _ (c : Scene) (opens : List Opened) (s : Scope) (b : Opened) (stands : St
 
 module _ (c : Scene) where
   mutual
-    statement_keeps : (t : Statement) (opens : List Opened) (s : Scope) → StatementKeeps c opens t → StandsIn c opens s → (rest : List Event)
+    statement_keeps : (t : Statement) (opens : List Opened) (s : Scope) → StatementKeeps c opens t → StandsIn c opens s → (rest : List TextEvent)
         → ((s' : Scope) → GoesOnAs c s s' → IsBlameless s' rest) → IsBlameless s (statement_events t ++ rest)
     statement_keeps (set p e) opens s k h rest go =
         subst (IsBlameless s) (sym (append_assoc (place_events p) (exp_events e) rest))
@@ -259,8 +259,8 @@ module _ (c : Scene) where
         block_keeps b (opens ++ Branch ∷ []) t k.2 (stands_on c (opens ++ Branch ∷ []) (opened s Branch) t (stands_opened c opens s Branch h) g)
         (events.Close ∷ rest) (λ u q. close_runs c opens s Branch h u (goes_then c (opened s Branch) t u g q) rest go))) (i + 1))))
       where
-        arranged : (x y z : List Event) → (x ++ (y ++ events.Close ∷ [])) ++ z ≡ x ++ (y ++ events.Close ∷ z)
-        arranged x y z = append_assoc x (y ++ events.Close ∷ []) z ∙ ap (λ (l : List Event). x ++ l) (append_assoc y (events.Close ∷ []) z)
+        arranged : (x y z : List TextEvent) → (x ++ (y ++ events.Close ∷ [])) ++ z ≡ x ++ (y ++ events.Close ∷ z)
+        arranged x y z = append_assoc x (y ++ events.Close ∷ []) z ∙ ap (λ (l : List TextEvent). x ++ l) (append_assoc y (events.Close ∷ []) z)
     statement_keeps (loop x n b) opens s k h rest go =
         unblamed s (events.Loop x n) ((bound_events n ++ (block_events b ++ events.Close ∷ [])) ++ rest)
         (λ i. some_if i _ (either_false _ _ (ap not (h.scalars x k.0)) (either_false _ _ (guarded_not c opens s h x k.1.1) (bound_apart n k.2))))
@@ -281,8 +281,8 @@ module _ (c : Scene) where
         bound_apart (bounds.Num z) q = refl
         bound_apart (bounds.Var y) q = q.1
 
-        arranged : (x y z : List Event) → (x ++ (y ++ events.Close ∷ [])) ++ z ≡ x ++ (y ++ events.Close ∷ z)
-        arranged x y z = append_assoc x (y ++ events.Close ∷ []) z ∙ ap (λ (l : List Event). x ++ l) (append_assoc y (events.Close ∷ []) z)
+        arranged : (x y z : List TextEvent) → (x ++ (y ++ events.Close ∷ [])) ++ z ≡ x ++ (y ++ events.Close ∷ z)
+        arranged x y z = append_assoc x (y ++ events.Close ∷ []) z ∙ ap (λ (l : List TextEvent). x ++ l) (append_assoc y (events.Close ∷ []) z)
     statement_keeps (call f) opens s k h rest go =
         let is = h.routines f k.routine k.is in
         unblamed s (events.Call f) rest
@@ -292,7 +292,7 @@ module _ (c : Scene) where
     statement_keeps (tell t) opens s k h rest go = tells c opens s h t rest k (go s (goes_same c s))
 
     -- A text that keeps the rules is not blamed, and what follows it goes on in the same scope.
-    pub block_keeps : (b : Block) (opens : List Opened) (s : Scope) → BlockKeeps c opens b → StandsIn c opens s → (rest : List Event)
+    pub block_keeps : (b : Block) (opens : List Opened) (s : Scope) → BlockKeeps c opens b → StandsIn c opens s → (rest : List TextEvent)
         → ((s' : Scope) → GoesOnAs c s s' → IsBlameless s' rest) → IsBlameless s (block_events b ++ rest)
     block_keeps done opens s k h rest go = go s (goes_same c s)
     block_keeps (next t b) opens s k h rest go =
@@ -328,7 +328,7 @@ abbrev in_main : Scope → Scope
 in_main s = opens_body s None
 
 -- one more name leaves those that were declared
-kinds_stay : (f x : Name) (ds : List (Name × Kind)) (test : Option Kind → Bool) → kind_in ds f ≡ None → test None ≡ false → test (kind_in ds x) ≡ true
+kinds_stay : (f x : Name) (ds : List (Name × NameKind)) (test : Option NameKind → Bool) → kind_in ds f ≡ None → test None ≡ false → test (kind_in ds x) ≡ true
     → test (kind_in ((f, kinds.Function) ∷ ds) x) ≡ true
 kinds_stay f x ds test none out h = by_name (same_name f x) refl
   where
@@ -361,7 +361,7 @@ module _ (c : Scene) (s : Scope) (stands : StandsBefore c s) where
   only_block : (t : Scope) → t.blocks ≡ s.blocks ++ Branch ∷ [] → t.blocks ≡ Branch ∷ []
   only_block t e = e ∙ ap (λ (l : List Opened). l ++ Branch ∷ []) stands.blocks
 
-  ends_function : (f : Function) (i : ℕ) (t : Scope) → c.depth ≤ 64 → 1 ≤ c.depth → GoesOnAs c (in_function f.name i s) t → (rest : List Event)
+  ends_function : (f : Function) (i : ℕ) (t : Scope) → c.depth ≤ 64 → 1 ≤ c.depth → GoesOnAs c (in_function f.name i s) t → (rest : List TextEvent)
       → ((s' : Scope) → IsBehind c f s s' → IsBlameless s' rest) → IsBlameless t (events.Close ∷ rest)
   ends_function f i t most least g rest go =
       let last : is_last t.blocks ≡ true = ap is_last (only_block t g.blocks) in
@@ -381,7 +381,7 @@ module _ (c : Scene) (s : Scope) (stands : StandsBefore c s) where
       }) (j + 1))
 
   -- A function of a new name whose body keeps the rules is not blamed.
-  pub function_keeps : (f : Function) → kind_in s.declared f.name ≡ None → BlockKeeps c (Branch ∷ []) f.body → c.depth ≤ 64 → 1 ≤ c.depth → (rest : List Event)
+  pub function_keeps : (f : Function) → kind_in s.declared f.name ≡ None → BlockKeeps c (Branch ∷ []) f.body → c.depth ≤ 64 → 1 ≤ c.depth → (rest : List TextEvent)
       → ((s' : Scope) → IsBehind c f s s' → IsBlameless s' rest) → IsBlameless s (function_events f ++ rest)
   function_keeps f none k most least rest go =
       unblamed s (events.Function f.name) ((block_events f.body ++ events.Close ∷ []) ++ rest) (λ i. some_if i _ (ap is_some none)) (λ i.

@@ -17,10 +17,10 @@ use Rattle.sci_kinds.proofs.TypedLemmas.{Tests, tests}
 use Rattle.sci_kinds.proofs.LawProofs.{asks}
 use Rattle.c_ast.specs.Syntax.{num, var, cell, scalar, input, ask, choice, Block, done, next}
 use Rattle.c_mean.specs.Meaning.{World, Ran, then_run, truth, has_left, Around, run_block}
-use Rattle.c_steps.specs.Places.{get, Has, Puts, Takes, KeepsPlaces, is_scratch}
-use Rattle.c_steps.specs.Runs.{Stops}
-use Rattle.c_steps.proofs.Memory.{put_there, has_puts, keeps_spare, keeps_cell, keeps_places, places_then}
-use Rattle.c_steps.proofs.Steps.{more_runs, input_runs, if_runs, else_runs, done_runs, done_leads, then_stops, stop_stops}
+use Rattle.c_mean.specs.Places.{get, Has, Puts, Takes, KeepsPlaces, is_scratch}
+use Rattle.c_mean.specs.Runs.{Stops}
+use Rattle.c_mean.proofs.Memory.{put_there, has_puts, keeps_spare, keeps_cell, keeps_places, places_then}
+use Rattle.c_mean.proofs.Steps.{more_runs, input_runs, if_runs, else_runs, done_runs, done_leads, then_stops, stop_stops}
 use Rattle.sci_cgen_blocks.specs.Terms.{is_looped}
 use Rattle.sci_cgen_blocks.specs.Recipes.{scratch_of}
 use Rattle.sci_cgen_blocks.specs.Texts.{Places, values, scratch_name, stop_text, sensor_text, values_text, body_text}

@@ -3,20 +3,20 @@ use Rattle.std.proofs.Common.{◌≡◌, ℕ, zero, suc, ◌+◌, ◌^◌, ◌<�
 use Rattle.std.proofs.lemmas.Int.{ints}
 use Rattle.c_ast.specs.Syntax.{num, var}
 use Rattle.c_mean.specs.Meaning.{World, evaluate, operate}
-use Rattle.c_steps.specs.Places.{get, value_of, Has, Puts, Keeps, is_scratch}
-use Rattle.c_steps.specs.Laws.{Within}
-use Rattle.c_steps.proofs.Memory.{other_number, put_other, keeps_then, keeps_spare}
-use Rattle.c_steps.proofs.Values.{number_is, element_is, add_is}
-use Rattle.sci_cgen_blocks.specs.Terms.{Given, Term, constant, input, along, state, state_along, mask, scratch, both, Scratch, with_scratch, value, Readable, TermFits, IsScratch, IsSpelled}
+use Rattle.c_mean.specs.Places.{get, value_of, Has, Puts, Keeps, is_scratch}
+use Rattle.c_mean.specs.Laws.{Within}
+use Rattle.c_mean.proofs.Memory.{other_number, put_other, keeps_then, keeps_spare}
+use Rattle.c_mean.proofs.Values.{number_is, element_is, add_is}
+use Rattle.sci_cgen_blocks.specs.Terms.{Given, Term, constant, input, along, state, state_along, state_behind, mask, scratch, both, Scratch, with_scratch, value, Readable, TermFits, IsScratch, IsSpelled}
 use Rattle.sci_cgen_blocks.specs.Texts.{Which, fixed, counted_by, Places, values, states, masks, scratch_name, input_start, input_place, element_place, expression}
 
--- A scratch number that no recipe takes counts elements, and is at this one. Those of it that may be read and written lie at places that can be spelled.
+-- A scratch number that no recipe takes counts elements, and is at this one. Those of it that may be read lie at places that can be spelled.
 pub record IsCounted (p : Places) (r : Readable) (c e : ℕ) (w : World) : Type 0 where
   pub behind : r.scratch < c
   pub is : get w (scratch_name c) 0 ≡ Some (pos e)
   pub input : (k : ℕ) → r.input k e → input_place p k e < 2 ^ 63
   pub state : r.state e → p.state + e < 2 ^ 63
-  pub outs : p.outs + e < 2 ^ 63
+  pub next : r.state (suc e) → suc (p.state + e) < 2 ^ 63
 
 -- a text is written for this element
 abbrev pub IsFor : Which → Places → Readable → ℕ → World → Type 0
@@ -60,6 +60,11 @@ expression_is p r g s w h (suc d) state_along f =
     let here : r.state g.element = subst r.state h.same f in
     element_is states (element_place p.which p.state) w (p.state + g.element) (g.state g.element)
     (place_is p.which p r g.element p.state w h.which (λ c n. n.state here)) (h.state g.element here)
+expression_is p r g s w h (suc d) state_behind f =
+    let here : r.state (suc g.element) = subst (λ (e : ℕ). r.state (suc e)) h.same f in
+    let far : suc p.state + g.element ≡ p.state + suc g.element = omega arith in
+    element_is states (element_place p.which (suc p.state)) w (suc p.state + g.element) (g.state (suc g.element))
+    (place_is p.which p r g.element (suc p.state) w h.which (λ c n. omega (arith, n.next here))) (ap (get w states) far ∙ h.state (suc g.element) here)
 expression_is p r g s w h (suc d) mask f = h.mask
 expression_is p r g s w h (suc d) (scratch n) f = h.scratch n f.0 f.1
 expression_is p r g s w h (suc d) (both op a b) f =
@@ -89,7 +94,7 @@ shows_put p r g s w w' n v few h q = record {
       is = put_other w w' (scratch_name n) 0 v (scratch_name c) 0 q (other_number 116 n c (λ e. omega (arith, e, few, k.behind))) ∙ k.is;
       input = k.input;
       state = k.state;
-      outs = k.outs;
+      next = k.next;
     }
 
     by_number : (k : ℕ) (t : Bool) → nat_eq n k ≡ t → get w (scratch_name k) 0 ≡ Some (s k) → get w' (scratch_name k) 0 ≡ Some (with_scratch n v s k)

@@ -15,8 +15,8 @@ use Rattle.sci_kinds.proofs.LawLemmas.{gate}
 use Rattle.sci_kinds.proofs.TypedLemmas.{two_total, before_one}
 use Rattle.c_ast.specs.declared.Op.TheVariants.{Sub, Mul, Eq, Gt}
 use Rattle.c_mean.specs.Meaning.{operate, truth}
-use Rattle.c_steps.specs.Laws.{Within}
-use Rattle.c_steps.proofs.Values.{same_ints}
+use Rattle.c_mean.specs.Laws.{Within}
+use Rattle.c_mean.proofs.Values.{same_ints}
 use Rattle.sci_cgen_blocks.specs.Terms.{input, along, state, state_along, mask, both, Scratch, Gives, RecipeFits}
 use Rattle.sci_cgen_blocks.specs.Recipes.{recipe_of, natural}
 use Rattle.sci_cgen_blocks.proofs.Operators.{mul_is, gt_is}

@@ -6,11 +6,11 @@ use Rattle.sci_base.specs.declared.observation.StopWord.TheVariants.{Overflow, Z
 use Rattle.c_ast.specs.declared.Bound.TheVariants as bounds
 use Rattle.c_ast.specs.Syntax.{Exp, num, scalar, set, choice, Block, done, next}
 use Rattle.c_mean.specs.Meaning.{World, Ran, then_run, is_zero, stop_word, later, statement_count, block_count, Around, run_block, ◌>>=◌}
-use Rattle.c_steps.specs.Places.{get, value_of, Puts}
-use Rattle.c_steps.specs.Runs.{Leads, Stops}
-use Rattle.c_steps.proofs.Frames.{bind_some}
-use Rattle.c_steps.proofs.Steps.{choice_is, let_runs, done_runs, done_leads, leads_as, then_stops, stop_stops}
-use Rattle.c_steps.proofs.Loops.{for_leads}
+use Rattle.c_mean.specs.Places.{get, value_of, Puts}
+use Rattle.c_mean.specs.Runs.{Leads, Stops}
+use Rattle.c_mean.proofs.Frames.{bind_some}
+use Rattle.c_mean.proofs.Steps.{choice_is, let_runs, done_runs, done_leads, leads_as, then_stops, stop_stops}
+use Rattle.c_mean.proofs.Loops.{for_leads}
 use Rattle.sci_cgen_blocks.specs.Terms.{Given, Scratch, with_scratch, value, Work, assign, assign_if, work_under, do_work, do_works, count_on, do_turns, Step, change, stop_if, repeat, Outcome, worked, stopped, unclear, worked_by, stopped_under, do_step, then_steps, do_steps, Readable, IsScratch, WorkFits, changes, WorksFit, Spares, StepFits, StepsFit}
 use Rattle.sci_cgen_blocks.specs.Texts.{Places, scratch_name, expression, work_statement, works_text, stop_text, step_statement, steps_text}
 use Rattle.sci_cgen_blocks.proofs.Shown.{expression_is, scratch_there, IsWorked, worked_put}

@@ -12,7 +12,7 @@ use Rattle.sci_kinds.specs.Table.{mode_of, input as input_of, sum_to, cell_of}
 use Rattle.sci_kinds.specs.Asks.{Asks, IsSign}
 use Rattle.sci_kinds.proofs.Elements.{input_in_range}
 use Rattle.c_ast.specs.declared.Op.TheVariants.{Add, Sub}
-use Rattle.c_steps.specs.Laws.{Within}
+use Rattle.c_mean.specs.Laws.{Within}
 use Rattle.sci_cgen_blocks.specs.Terms.{Given, along, both, Scratch, Step, Gives, Readable, StepsFit, RecipeFits, IsScratch}
 use Rattle.sci_cgen_blocks.specs.Recipes.{result, set, fit_steps, terms, recipe_of}
 use Rattle.sci_cgen_blocks.proofs.Operators.{add_is, sub_is}

@@ -19,7 +19,7 @@ use Rattle.sci_kinds.specs.declared.Cell.TheVariants.{Value}
 use Rattle.sci_kinds.specs.Asks.{Asks}
 use Rattle.sci_kinds.proofs.TypedLemmas.{Tests, scalar_one}
 use Rattle.c_mean.specs.Meaning.{is_zero}
-use Rattle.c_steps.proofs.Values.{same_ints}
+use Rattle.c_mean.proofs.Values.{same_ints}
 use Rattle.sci_cgen_blocks.specs.Terms.{Given, input, decide, WayGives, WayFits, IsSpelled}
 use Rattle.sci_cgen_blocks.specs.Recipes.{given, entry, same_entries, are_as, row, decided, way_of}
 use Rattle.sci_cgen_blocks.proofs.Inputs.{fed_of, IsFed}

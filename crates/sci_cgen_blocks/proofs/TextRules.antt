@@ -1,5 +1,5 @@
 -- The texts of a block keep the static rules, wherever its names are declared.
-use Rattle.std.proofs.Common.{◌≡◌, ℕ, zero, suc, ◌<◌, ◌≤◌, ◌⊎◌, inl, inr, List, [], ◌∷◌, ◌++◌, Bool, true, false, if◌then◌else◌, refl, sym, ◌∙◌, subst, arith, ℤ, pos, negsuc}
+use Rattle.std.proofs.Common.{◌≡◌, ℕ, zero, suc, ◌+◌, ◌-◌, ◌<◌, ◌≤◌, ◌⊎◌, inl, inr, List, [], ◌∷◌, ◌++◌, Bool, true, false, if◌then◌else◌, refl, sym, ◌∙◌, subst, arith, ℤ, pos, negsuc}
 use Rattle.std.specs.Prelude.{◌≢◌}
 use Rattle.std.proofs.lemmas.List.Folds.{list_any-append}
 use Rattle.sci_forms.specs.declared.Kind.TheVariants.{Sensor}
@@ -14,17 +14,17 @@ use Rattle.c_ast.specs.declared.events.Opened.{Opened}
 use Rattle.c_ast.specs.declared.events.Opened.TheVariants.{Branch, Turn}
 use Rattle.c_ast.specs.Syntax.{Block, done, next}
 use Rattle.c_ast.specs.Rules.{same_name, is_hit, is_guarded}
-use Rattle.c_steps.specs.Texts.{joined, upto}
-use Rattle.c_steps.proofs.Memory.{other_number}
-use Rattle.sci_cgen_blocks.specs.Terms.{Term, constant, input, along, state, state_along, mask, scratch, both, Work, assign, assign_if, changes, Step, change, stop_if, repeat, Recipe, Way, each, all, decide, is_looped, Readable, TermFits, WorkFits, WorksFit, Spares, StepFits, StepsFit, RecipeFits, WayFits}
-use Rattle.sci_cgen_blocks.specs.Recipes.{way_of, next_term, delay_term, branch_term, scratch_of, fed, from_value, inputs}
-use Rattle.sci_cgen_blocks.specs.Texts.{Which, fixed, counted_by, Places, written, values, states, scratch_name, input_start, element_place, expression, work_statement, works_text, step_statement, steps_text, recipe_text, looped_text, way_text, sensor_text, body_text, next_text, delay_expression, branch_expression}
-use Rattle.sci_cgen_blocks.specs.Keeping.{Scene, IsScalar, ReadsWell, MayAssign, StatementKeeps, BlockKeeps, HasBlockNames, MayWork}
+use Rattle.c_mean.specs.Texts.{joined, upto}
+use Rattle.c_mean.proofs.Memory.{other_number}
+use Rattle.sci_cgen_blocks.specs.Terms.{Term, constant, input, along, state, state_along, state_behind, mask, scratch, both, Work, assign, assign_if, changes, Step, change, stop_if, repeat, Recipe, Way, each, all, decide, is_looped, Readable, TermFits, WorkFits, WorksFit, Spares, StepFits, StepsFit, RecipeFits, WayFits}
+use Rattle.sci_cgen_blocks.specs.Recipes.{way_of, next_term, next_alike, next_along, delay_term, branch_term, scratch_of, next_scratch, fed, from_value, inputs}
+use Rattle.sci_cgen_blocks.specs.Texts.{Which, fixed, counted_by, Places, written, values, states, scratch_name, input_start, element_place, expression, work_statement, works_text, step_statement, steps_text, recipe_text, looped_text, way_text, sensor_text, body_text, next_value_text, next_loop, next_text, delay_expression, branch_expression}
+use Rattle.sci_cgen_blocks.specs.Keeping.{Scene, IsScalar, ReadsWell, MayAssign, StatementKeeps, BlockKeeps, HasBlockNames, MayWork, MayStep}
 use Rattle.sci_cgen_blocks.proofs.Bodies.{values_are}
 use Rattle.sci_cgen_blocks.proofs.Sensing.{sensor_takes, sensor_values, is_kind}
 use Rattle.sci_cgen_blocks.proofs.Bounds.{works_on, some_looped, delay_reads, branch_reads}
 use Rattle.sci_cgen_blocks.proofs.KindLaws.{cell_reads_law}
-use Rattle.sci_cgen_blocks.proofs.NextStates.{next_reads_law}
+use Rattle.sci_cgen_blocks.proofs.NextStates.{next_reads_law, next_along_reads_law}
 
 -- ---- one more open block
 
@@ -60,6 +60,7 @@ module _ (c : Scene) (p : Places) (r : Readable) (names : HasBlockNames c r.scra
   reads_well (suc d) (along k) f = (names.values, place_reads c p.which (input_start p k) named)
   reads_well (suc d) (state i) f = (names.states, tt)
   reads_well (suc d) state_along f = (names.states, place_reads c p.which p.state named)
+  reads_well (suc d) state_behind f = (names.states, place_reads c p.which (suc p.state) named)
   reads_well (suc d) mask f = (names.masks, tt)
   reads_well (suc d) (scratch n) f = names.scratch n f.0 f.1
   reads_well (suc d) (both op a b) f = (reads_well d a f.0, reads_well d b f.1)
@@ -193,12 +194,52 @@ module _ (c : Scene) (s : Spec) (p : Places) (is_typed : typed s ≡ true) (name
           subst (BlockKeeps c opens) (sym (values_are s.kind s p n))
           (way_keeps c p (fed s) names (total s.outs) (way_of s.kind s) 8 opens may (cell_reads_law s is_typed n))
 
-module _ (c : Scene) (s : Spec) (p : Places) (is_typed : typed s ≡ true) (names : HasBlockNames c 0) where
-  pub next_keeps : (opens : List Opened) → MayAssign c opens states → BlockKeeps c opens (next_text s p)
-  next_keeps opens may =
-      upto_keeps c opens _ (state_len_of s.kind s) (λ i l.
-      (((names.states, may, tt), reads_well c (written p (fixed 0)) (from_value s i) names tt 32 (next_term s.kind s i) (next_reads_law s is_typed i l)), tt))
+module _ (c : Scene) (s : Spec) (p : Places) (is_typed : typed s ≡ true) (names : HasBlockNames c (next_scratch s.kind s)) where
+  no_scratch : HasBlockNames c 0
+  no_scratch = fewer_names c 0 (next_scratch s.kind s) (omega arith) names
 
+  next_value_keeps : (opens : List Opened) (i : ℕ) → i < state_len_of s.kind s → MayAssign c opens states → BlockKeeps c opens (next_value_text s p i)
+  next_value_keeps opens i l may = (
+    (
+      (names.states, may, tt),
+      reads_well c (written p (fixed 0)) (from_value s i) no_scratch tt 32 (next_term s.kind s i) (next_reads_law s is_typed i l),
+    ),
+    tt,
+  )
+
+  next_loop_keeps : (opens : List Opened) (n : ℕ) → 1 ≤ next_scratch s.kind s → MayStep c opens (next_scratch s.kind s)
+      → TermFits (works_on (from_value s 0) 0 0) 32 (next_along s.kind s) → StatementKeeps c opens (next_loop s p n)
+  next_loop_keeps opens n some may fits =
+      let counter : IsScalar c (scratch_name 1) = names.scratch 1 (omega arith) some in (
+        counter,
+        may.scratch 1 (omega arith) some,
+        tt,
+        (
+          (
+            (names.states, turn_more c opens states (scratch_name 1) (pos n) may.states refl, (counter, tt)),
+            reads_well c (written p (counted_by 1)) (works_on (from_value s 0) 0 0) no_scratch counter 32 (next_along s.kind s) fits,
+          ),
+          tt,
+        ),
+      )
+
+  pub next_keeps : (opens : List Opened) → MayStep c opens (next_scratch s.kind s) → BlockKeeps c opens (next_text s p)
+  next_keeps opens may = by_size (is_looped (next_alike s.kind s)) refl
+    where
+      by_size : (t : Bool) → is_looped (next_alike s.kind s) ≡ t → BlockKeeps c opens (
+          if t then next (next_loop s p (next_alike s.kind s)) (upto (λ i. next_value_text s p (next_alike s.kind s + i)) (state_len_of s.kind s - next_alike s.kind s))
+          else upto (next_value_text s p) (state_len_of s.kind s))
+      by_size true e =
+          let reads = next_along_reads_law s is_typed in
+          let few = reads.0 in
+          let room : 1 ≤ next_scratch s.kind s = subst (λ (t : Bool). 1 ≤ (if t then 1 else 0)) (sym e) (omega arith) in (
+            next_loop_keeps opens (next_alike s.kind s) room may (reads.1 0 (some_looped (next_alike s.kind s) e)),
+            upto_keeps c opens (λ i. next_value_text s p (next_alike s.kind s + i)) (state_len_of s.kind s - next_alike s.kind s)
+                (λ i l. next_value_keeps opens (next_alike s.kind s + i) (omega (arith, l, few)) may.states),
+          )
+      by_size false e = upto_keeps c opens (next_value_text s p) (state_len_of s.kind s) (λ i l. next_value_keeps opens i l may.states)
+
+module _ (c : Scene) (s : Spec) (p : Places) (is_typed : typed s ≡ true) (names : HasBlockNames c 0) where
   pub delay_keeps : has_delay s.kind ≡ true → ReadsWell c (delay_expression s p)
   delay_keeps has = reads_well c (written p (fixed 0)) (inputs s) names tt 32 (delay_term s.kind s) (delay_reads s is_typed has)
 

@@ -8,27 +8,27 @@ use Rattle.std.proofs.lemmas.Bool.Decides.{nat_tests}
 use Rattle.c_ast.specs.declared.Name.{Name}
 use Rattle.c_ast.specs.declared.Bound.{Bound}
 use Rattle.c_ast.specs.declared.Bound.TheVariants as bounds
-use Rattle.c_ast.specs.declared.events.Kind.{Kind}
-use Rattle.c_ast.specs.declared.events.Kind.TheVariants as kinds
-use Rattle.c_ast.specs.declared.events.Event.{Event}
+use Rattle.c_ast.specs.declared.events.NameKind.{NameKind}
+use Rattle.c_ast.specs.declared.events.NameKind.TheVariants as kinds
+use Rattle.c_ast.specs.declared.events.TextEvent.{TextEvent}
 use Rattle.c_ast.specs.declared.events.Opened.{Opened}
 use Rattle.c_ast.specs.declared.events.Opened.TheVariants.{Branch, Turn}
 use Rattle.c_ast.specs.Syntax.{Block, Declared, Function}
 use Rattle.c_ast.specs.Events.{declared_event, function_events, main_events}
 use Rattle.c_ast.specs.Rules.{same_name, Routine, Scope, outset, kind_in, routine_in, is_scalar, is_array, is_among, is_hit, is_bound, elements_of, is_too_large, kind_of, behind, KeepsRules}
-use Rattle.c_steps.proofs.Memory.{name_eq, name_same}
+use Rattle.c_mean.proofs.Memory.{name_eq, name_same}
 use Rattle.sci_cgen_blocks.specs.Keeping.{Scene, CallsWell, BlockKeeps}
 use Rattle.sci_cgen_blocks.proofs.Rules.{IsBlameless, StandsBefore, IsBehind, unblamed, some_if, either_false, function_keeps, main_keeps}
 
 -- ---- declarations
 
 -- what is declared behind these variables
-abbrev pub declaring : List Declared → List (Name × Kind) → List (Name × Kind)
+abbrev pub declaring : List Declared → List (Name × NameKind) → List (Name × NameKind)
 declaring [] ks = ks
 declaring (d ∷ ds) ks = declaring ds ((d.name, kind_of d.size) ∷ ks)
 
 -- none of these is declared before
-abbrev pub AreNew : List Declared → List (Name × Kind) → Type 0
+abbrev pub AreNew : List Declared → List (Name × NameKind) → Type 0
 AreNew [] ks = Unit {0}
 AreNew (d ∷ ds) ks = (kind_in ks d.name ≡ None) × AreNew ds ((d.name, kind_of d.size) ∷ ks)
 
@@ -43,7 +43,7 @@ not_too_large sum (Some n) h = by_sum (sum + n) h
     by_sum : (m : ℕ) → m ≤ 16777216 → nat_lt 16777216 m ≡ false
     by_sum m h = grind (arith, nat_tests)
 
-declared_keep : (ds : List Declared) (s : Scope) → AreNew ds s.declared → s.elements + sizes ds ≤ 16777216 → (rest : List Event)
+declared_keep : (ds : List Declared) (s : Scope) → AreNew ds s.declared → s.elements + sizes ds ≤ 16777216 → (rest : List TextEvent)
     → IsBlameless (record s { declared = declaring ds s.declared; elements = s.elements + sizes ds }) rest → IsBlameless s (map declared_event ds ++ rest)
 declared_keep [] s fresh few rest go = subst (λ (n : ℕ). IsBlameless (record s { elements = n }) rest) (omega arith) go
 declared_keep (d ∷ ds) s fresh few rest go =
@@ -56,11 +56,11 @@ declared_keep (d ∷ ds) s fresh few rest go =
 -- ---- functions
 
 -- these names, each new
-abbrev pub AreNewFunctions : List Function → List (Name × Kind) → Type 0
+abbrev pub AreNewFunctions : List Function → List (Name × NameKind) → Type 0
 AreNewFunctions [] ks = Unit {0}
 AreNewFunctions (f ∷ fs) ks = (kind_in ks f.name ≡ None) × AreNewFunctions fs ((f.name, kinds.Function) ∷ ks)
 
-abbrev pub declaring_functions : List Function → List (Name × Kind) → List (Name × Kind)
+abbrev pub declaring_functions : List Function → List (Name × NameKind) → List (Name × NameKind)
 declaring_functions [] ks = ks
 declaring_functions (f ∷ fs) ks = declaring_functions fs ((f.name, kinds.Function) ∷ ks)
 
@@ -117,8 +117,8 @@ module _ (c : Scene) (most : c.depth ≤ 64) (least : 1 ≤ c.depth) where
       deep = b.depth;
     }
 
-    kind_kept : (x : Name) (test : Option Kind → Bool) → test None ≡ false → test (kind_in s.declared x) ≡ true → test (kind_in t.declared x) ≡ true
-    kind_kept x test out h = ap (λ (l : List (Name × Kind)). test (kind_in l x)) b.declared ∙ by_name (same_name f.name x) refl
+    kind_kept : (x : Name) (test : Option NameKind → Bool) → test None ≡ false → test (kind_in s.declared x) ≡ true → test (kind_in t.declared x) ≡ true
+    kind_kept x test out h = ap (λ (l : List (Name × NameKind)). test (kind_in l x)) b.declared ∙ by_name (same_name f.name x) refl
       where
         by_name : (q : Bool) → same_name f.name x ≡ q → test (if q then Some kinds.Function else kind_in s.declared x) ≡ true
         by_name true e = absurd (true≢false (sym h ∙ (ap test (subst (λ (y : Name). kind_in s.declared y ≡ None) (name_eq f.name x e) new) ∙ out)))
@@ -126,7 +126,7 @@ module _ (c : Scene) (most : c.depth ≤ 64) (least : 1 ≤ c.depth) where
 
     -- a name that isn't declared behind the function was not declared before, and is another
     not_before : (g : Name) → kind_in t.declared g ≡ None → (same_name f.name g ≡ false) × (kind_in s.declared g ≡ None)
-    not_before g h = by_name (same_name f.name g) refl (ap (λ (l : List (Name × Kind)). kind_in l g) (sym b.declared) ∙ h)
+    not_before g h = by_name (same_name f.name g) refl (ap (λ (l : List (Name × NameKind)). kind_in l g) (sym b.declared) ∙ h)
       where
         by_name : (q : Bool) → same_name f.name g ≡ q → (if q then Some kinds.Function else kind_in s.declared g) ≡ None
             → (same_name f.name g ≡ false) × (kind_in s.declared g ≡ None)
@@ -152,7 +152,7 @@ module _ (c : Scene) (most : c.depth ≤ 64) (least : 1 ≤ c.depth) where
             between.declared g r (sym (cond-false (same_name b.routine.name g) (Some b.routine) (routine_in s.routines g) e) ∙ h) none
 
   -- Functions whose bodies keep the rules are not blamed.
-  functions_keep : (fs : List Function) (s : Scope) → IsBetween c s → AreNewFunctions fs s.declared → AllKeep c fs → (rest : List Event)
+  functions_keep : (fs : List Function) (s : Scope) → IsBetween c s → AreNewFunctions fs s.declared → AllKeep c fs → (rest : List TextEvent)
       → ((t : Scope) → IsBetween c t → Remembers s t → AreKnown c.may c.depth (routine_in t.routines) fs → t.declared ≡ declaring_functions fs s.declared
       → t.elements ≡ s.elements → IsBlameless t rest)
       → IsBlameless s (flat_map function_events fs ++ rest)
@@ -208,8 +208,8 @@ stands_between : (c : Scene) (ds : List Declared) (may : Name → Bool) (depth :
     → IsBetween (scene ds (routine_in s.routines) may depth) s
 stands_between c ds may depth s e b = record {
   stands = record {
-    scalars = λ x h. b.stands.scalars x (ap (λ (k : Name → Option Kind). is_scalar (k x)) e ∙ h);
-    arrays = λ x h. b.stands.arrays x (ap (λ (k : Name → Option Kind). is_array (k x)) e ∙ h);
+    scalars = λ x h. b.stands.scalars x (ap (λ (k : Name → Option NameKind). is_scalar (k x)) e ∙ h);
+    arrays = λ x h. b.stands.arrays x (ap (λ (k : Name → Option NameKind). is_array (k x)) e ∙ h);
     routines = λ f r h. h;
     blocks = b.stands.blocks;
   };
@@ -261,5 +261,5 @@ program_keeps ds first second main may new few new_first new_second keep_first k
     arranged : flat_map function_events (first ++ second) ++ main_events main
         ≡ flat_map function_events first ++ (flat_map function_events second ++ main_events main)
     arranged =
-        ap (λ (l : List Event). l ++ main_events main) (flat_map-append function_events first second)
+        ap (λ (l : List TextEvent). l ++ main_events main) (flat_map-append function_events first second)
         ∙ append_assoc (flat_map function_events first) (flat_map function_events second) (main_events main)

@@ -13,8 +13,8 @@ use Rattle.sci_kinds.specs.declared.Cell.TheVariants.{Value, Overflow, Zero}
 use Rattle.sci_kinds.specs.Table.{fitted}
 use Rattle.c_ast.specs.declared.Op.TheVariants.{Lt, Gt}
 use Rattle.c_mean.specs.Meaning.{truth, ◌>>=◌}
-use Rattle.c_steps.specs.Laws.{Within}
-use Rattle.sci_cgen_blocks.specs.Terms.{Given, Term, constant, input, along, state, state_along, mask, scratch, both, value, Scratch, with_scratch, Step, change, assign, assign_if, stop_if, worked, worked_by, do_step, Gives, work_under, stopped_under, Readable, TermFits, StepsFit, IsSpelled, IsScratch}
+use Rattle.c_mean.specs.Laws.{Within}
+use Rattle.sci_cgen_blocks.specs.Terms.{Given, Term, constant, input, along, state, state_along, state_behind, mask, scratch, both, value, Scratch, with_scratch, Step, change, assign, assign_if, stop_if, worked, worked_by, do_step, Gives, work_under, stopped_under, Readable, TermFits, StepsFit, IsSpelled, IsScratch}
 use Rattle.sci_cgen_blocks.specs.Recipes.{result, set_if, fit_steps}
 use Rattle.sci_cgen_blocks.proofs.Operators.{lt_is, gt_is}
 use Rattle.sci_cgen_blocks.proofs.Fitting.{wrapped_is, fit_wrap, cases_below, lt_yes, lt_no}
@@ -159,6 +159,7 @@ TermReads r (input k e) = r.input k e
 TermReads r (along k) = r.input k r.element
 TermReads r (state i) = r.state i
 TermReads r state_along = r.state r.element
+TermReads r state_behind = r.state (suc r.element)
 TermReads r mask = Unit {0}
 TermReads r (scratch n) = IsScratch r n
 TermReads r (both op a b) = TermReads r a × TermReads r b
@@ -174,6 +175,7 @@ reads_fit r zero (input k e) h l = absurd (omega (arith, l))
 reads_fit r zero (along k) h l = absurd (omega (arith, l))
 reads_fit r zero (state i) h l = absurd (omega (arith, l))
 reads_fit r zero state_along h l = absurd (omega (arith, l))
+reads_fit r zero state_behind h l = absurd (omega (arith, l))
 reads_fit r zero mask h l = absurd (omega (arith, l))
 reads_fit r zero (scratch n) h l = absurd (omega (arith, l))
 reads_fit r zero (both op a b) h l = absurd (omega (arith, l))
@@ -182,6 +184,7 @@ reads_fit r (suc d) (input k e) h l = h
 reads_fit r (suc d) (along k) h l = h
 reads_fit r (suc d) (state i) h l = h
 reads_fit r (suc d) state_along h l = h
+reads_fit r (suc d) state_behind h l = h
 reads_fit r (suc d) mask h l = h
 reads_fit r (suc d) (scratch n) h l = h
 reads_fit r (suc d) (both op a b) h l = (reads_fit r d a h.0 (omega (arith, l)), reads_fit r d b h.1 (omega (arith, l)))

@@ -5,7 +5,7 @@ use Rattle.c_ast.specs.declared.Stmt.{Stmt}
 use Rattle.c_ast.specs.declared.Bound.TheVariants as bounds
 use Rattle.c_ast.specs.Syntax.{Statement, Block, done, next, set, cell, loop}
 use Rattle.c_ast.specs.View.{statement_of, statements_of}
-use Rattle.c_steps.specs.Texts.{joined, upto}
+use Rattle.c_mean.specs.Texts.{joined, upto}
 use Rattle.sci_cgen_blocks.specs.Terms.{Step, Recipe}
 use Rattle.sci_cgen_blocks.specs.Texts.{counted_by, Places, written, values, scratch_name, element_place, expression, step_statement, steps_text, recipe_text, looped_text}
 
@@ -35,6 +35,12 @@ statement_done xs ys s first come rest all e is cut so_far =
 -- A text was pushed, the next of those of elements.
 pub upto_more : (f : ℕ → Block) (k : ℕ) (a b : Block) → a ≡ joined b (f k) → b ≡ upto f k → a ≡ upto f (k + 1)
 upto_more f k a b e so_far = let next : suc k ≡ k + 1 = omega arith in e ∙ ap (λ x. joined x (f k)) so_far ∙ ap (upto f) next
+
+-- and behind what was there
+pub behind_more : (f : ℕ → Block) (k : ℕ) (old mid new : Block) → mid ≡ joined old (upto f k) → new ≡ joined mid (f k) → new ≡ joined old (upto f (k + 1))
+behind_more f k old mid new so_far e =
+    let up : suc k ≡ k + 1 = omega arith in
+    e ∙ ap (λ (b : Block). joined b (f k)) so_far ∙ joined_assoc old (upto f k) (f k) ∙ ap (λ (j : ℕ). joined old (upto f j)) up
 
 -- ---- lists that are gone through
 

@@ -5,7 +5,7 @@ use Rattle.std.specs.List.{list_any}
 use Rattle.c_ast.specs.declared.Name.{Name}
 use Rattle.c_ast.specs.declared.Bound.{Bound}
 use Rattle.c_ast.specs.declared.Bound.TheVariants as bounds
-use Rattle.c_ast.specs.declared.events.Kind.{Kind}
+use Rattle.c_ast.specs.declared.events.NameKind.{NameKind}
 use Rattle.c_ast.specs.declared.events.Opened.{Opened}
 use Rattle.c_ast.specs.declared.events.Opened.TheVariants.{Branch, Turn}
 use Rattle.c_ast.specs.Syntax.{Exp, num, var, element, neg, not, bin, Place, scalar, cell, Asked, more, input, until, limit, Told, start, event, value, finish, stop, Statement, set, ask, choice, loop, call, tell, Block, done, next}
@@ -14,7 +14,7 @@ use Rattle.sci_cgen_blocks.specs.Texts.{values, states, masks, scratch_name}
 
 -- What a text finds: what each name is declared as, the functions that stand earlier; and which names it may assign, and how deep its calls may be.
 pub record Scene : Type 0 where
-  pub kinds : Name → Option Kind
+  pub kinds : Name → Option NameKind
   pub routines : Name → Option Routine
   pub may : Name → Bool
   pub depth : ℕ
@@ -96,6 +96,11 @@ pub record HasBlockNames (c : Scene) (k : ℕ) : Type 0 where
   pub states : IsArray c states
   pub masks : IsArray c masks
   pub scratch : (n : ℕ) → 1 ≤ n → n ≤ k → IsScalar c (scratch_name n)
+
+-- scratch and states may be assigned
+pub record MayStep (c : Scene) (opens : List Opened) (k : ℕ) : Type 0 where
+  pub states : MayAssign c opens states
+  pub scratch : (n : ℕ) → 1 ≤ n → n ≤ k → MayAssign c opens (scratch_name n)
 
 -- scratch and values may be assigned
 pub record MayWork (c : Scene) (opens : List Opened) (k : ℕ) : Type 0 where

@@ -1,5 +1,5 @@
 -- The ways are right: each gives what the table of kinds says, and reads nothing but what the block has. And so are the texts made of them.
-use Rattle.std.specs.Prelude.{◌≡◌, ◌≢◌, ℕ, suc, ◌+◌, ◌<◌, ℤ, pos, ◌≤ℤ◌, ◌<ℤ◌, List, Some, None, true}
+use Rattle.std.specs.Prelude.{◌≡◌, ◌≢◌, ℕ, suc, ◌+◌, ◌<◌, ◌≤◌, ℤ, pos, ◌≤ℤ◌, ◌<ℤ◌, List, Some, None, true}
 use Rattle.sci_forms.specs.declared.Kind.TheVariants.{Sensor, ModuloCount}
 use Rattle.sci_base.specs.Lists.{at}
 use Rattle.sci_forms.specs.declared.spec.Spec.{Spec}
@@ -15,13 +15,13 @@ use Rattle.c_ast.specs.Bounds.{BlockFits, IsExp}
 use Rattle.c_ast.specs.Events.{block_events}
 use Rattle.c_ast.specs.Rules.{Scope, first_blamed}
 use Rattle.c_mean.specs.Meaning.{World, Around, run_block}
-use Rattle.c_steps.specs.Places.{HasValue, Has}
-use Rattle.c_steps.specs.Texts.{block_within}
+use Rattle.c_mean.specs.Places.{HasValue, Has}
+use Rattle.c_mean.specs.Texts.{block_within}
 use Rattle.sci_cgen_blocks.specs.Terms.{Scratch, WayGives, value, WayFits, TermFits}
-use Rattle.sci_cgen_blocks.specs.Recipes.{way_of, next_term, delay_term, branch_term, scratch_of, given, fed, from_value, inputs}
-use Rattle.sci_cgen_blocks.specs.Texts.{Places, values, states, scratch_name, body_text, next_text, delay_expression, branch_expression}
-use Rattle.sci_cgen_blocks.specs.Meant.{Holds, HasScratch, IsFed, IsAny, IsApart, Answers, NextIs, Senses, AreInBounds, body_may, next_may}
-use Rattle.sci_cgen_blocks.specs.Keeping.{Scene, ReadsWell, MayAssign, BlockKeeps, StandsIn, HasBlockNames, MayWork}
+use Rattle.sci_cgen_blocks.specs.Recipes.{way_of, next_term, next_alike, next_along, delay_term, branch_term, scratch_of, next_scratch, given, fed, from_value, inputs}
+use Rattle.sci_cgen_blocks.specs.Texts.{Places, values, scratch_name, body_text, next_text, delay_expression, branch_expression}
+use Rattle.sci_cgen_blocks.specs.Meant.{Holds, HasScratch, HasNextScratch, IsFed, IsAny, IsApart, Answers, NextIs, Senses, AreInBounds, body_may, next_may}
+use Rattle.sci_cgen_blocks.specs.Keeping.{Scene, ReadsWell, BlockKeeps, StandsIn, HasBlockNames, MayWork, MayStep}
 
 -- the way gives each element's cell, whatever scratch holds before
 abbrev pub CellLaw : Type 0
@@ -44,6 +44,17 @@ NextLaw =
 
 abbrev pub NextReadsLaw : Type 0
 NextReadsLaw = (s : Spec) → typed s ≡ true → (i : ℕ) → i < state_len_of s.kind s → TermFits (from_value s i) 32 (next_term s.kind s i)
+
+-- Where values of the next state are worked out alike, the term gives the element that is worked out, and reads the inputs and the state from this element on.
+abbrev pub NextAlongLaw : Type 0
+NextAlongLaw =
+    (s : Spec) (x : List ℤ) (m : ℕ) (u : List ℤ) → typed s ≡ true → Fills s.ins u → (i : ℕ) → i < next_alike s.kind s → (t : Scratch)
+    → value (record (given s x m u) { element = i }) t (next_along s.kind s) ≡ Some (next_of s.kind s x m u i)
+
+abbrev pub NextAlongReadsLaw : Type 0
+NextAlongReadsLaw =
+    (s : Spec) → typed s ≡ true → (next_alike s.kind s ≤ state_len_of s.kind s)
+    × ((i : ℕ) → i < next_alike s.kind s → TermFits (record (from_value s i) { element = i }) 32 (next_along s.kind s))
 
 abbrev pub DelayTermLaw : Type 0
 DelayTermLaw =
@@ -75,7 +86,7 @@ SensorLaw =
 abbrev pub NextStateLaw : Type 0
 NextStateLaw =
     (env : Around) (s : Spec) (p : Places) (x : List ℤ) (m : ℕ) (u : List ℤ) (n : ℕ) (w : World) → typed s ≡ true → IsState s x → IsCount s x → Fills s.ins u
-    → Holds s p IsAny x m u w → NextIs s p w (next_of s.kind s x m u) (run_block env n (next_text s p) w)
+    → Holds s p IsAny x m u w → HasNextScratch s w → AreInBounds s p → NextIs s p w (next_of s.kind s x m u) (run_block env n (next_text s p) w)
 
 -- and there the delay of activation output q and the branch have the values of the table
 abbrev pub DelayLaw : Type 0
@@ -95,10 +106,10 @@ pub record MayLaw : Type 0 where
   pub body : (s : Spec) (p : Places) → block_within (body_may s) (body_text s p) ≡ true
   pub next : (s : Spec) (p : Places) → block_within next_may (next_text s p) ≡ true
 
--- They are within the bounds of the subset: the values nested at most twelve deep, the next state not at all.
+-- They are within the bounds of the subset: the values nested at most twelve deep, the next state two.
 pub record BoundsLaw : Type 0 where
   pub body : (s : Spec) (p : Places) → typed s ≡ true → AreInBounds s p → (d : ℕ) → BlockFits (12 + d) (body_text s p)
-  pub next : (s : Spec) (p : Places) → typed s ≡ true → AreInBounds s p → (d : ℕ) → BlockFits (suc d) (next_text s p)
+  pub next : (s : Spec) (p : Places) → typed s ≡ true → AreInBounds s p → (d : ℕ) → BlockFits (suc (suc d)) (next_text s p)
   pub delay : (s : Spec) (p : Places) → typed s ≡ true → has_delay s.kind ≡ true → AreInBounds s p → IsExp (delay_expression s p)
   pub branch : (s : Spec) (p : Places) → typed s ≡ true → is_sync s.kind ≡ true → AreInBounds s p → IsExp (branch_expression s p)
 
@@ -108,7 +119,7 @@ pub record RulesLaw : Type 0 where
       → first_blamed i s (block_events b) ≡ None
   pub body : (c : Scene) (s : Spec) (p : Places) (opens : List Opened) → typed s ≡ true → HasBlockNames c (scratch_of s.kind s)
       → MayWork c opens (scratch_of s.kind s) → BlockKeeps c opens (body_text s p)
-  pub next : (c : Scene) (s : Spec) (p : Places) (opens : List Opened) → typed s ≡ true → HasBlockNames c 0 → MayAssign c opens states
-      → BlockKeeps c opens (next_text s p)
+  pub next : (c : Scene) (s : Spec) (p : Places) (opens : List Opened) → typed s ≡ true → HasBlockNames c (next_scratch s.kind s)
+      → MayStep c opens (next_scratch s.kind s) → BlockKeeps c opens (next_text s p)
   pub delay : (c : Scene) (s : Spec) (p : Places) → typed s ≡ true → has_delay s.kind ≡ true → HasBlockNames c 0 → ReadsWell c (delay_expression s p)
   pub branch : (c : Scene) (s : Spec) (p : Places) → typed s ≡ true → is_sync s.kind ≡ true → HasBlockNames c 0 → ReadsWell c (branch_expression s p)

@@ -9,10 +9,10 @@ use Rattle.sci_forms.specs.Words.{state_len_of}
 use Rattle.sci_kinds.specs.Table.{Answer, Values, NoFit, NoQuotient}
 use Rattle.c_mean.specs.Meaning.{World, Ran, same_name}
 use Rattle.sci_base.specs.declared.observation.StopWord.TheVariants.{Overflow, Zero, Input}
-use Rattle.c_steps.specs.Places.{get, Has, Keeps, KeepsPlaces, is_scratch}
-use Rattle.c_steps.specs.Texts.{May, assigns_only}
-use Rattle.c_steps.specs.Runs.{Leads, Stops}
-use Rattle.sci_cgen_blocks.specs.Recipes.{scratch_of, IsElement}
+use Rattle.c_mean.specs.Places.{get, Has, Keeps, KeepsPlaces, is_scratch}
+use Rattle.c_mean.specs.Texts.{May, assigns_only}
+use Rattle.c_mean.specs.Runs.{Leads, Stops}
+use Rattle.sci_cgen_blocks.specs.Recipes.{scratch_of, next_scratch, IsElement}
 use Rattle.sci_cgen_blocks.specs.Texts.{Places, values, states, masks, scratch_name, input_place}
 
 -- A memory holds a block's state, its mask and those of its inputs that are asked for; its outputs and its state are there.
@@ -25,6 +25,10 @@ pub record Holds (s : Spec) (p : Places) (wanted : ℕ → Type 0) (x : List ℤ
 -- so are the scratch numbers that its values take
 abbrev pub HasScratch : Spec → World → Type 0
 HasScratch s w = (n : ℕ) → 1 ≤ n → n ≤ scratch_of s.kind s → Has w (scratch_name n) 0
+
+-- and those that its next state takes
+abbrev pub HasNextScratch : Spec → World → Type 0
+HasNextScratch s w = (n : ℕ) → 1 ≤ n → n ≤ next_scratch s.kind s → Has w (scratch_name n) 0
 
 -- the inputs with feedthrough, and all inputs
 abbrev pub IsFed : Spec → ℕ → Type 0
@@ -52,11 +56,12 @@ NextIs s p w f r =
     Leads r (λ w'.
     Keeps is_scratch states p.state (state_len_of s.kind s) w w' × ((i : ℕ) → i < state_len_of s.kind s → get w' states (p.state + i) ≡ Some (f i)))
 
--- Its places, its number and how many elements it has can be spelled.
+-- Its places, its number and how many elements and values of a state it has can be spelled.
 pub record AreInBounds (s : Spec) (p : Places) : Type 0 where
   pub ins : (k e : ℕ) → IsElement s k e → input_place p k e < 2 ^ 63
   pub outs : p.outs + total s.outs ≤ 2 ^ 63
   pub count : total s.outs < 2 ^ 63
+  pub steps : state_len_of s.kind s < 2 ^ 63
   pub state : p.state + state_len_of s.kind s ≤ 2 ^ 63
   pub mask : p.mask < 2 ^ 63
   pub number : p.number < 2 ^ 63
@@ -84,6 +89,6 @@ takes_input _ = false
 abbrev pub body_may : Spec → May
 body_may s = record { assign = λ x. is_scratch x || same_name values x; call = λ f. false; take = takes_input s.kind; show = false }
 
--- that of the next state assigns states, and does nothing else
+-- that of the next state assigns scratch and states, and does nothing else
 abbrev pub next_may : May
-next_may = assigns_only (same_name states)
+next_may = assigns_only (λ x. is_scratch x || same_name states x)

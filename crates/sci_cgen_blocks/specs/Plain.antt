@@ -14,8 +14,8 @@ use Rattle.sci_cgen_blocks.specs.declared.recipe_parts.Step.TheVariants as kept_
 use Rattle.sci_cgen_blocks.specs.declared.recipe_parts.Recipe.{Recipe as KeptRecipe}
 use Rattle.sci_cgen_blocks.specs.declared.recipe_parts.Which.{Which as KeptWhich}
 use Rattle.sci_cgen_blocks.specs.declared.recipe_parts.Which.TheVariants as kept_which
-use Rattle.sci_cgen_blocks.specs.declared.block_layout.Layout.{Layout}
-use Rattle.sci_cgen_blocks.specs.Terms.{Term, constant, input, along, state, state_along, mask, scratch, both, Work, assign, assign_if, Step, change, stop_if, repeat, Recipe, IsSpelled}
+use Rattle.sci_cgen_blocks.specs.declared.block_layout.BlockLayout.{BlockLayout}
+use Rattle.sci_cgen_blocks.specs.Terms.{Term, constant, input, along, state, state_along, state_behind, mask, scratch, both, Work, assign, assign_if, Step, change, stop_if, repeat, Recipe, IsSpelled}
 use Rattle.sci_cgen_blocks.specs.Texts.{Which, fixed, counted_by, Places, input_place}
 
 abbrev pub term_of : Kept → Term
@@ -24,6 +24,7 @@ term_of (terms.Input k e) = input k e
 term_of (terms.Along k) = along k
 term_of (terms.State i) = state i
 term_of terms.StateAlong = state_along
+term_of terms.StateBehind = state_behind
 term_of terms.Mask = mask
 term_of (terms.Scratch n) = scratch n
 term_of (terms.Both' op p a q b) = both op (term_of a) (term_of b)
@@ -57,7 +58,7 @@ abbrev pub which_of : KeptWhich → Which
 which_of (kept_which.Fixed e) = fixed e
 which_of (kept_which.CountedBy n) = counted_by n
 
-abbrev pub plain_places : Layout → Places
+abbrev pub plain_places : BlockLayout → Places
 plain_places at = record { number = at.number; ins = at.ins.items; outs = at.outs; state = at.state; mask = at.mask; which = fixed 0 }
 
 -- ---- what C spells
@@ -69,6 +70,7 @@ AreSpelled (input k e) = Unit {0}
 AreSpelled (along k) = Unit {0}
 AreSpelled (state i) = Unit {0}
 AreSpelled state_along = Unit {0}
+AreSpelled state_behind = Unit {0}
 AreSpelled mask = Unit {0}
 AreSpelled (scratch n) = Unit {0}
 AreSpelled (both op a b) = AreSpelled a × AreSpelled b

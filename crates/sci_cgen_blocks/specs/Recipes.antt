@@ -17,7 +17,7 @@ use Rattle.sci_forms.specs.Words.{param, out_type, state_len_of}
 use Rattle.sci_kinds.specs.Table.{mode_of}
 use Rattle.c_ast.specs.declared.Op.{Op}
 use Rattle.c_ast.specs.declared.Op.TheVariants.{Add, Sub, Mul, Div, Rem, Lt, Le, Gt, Ge, Eq, Ne, And, Or}
-use Rattle.sci_cgen_blocks.specs.Terms.{Term, constant, input, along, state, state_along, mask, scratch, both, Work, assign, assign_if, Step, change, stop_if, repeat, Recipe, Way, each, all, decide, is_looped, Given, Readable}
+use Rattle.sci_cgen_blocks.specs.Terms.{Term, constant, input, along, state, state_along, state_behind, mask, scratch, both, Work, assign, assign_if, Step, change, stop_if, repeat, Recipe, Way, each, all, decide, is_looped, Given, Readable}
 
 -- ---- words
 
@@ -327,6 +327,17 @@ next_term Register s i = if nat_lt (i + 1) (length s.state) then state (i + 1) e
 next_term ModuloCount s i = both Mul (both Lt (both Add (state 0) (natural 1)) (constant (param s 0))) (both Add (state 0) (natural 1))
 next_term _ s i = natural 0
 
+-- How many of the first values of the next state are worked out alike, and the term of each as the element that is worked out. They are assigned in order too,
+-- so a register reads the value behind one before that is written. Its last value is the input, and a counter has no other.
+abbrev pub next_alike : Kind → Spec → ℕ
+next_alike Dollar s = state_len_of Dollar s
+next_alike GatedDelay s = state_len_of GatedDelay s
+next_alike c s = state_len_of c s - 1
+
+abbrev pub next_along : Kind → Spec → Term
+next_along Register s = state_behind
+next_along _ s = along 0
+
 -- t where it is at most the most, else the most
 abbrev pub at_most : ℕ → Term → Term
 at_most n t = both Add (both Mul (both Le t (natural n)) t) (both Mul (both Gt t (natural n)) (natural n))
@@ -348,6 +359,10 @@ branch_term _ s = natural 1
 -- how many scratch numbers the values take: those of the recipe, and one that counts elements in a loop
 abbrev pub scratch_of : Kind → Spec → ℕ
 scratch_of c s = if is_alike c s && is_looped (total s.outs) then suc (worked_of c s) else worked_of c s
+
+-- and the next state: one that counts values in a loop
+abbrev pub next_scratch : Kind → Spec → ℕ
+next_scratch c s = if is_looped (next_alike c s) then 1 else 0
 
 abbrev pub given : Spec → List ℤ → ℕ → List ℤ → Given
 given s x m u = record { input = λ k e. at u (before s.ins k + e); state = at x; mask = m; element = 0 }

@@ -13,13 +13,14 @@ pub record Given : Type 0 where
   pub mask : ℕ
   pub element : ℕ
 
--- `along k` is the element of input k that is worked out, and `state_along` that of the state.
+-- `along k` is the element of input k that is worked out, `state_along` that of the state, and `state_behind` the one behind it.
 pub data Term : Type 0 where
   constant : ℤ → Term
   input : ℕ → ℕ → Term
   along : ℕ → Term
   state : ℕ → Term
   state_along : Term
+  state_behind : Term
   mask : Term
   scratch : ℕ → Term
   both : Op → Term → Term → Term
@@ -38,6 +39,7 @@ value g s (input k e) = Some (g.input k e)
 value g s (along k) = Some (g.input k g.element)
 value g s (state i) = Some (g.state i)
 value g s state_along = Some (g.state g.element)
+value g s state_behind = Some (g.state (suc g.element))
 value g s mask = Some (pos g.mask)
 value g s (scratch n) = Some (s n)
 value g s (both op a b) = operate op (value g s a) (value g s b)
@@ -160,6 +162,7 @@ TermFits r (suc d) (input k e) = r.input k e
 TermFits r (suc d) (along k) = r.input k r.element
 TermFits r (suc d) (state i) = r.state i
 TermFits r (suc d) state_along = r.state r.element
+TermFits r (suc d) state_behind = r.state (suc r.element)
 TermFits r (suc d) mask = Unit {0}
 TermFits r (suc d) (scratch n) = IsScratch r n
 TermFits r (suc d) (both op a b) = TermFits r d a × TermFits r d b

@@ -1,5 +1,5 @@
 -- The C text of a block: its recipes as statements over the program's arrays.
-use Rattle.std.specs.Prelude.{ℕ, suc, ◌+◌, ℤ, pos, List, [], ◌∷◌, slice_index_or, if◌then◌else◌}
+use Rattle.std.specs.Prelude.{ℕ, suc, ◌+◌, ◌-◌, ℤ, pos, List, [], ◌∷◌, slice_index_or, if◌then◌else◌}
 use Rattle.sci_forms.specs.declared.Kind.{Kind}
 use Rattle.sci_forms.specs.declared.Kind.TheVariants.{Sensor}
 use Rattle.sci_forms.specs.declared.spec.Spec.{Spec}
@@ -9,10 +9,10 @@ use Rattle.c_ast.specs.declared.Name.{Name}
 use Rattle.c_ast.specs.declared.Bound.TheVariants as bounds
 use Rattle.c_ast.specs.declared.Op.TheVariants.{Add}
 use Rattle.c_ast.specs.Syntax.{Exp, num, var, element, bin, scalar, cell, more, input as next_input, tell, stop, Statement, set, ask, choice, loop, Block, done, next}
-use Rattle.c_steps.specs.Places.{named}
-use Rattle.c_steps.specs.Texts.{number, place, upto}
-use Rattle.sci_cgen_blocks.specs.Terms.{Term, constant, input, along, state, state_along, mask, scratch, both, Work, assign, assign_if, Step, change, stop_if, repeat, Recipe, Way, each, all, decide, is_looped}
-use Rattle.sci_cgen_blocks.specs.Recipes.{way_of, next_term, delay_term, branch_term}
+use Rattle.c_mean.specs.Places.{named}
+use Rattle.c_mean.specs.Texts.{number, place, upto}
+use Rattle.sci_cgen_blocks.specs.Terms.{Term, constant, input, along, state, state_along, state_behind, mask, scratch, both, Work, assign, assign_if, Step, change, stop_if, repeat, Recipe, Way, each, all, decide, is_looped}
+use Rattle.sci_cgen_blocks.specs.Recipes.{way_of, next_term, next_alike, next_along, delay_term, branch_term}
 
 -- which element a text is written for: one by its number, or the one that a scratch number counts
 pub data Which : Type 0 where
@@ -63,6 +63,7 @@ expression p (input k e) = place values (input_place p k e)
 expression p (along k) = element values (element_place p.which (input_start p k))
 expression p (state i) = place states (p.state + i)
 expression p state_along = element states (element_place p.which p.state)
+expression p state_behind = element states (element_place p.which (suc p.state))
 expression p mask = place masks p.mask
 expression p (scratch n) = var (scratch_name n)
 expression p (both op a b) = bin op (expression p a) (expression p b)
@@ -116,9 +117,23 @@ values_text c s p = way_text p (total s.outs) (way_of c s)
 abbrev pub body_text : Spec → Places → Block
 body_text s p = values_text s.kind s p
 
--- the block's next state
+-- value i of the block's next state
+abbrev pub next_value_text : Spec → Places → ℕ → Block
+next_value_text s p i = next (set (cell states (num (pos (p.state + i)))) (expression (written p (fixed 0)) (next_term s.kind s i))) done
+
+-- the first n values in a loop
+abbrev pub next_loop : Spec → Places → ℕ → Statement
+next_loop s p n =
+    loop (scratch_name 1) (bounds.Num (pos n))
+    (next (set (cell states (element_place (counted_by 1) p.state)) (expression (written p (counted_by 1)) (next_along s.kind s))) done)
+
+-- the block's next state: values that are worked out alike in a loop, where there are three or more
 abbrev pub next_text : Spec → Places → Block
-next_text s p = upto (λ i. next (set (cell states (num (pos (p.state + i)))) (expression (written p (fixed 0)) (next_term s.kind s i))) done) (state_len_of s.kind s)
+next_text s p =
+    if is_looped (next_alike s.kind s)
+    then next (next_loop s p (next_alike s.kind s))
+    (upto (λ i. next_value_text s p (next_alike s.kind s + i)) (state_len_of s.kind s - next_alike s.kind s))
+    else upto (next_value_text s p) (state_len_of s.kind s)
 
 abbrev pub delay_expression : Spec → Places → Exp
 delay_expression s p = expression (written p (fixed 0)) (delay_term s.kind s)

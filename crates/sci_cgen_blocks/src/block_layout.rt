@@ -3,7 +3,7 @@ ghost use Rattle.std.specs.Prelude.{◌≡◌, slice_index_or};
 
 /// Where the places of a block lie in the arrays of a program. Places are counted from 0.
 #[derive(Drop)]
-pub struct Layout {
+pub struct BlockLayout {
     /// The number of the block, from 1.
     pub number: u32,
     /// Of each input the place of its first element, in the array of all output values.
@@ -16,7 +16,7 @@ pub struct Layout {
     pub mask: u32,
 }
 
-impl Layout {
+impl BlockLayout {
     /// The place of the first element of an input, counted from 0; 0 where there is no such input.
     pub(crate) fn input(&self, port: u32) -> u32
         ensures { result ≡ slice_index_or self.now.ins.items port 0 }

@@ -10,7 +10,7 @@ ghost use Rattle.sci_cgen_blocks.specs.Recipes.{switches as switches_term, copie
 ghost use Rattle.sci_cgen_blocks.specs.Texts.{way_text};
 ghost use Rattle.sci_cgen_blocks.specs.Plain.{term_of, plain_places, AreFew};
 
-use crate::Layout;
+use crate::BlockLayout;
 use crate::element_texts::all_elements;
 use crate::fit_terms::bit;
 use crate::recipe_parts::{Term, Which, both, plain};
@@ -23,7 +23,7 @@ use sci_forms::values::is_equal;
 use std::alloc::Global;
 
 /// The outputs become what the elements of an input are, of which there are `count`.
-fn copied(alloc: Global, at: &Layout, port: u32, count: u32) -> Result<Vec<Stmt>, NoMemory>
+fn copied(alloc: Global, at: &BlockLayout, port: u32, count: u32) -> Result<Vec<Stmt>, NoMemory>
     ensures { IfOk result (λ v. statements_of v.items ≡ way_text (plain_places at.now) count (copied_way port)) }
 {
     all_elements(alloc, at, count, 0, &plain(alloc, Term::Along(port)))
@@ -45,7 +45,7 @@ fn switches(alloc: Global, s: &Spec) -> Result<Term, NoMemory>
 }
 
 /// The first or the third input, by the second.
-pub(crate) fn switched(alloc: Global, s: &Spec, at: &Layout) -> Result<Vec<Stmt>, NoMemory>
+pub(crate) fn switched(alloc: Global, s: &Spec, at: &BlockLayout) -> Result<Vec<Stmt>, NoMemory>
     requires is_typed { typed s.now ≡ true }
     requires few { AreFew s.now (plain_places at.now) }
     requires kind { s.now.kind ≡ kinds.Switch2 }
@@ -59,7 +59,7 @@ pub(crate) fn switched(alloc: Global, s: &Spec, at: &Layout) -> Result<Vec<Stmt>
 }
 
 /// Of the first `n` inputs the one of the first activation input that is activated, else input `n`.
-fn first_of(alloc: Global, at: &Layout, n: u32, count: u32) -> Result<Vec<Stmt>, NoMemory>
+fn first_of(alloc: Global, at: &BlockLayout, n: u32, count: u32) -> Result<Vec<Stmt>, NoMemory>
     requires { n ≤ 8 }
     ensures { IfOk result (λ v. statements_of v.items ≡ way_text (plain_places at.now) count (first_activated 0 n)) }
 {
@@ -74,7 +74,7 @@ fn first_of(alloc: Global, at: &Layout, n: u32, count: u32) -> Result<Vec<Stmt>,
 
 /// The input of the first activation input that is activated.
 #[tactic(auto, using(crate::proofs::KindBounds::some_selected, crate::proofs::KindBounds::few_selected))]
-pub(crate) fn select(alloc: Global, s: &Spec, at: &Layout) -> Result<Vec<Stmt>, NoMemory>
+pub(crate) fn select(alloc: Global, s: &Spec, at: &BlockLayout) -> Result<Vec<Stmt>, NoMemory>
     requires is_typed { typed s.now ≡ true }
     requires few { AreFew s.now (plain_places at.now) }
     requires kind { s.now.kind ≡ kinds.Select }

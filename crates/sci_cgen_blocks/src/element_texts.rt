@@ -1,12 +1,12 @@
 // The texts of all elements of a block's outputs.
 ghost use Rattle.std.specs.Prelude.{◌≡◌, ◌<◌, ◌≤◌, IfOk};
 ghost use Rattle.c_ast.specs.View.{statements_of};
-ghost use Rattle.c_steps.specs.Texts.{upto};
+ghost use Rattle.c_mean.specs.Texts.{upto};
 ghost use Rattle.sci_cgen_blocks.specs.Terms.{all};
 ghost use Rattle.sci_cgen_blocks.specs.Texts.{fixed, written, recipe_text, looped_text, way_text};
 ghost use Rattle.sci_cgen_blocks.specs.Plain.{plain_recipe, plain_places, IsRecipeSpelled};
 
-use crate::Layout;
+use crate::BlockLayout;
 use crate::array_names::scratch;
 use crate::recipe_parts::{Recipe, Which};
 use crate::writing::{push_recipe, repeated};
@@ -17,7 +17,7 @@ use std::alloc::Global;
 /// What a recipe gives for each of `count` elements, in a loop whose counter is a scratch number.
 fn looped(
     alloc: Global,
-    at: &Layout,
+    at: &BlockLayout,
     count: u32,
     counter: u32,
     recipe: &Recipe,
@@ -32,7 +32,12 @@ fn looped(
 }
 
 /// What a recipe gives for each of `count` elements, one after the other.
-fn unrolled(alloc: Global, at: &Layout, count: u32, recipe: &Recipe) -> Result<Vec<Stmt>, NoMemory>
+fn unrolled(
+    alloc: Global,
+    at: &BlockLayout,
+    count: u32,
+    recipe: &Recipe,
+) -> Result<Vec<Stmt>, NoMemory>
     requires { 0 < count → IsRecipeSpelled (plain_recipe recipe.now) }
     ensures { IfOk result (λ v. statements_of v.items
         ≡ upto (λ e. recipe_text (written (plain_places at.now) (fixed e)) (plain_recipe recipe.now)) count) }
@@ -47,7 +52,7 @@ fn unrolled(alloc: Global, at: &Layout, count: u32, recipe: &Recipe) -> Result<V
 /// What a recipe gives for each of `count` elements of the outputs: a loop, where there are three or more. The recipe takes `taken` scratch numbers.
 pub(crate) fn all_elements(
     alloc: Global,
-    at: &Layout,
+    at: &BlockLayout,
     count: u32,
     taken: u32,
     recipe: &Recipe,

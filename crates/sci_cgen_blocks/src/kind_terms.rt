@@ -3,9 +3,9 @@ ghost use Rattle.std.specs.Prelude.{true, nat_lt, if◌then◌else◌, ◌≡◌
 ghost use Rattle.c_ast.specs.declared.Op.TheVariants as ops;
 ghost use Rattle.sci_forms.specs.Typed.{typed};
 ghost use Rattle.sci_forms.specs.Words.{state_len_of};
-ghost use Rattle.sci_cgen_blocks.specs.Terms.{constant, input, state, both as both_of};
+ghost use Rattle.sci_cgen_blocks.specs.Terms.{constant, input, state, both as both_of, is_looped as is_looped_by_count};
 ghost use Rattle.sci_cgen_blocks.specs.Recipes.{natural as natural_of, at_most as at_most_term, next_term as next_by_kind, delay_term as delay_by_kind};
-ghost use Rattle.sci_cgen_blocks.specs.Recipes.{branch_term as branch_by_kind, scratch_of as scratch_by_kind};
+ghost use Rattle.sci_cgen_blocks.specs.Recipes.{branch_term as branch_by_kind, scratch_of as scratch_by_kind, next_alike as alike_by_kind, next_along as along_by_kind};
 ghost use Rattle.sci_cgen_blocks.specs.Plain.{term_of};
 
 use crate::kind_recipes::{is_alike, recipe_scratch};
@@ -55,6 +55,44 @@ pub(crate) fn state_len(s: &Spec) -> u32
         | Kind::IfThEl
         | Kind::ESelect
         | Kind::Halt => 0,
+    }
+}
+
+/// How many of the first values of the next state are worked out alike.
+#[tactic(auto, using(crate::proofs::NextStates::alike_other))]
+pub(crate) fn next_alike(s: &Spec) -> u32
+    requires { state_len_of s.now.kind s.now < 2 ^ 32 }
+    ensures { result ≡ alike_by_kind s.now.kind s.now }
+{
+    let all = state_len(s);
+    if let Kind::Dollar = s.kind {
+        all
+    } else if let Kind::GatedDelay = s.kind {
+        all
+    } else if all == 0 {
+        0
+    } else {
+        all - 1
+    }
+}
+
+/// Whether they are worked out in a loop.
+pub fn counts_next(s: &Spec) -> bool
+    requires { state_len_of s.now.kind s.now < 2 ^ 32 }
+    ensures { result ≡ is_looped_by_count (alike_by_kind s.now.kind s.now) }
+{
+    2 < next_alike(s)
+}
+
+/// The term of those, as the value that is worked out.
+#[tactic(auto, using(crate::proofs::NextStates::along_other))]
+pub(crate) fn next_along(s: &Spec) -> Term
+    ensures { term_of result ≡ along_by_kind s.now.kind s.now }
+{
+    if let Kind::Register = s.kind {
+        Term::StateBehind
+    } else {
+        Term::Along(0)
     }
 }
 

@@ -26,7 +26,7 @@ pub fn branch_law()
     ensures { BranchLaw }
 {}
 
-/// What these statements assign: values and scratch, or the state alone. They call nothing and show nothing.
+/// What these statements assign: values and scratch, or the state and scratch. They call nothing and show nothing.
 pub fn may_law()
     ensures { MayLaw }
 {}

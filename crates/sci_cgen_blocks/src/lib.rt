@@ -1,7 +1,7 @@
 //! The C text of a block: how its values, its next state, its delays and its branch are worked out.
 #![tactic(auto)]
 
-ghost use Rattle.sci_cgen_blocks.specs.Laws.{CellLaw, CellReadsLaw, NextLaw, NextReadsLaw, DelayTermLaw, BranchTermLaw};
+ghost use Rattle.sci_cgen_blocks.specs.Laws.{CellLaw, CellReadsLaw, NextLaw, NextReadsLaw, NextAlongLaw, NextAlongReadsLaw, DelayTermLaw, BranchTermLaw};
 
 mod arithmetic_kinds;
 pub mod array_names;
@@ -21,9 +21,9 @@ mod spec_words;
 mod table_texts;
 pub mod writing;
 
-pub use block_layout::Layout;
+pub use block_layout::BlockLayout;
 pub use block_texts::{block_body, block_branch, block_delay, block_next};
-pub use kind_terms::scratch_of;
+pub use kind_terms::{counts_next, scratch_of};
 pub use laws::{
     bounds_law, branch_law, delay_law, may_law, next_state_law, rules_law, sensor_law, values_law,
 };
@@ -47,6 +47,16 @@ pub fn next_law()
 /// It reads the inputs, and the state from this value on.
 pub fn next_reads_law()
     ensures { NextReadsLaw }
+{}
+
+/// Where values of the next state are worked out alike, one term gives each.
+pub fn next_along_law()
+    ensures { NextAlongLaw }
+{}
+
+/// It reads the inputs, and the state from this value on.
+pub fn next_along_reads_law()
+    ensures { NextAlongReadsLaw }
 {}
 
 /// The term of a delay gives the delay, and reads the inputs alone.

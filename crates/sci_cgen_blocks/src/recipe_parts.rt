@@ -20,6 +20,8 @@ pub(crate) enum Term {
     State(u32),
     /// The value of the state that belongs to the element that is worked out.
     StateAlong,
+    /// The one behind it.
+    StateBehind,
     Mask,
     /// A scratch number, counted from 1.
     Scratch(u32),
@@ -77,6 +79,7 @@ impl Term {
             Term::Along(port) => Ok(Term::Along(*port)),
             Term::State(at) => Ok(Term::State(*at)),
             Term::StateAlong => Ok(Term::StateAlong),
+            Term::StateBehind => Ok(Term::StateBehind),
             Term::Mask => Ok(Term::Mask),
             Term::Scratch(n) => Ok(Term::Scratch(*n)),
             Term::Both(op, a, b) => both(alloc, *op, a.copy(alloc)?, b.copy(alloc)?),

@@ -9,7 +9,7 @@ ghost use Rattle.sci_cgen_blocks.specs.Recipes.{entry as entry_of, same_entries,
 ghost use Rattle.sci_cgen_blocks.specs.Texts.{way_text};
 ghost use Rattle.sci_cgen_blocks.specs.Plain.{term_of, plain_places, AreFew};
 
-use crate::Layout;
+use crate::BlockLayout;
 use crate::recipe_parts::{Term, Which};
 use crate::spec_words::{inputs, param, power, total};
 use crate::writing::{assigned, either, expression};
@@ -69,7 +69,7 @@ fn are_alike(s: &Spec, first: u64, count: u64) -> bool
 }
 
 /// The outputs become the entries of a row.
-fn row(alloc: Global, s: &Spec, at: &Layout, number: u64) -> Result<Vec<Stmt>, NoMemory>
+fn row(alloc: Global, s: &Spec, at: &BlockLayout, number: u64) -> Result<Vec<Stmt>, NoMemory>
     requires is_typed { typed s.now ≡ true }
     requires few { AreFew s.now (plain_places at.now) }
     requires kind { s.now.kind ≡ kinds.Logic }
@@ -88,7 +88,7 @@ fn row(alloc: Global, s: &Spec, at: &Layout, number: u64) -> Result<Vec<Stmt>, N
 fn decided(
     alloc: Global,
     s: &Spec,
-    at: &Layout,
+    at: &BlockLayout,
     port: u32,
     n: u32,
     first: u64,
@@ -113,7 +113,7 @@ fn decided(
 }
 
 /// The row that the truths of all inputs name.
-pub(crate) fn table(alloc: Global, s: &Spec, at: &Layout) -> Result<Vec<Stmt>, NoMemory>
+pub(crate) fn table(alloc: Global, s: &Spec, at: &BlockLayout) -> Result<Vec<Stmt>, NoMemory>
     requires is_typed { typed s.now ≡ true }
     requires few { AreFew s.now (plain_places at.now) }
     requires kind { s.now.kind ≡ kinds.Logic }

@@ -1,15 +1,15 @@
 // Recipes as statements over the program's arrays.
-ghost use Rattle.std.specs.Prelude.{◌≡◌, ◌≤ℤ◌, ◌<◌, ◌+◌, ◌^◌, ℕ, negsuc, pos, IfOk, OnOk};
+ghost use Rattle.std.specs.Prelude.{◌≡◌, ◌≤ℤ◌, ◌<◌, ◌≤◌, ◌+◌, ◌^◌, ℕ, negsuc, pos, IfOk, OnOk};
 ghost use Rattle.c_ast.specs.Syntax.{bin, element as element_of, choice, loop, done, tell, stop, num, set as assign, cell};
 ghost use Rattle.c_ast.specs.declared.Bound.TheVariants as bounds;
 ghost use Rattle.c_ast.specs.View.{exp_of, statement_of, statements_of};
-ghost use Rattle.c_steps.specs.Texts.{number as number_text, place, joined};
+ghost use Rattle.c_mean.specs.Texts.{number as number_text, place, joined};
 ghost use Rattle.sci_cgen_blocks.specs.Texts.{values as values_name, counted_by, element_place as place_of_element, written, expression as expression_text};
 ghost use Rattle.sci_cgen_blocks.specs.Texts.{steps_text, work_statement, works_text, step_statement, recipe_text};
 ghost use Rattle.sci_cgen_blocks.specs.Plain.{term_of, work_of, works_of, step_of, steps_of, word_of, plain_recipe, which_of, plain_places, AreSpelled};
 ghost use Rattle.sci_cgen_blocks.specs.Plain.{AreWorksSpelled, IsStepSpelled, AreStepsSpelled, IsRecipeSpelled, IsWorkSpelled};
 
-use crate::Layout;
+use crate::BlockLayout;
 use crate::array_names::{masks, scratch, states, values};
 use crate::recipe_parts::{Cause, Recipe, Step, Term, Which, Work};
 use c_ast::{Bound, Expr, Name, Op, Stmt, Target, Tell};
@@ -72,7 +72,8 @@ pub fn indexed(alloc: Global, array: Name, place: Expr) -> Result<Expr, NoMemory
 }
 
 /// The place of the element that a scratch number counts, where the first one is at place `first`.
-pub fn counted_place(alloc: Global, counter: u32, first: u32) -> Result<Expr, NoMemory>
+pub fn counted_place(alloc: Global, counter: u32, first: u64) -> Result<Expr, NoMemory>
+    requires { first < 2 ^ 63 }
     ensures { IfOk result (λ e. exp_of e ≡ place_of_element (counted_by counter) first) }
 {
     bin(
@@ -84,7 +85,8 @@ pub fn counted_place(alloc: Global, counter: u32, first: u32) -> Result<Expr, No
 }
 
 /// The place of an element, where the first one is at place `first`.
-fn element_place(alloc: Global, which: Which, first: u32) -> Result<Expr, NoMemory>
+fn element_place(alloc: Global, which: Which, first: u64) -> Result<Expr, NoMemory>
+    requires { first ≤ 2 ^ 32 }
     ensures { IfOk result (λ e. exp_of e ≡ place_of_element (which_of which) first) }
 {
     match which {
@@ -94,7 +96,8 @@ fn element_place(alloc: Global, which: Which, first: u32) -> Result<Expr, NoMemo
 }
 
 /// The element of an array that a text is written for.
-fn element_along(alloc: Global, array: Name, which: Which, first: u32) -> Result<Expr, NoMemory>
+fn element_along(alloc: Global, array: Name, which: Which, first: u64) -> Result<Expr, NoMemory>
+    requires { first ≤ 2 ^ 32 }
     ensures { IfOk result (λ e. exp_of e ≡ element_of array (place_of_element (which_of which) first)) }
 {
     let place = element_place(alloc, which, first)?;
@@ -104,7 +107,7 @@ fn element_along(alloc: Global, array: Name, which: Which, first: u32) -> Result
 /// A term as an expression.
 pub(crate) fn expression(
     alloc: Global,
-    at: &Layout,
+    at: &BlockLayout,
     which: Which,
     t: &Term,
 ) -> Result<Expr, NoMemory>
@@ -114,9 +117,10 @@ pub(crate) fn expression(
     match t {
         Term::Constant(z) => number(alloc, *z),
         Term::Input(port, e) => element(alloc, values(), at.input(*port) as u64 + *e as u64),
-        Term::Along(port) => element_along(alloc, values(), which, at.input(*port)),
+        Term::Along(port) => element_along(alloc, values(), which, at.input(*port) as u64),
         Term::State(i) => element(alloc, states(), at.state as u64 + *i as u64),
-        Term::StateAlong => element_along(alloc, states(), which, at.state),
+        Term::StateAlong => element_along(alloc, states(), which, at.state as u64),
+        Term::StateBehind => element_along(alloc, states(), which, at.state as u64 + 1),
         Term::Mask => element(alloc, masks(), at.mask as u64),
         Term::Scratch(n) => Ok(Expr::Var(scratch(*n))),
         Term::Both(op, a, b) => bin(
@@ -129,7 +133,7 @@ pub(crate) fn expression(
 }
 
 /// A change of scratch as a statement.
-fn work(alloc: Global, at: &Layout, which: Which, work: &Work) -> Result<Stmt, NoMemory>
+fn work(alloc: Global, at: &BlockLayout, which: Which, work: &Work) -> Result<Stmt, NoMemory>
     requires { IsWorkSpelled (work_of work.now) }
     ensures { IfOk result (λ s. statement_of s ≡ work_statement (written (plain_places at.now) (which_of which)) (work_of work.now)) }
 {
@@ -147,7 +151,12 @@ fn work(alloc: Global, at: &Layout, which: Which, work: &Work) -> Result<Stmt, N
 }
 
 /// Changes of scratch as statements.
-fn works(alloc: Global, at: &Layout, which: Which, works: &[Work]) -> Result<Vec<Stmt>, NoMemory>
+fn works(
+    alloc: Global,
+    at: &BlockLayout,
+    which: Which,
+    works: &[Work],
+) -> Result<Vec<Stmt>, NoMemory>
     requires { AreWorksSpelled (works_of works.now) }
     ensures { IfOk result (λ v. statements_of v.items ≡ works_text (written (plain_places at.now) (which_of which)) (works_of works.now)) }
 {
@@ -175,7 +184,7 @@ fn word(cause: Cause) -> i64
 }
 
 /// A step as a statement.
-fn step(alloc: Global, at: &Layout, which: Which, step: &Step) -> Result<Stmt, NoMemory>
+fn step(alloc: Global, at: &BlockLayout, which: Which, step: &Step) -> Result<Stmt, NoMemory>
     requires { IsStepSpelled (step_of step.now) }
     ensures { IfOk result (λ s. statement_of s ≡ step_statement (written (plain_places at.now) (which_of which)) (step_of step.now)) }
 {
@@ -198,7 +207,7 @@ fn step(alloc: Global, at: &Layout, which: Which, step: &Step) -> Result<Stmt, N
 fn push_steps(
     alloc: Global,
     out: &mut Vec<Stmt>,
-    at: &Layout,
+    at: &BlockLayout,
     which: Which,
     steps: &[Step],
 ) -> Result<(), NoMemory>
@@ -215,7 +224,7 @@ fn push_steps(
 /// The element of the outputs that is written for becomes what a term is.
 pub(crate) fn assigned(
     alloc: Global,
-    at: &Layout,
+    at: &BlockLayout,
     which: Which,
     value: &Term,
 ) -> Result<Stmt, NoMemory>
@@ -224,7 +233,7 @@ pub(crate) fn assigned(
         (expression_text (written (plain_places at.now) (which_of which)) (term_of value.now))) }
 {
     let value = expression(alloc, at, which, value)?;
-    let place = Target::At(values(), element_place(alloc, which, at.outs)?);
+    let place = Target::At(values(), element_place(alloc, which, at.outs as u64)?);
     Ok(Stmt::Set(place, value))
 }
 
@@ -232,7 +241,7 @@ pub(crate) fn assigned(
 pub(crate) fn push_recipe(
     alloc: Global,
     out: &mut Vec<Stmt>,
-    at: &Layout,
+    at: &BlockLayout,
     which: Which,
     recipe: &Recipe,
 ) -> Result<(), NoMemory>

@@ -14,7 +14,7 @@ use Rattle.sci_places.proofs.Lists.{up_to}
 use Rattle.sci_places.proofs.Outputs.{block_within, blocks_apart}
 use Rattle.c_ast.specs.Syntax.{Block}
 use Rattle.c_mean.specs.Meaning.{World, Around, run_block, first_world}
-use Rattle.c_steps.specs.Places.{Has}
+use Rattle.c_mean.specs.Places.{Has}
 use Rattle.sci_cgen_blocks.specs.Recipes.{scratch_of}
 use Rattle.sci_cgen_blocks.specs.Texts.{values, scratch_name, input_place, body_text}
 use Rattle.sci_cgen_blocks.specs.Meant.{Holds, IsFed, IsApart, Answers, Senses}

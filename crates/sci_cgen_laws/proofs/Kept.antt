@@ -20,20 +20,22 @@ use Rattle.c_ast.specs.declared.Name.{Name}
 use Rattle.c_ast.specs.declared.Op.TheVariants.{Lt, Gt}
 use Rattle.c_ast.specs.Syntax.{Exp, bin, var, scalar, cell, Told, start, event, value, finish, stop, Statement, set, ask, choice, loop, call, tell, Block, done, next, Function}
 use Rattle.c_mean.specs.Meaning.{same_name}
-use Rattle.c_steps.specs.Texts.{May, number, joined, upto, statement_within, block_within}
-use Rattle.c_steps.proofs.Memory.{and_left, and_right}
-use Rattle.c_steps.proofs.Texts.{joined_within}
-use Rattle.sci_cgen_blocks.specs.Texts.{values, states, masks, body_text, next_text, delay_expression, branch_expression}
+use Rattle.c_mean.specs.Texts.{May, number, joined, upto, statement_within, block_within, place}
+use Rattle.c_mean.proofs.Memory.{and_left, and_right}
+use Rattle.c_mean.proofs.Texts.{joined_within}
+use Rattle.sci_cgen_blocks.specs.Texts.{values, states, masks, body_text, next_value_text, next_loop, next_text, delay_expression, branch_expression}
 use Rattle.sci_cgen_blocks.specs.Meant.{body_may}
 use Rattle.sci_cgen_blocks.proofs.Assigned.{body_within}
 use Rattle.sci_due.specs.Due.{dates, orders, scan as scan_name}
-use Rattle.sci_due.specs.Texts.{program_text}
+use Rattle.sci_due.specs.Texts.{choose_text as choose_of, entry_text as due_entry, program_text, delayed_text}
+use Rattle.sci_due.proofs.Pending.{delayed_form}
 use Rattle.sci_cgen.specs.declared.parts.Part.{Part}
 use Rattle.sci_cgen.specs.declared.parts.Part.TheVariants.{Absent, Sure, Marked}
 use Rattle.sci_cgen.specs.Names.{actives, branches, until_name, next_date, halt_name, clear_name, settle_name, choose_name}
-use Rattle.sci_cgen.specs.Program.{natural, one, has_own, part_in, is_active, where_part, mark, is_taken, end_or, has_halt, texts, text_where, only_where, port_count, places_of, is_scheduled, block_function, with_bit, with_bits, guard_text, call_text, entry_text, cleared_text, header_text, pass_text, following_text, row_text, shared_text, source_function, clear_text, has_sync, elements_shown, outputs_shown, values_shown, delay_text, state_text, halt_text, settle_text, halted_or, react_step, react_deep, fire_text, event_text, turn_text, first_text, begun_text, list_begun, held_begun, state_begun, firing_at, programmed_before, firing_begun, source_begun, main_text, functions_upto, functions_where, other_functions, called_functions, event_function, functions, looped_shown, output_shown}
+use Rattle.sci_cgen.specs.Program.{natural, one, has_own, part_in, is_active, where_part, mark, is_taken, end_or, has_halt, texts, text_where, only_where, port_count, places_of, is_scheduled, block_function, with_bit, with_bits, guard_text, call_text, entry_text, cleared_text, header_text, pass_text, following_text, row_text, shared_text, source_function, clear_text, date_text, choose_text, has_sync, elements_shown, outputs_shown, values_shown, delay_text, state_text, halt_text, settle_text, halted_or, react_step, react_deep, fire_text, event_text, turn_text, first_text, begun_text, list_begun, held_begun, state_begun, firing_at, programmed_before, firing_begun, source_begun, main_text, functions_upto, functions_where, other_functions, called_functions, event_function, functions, looped_shown, output_shown}
 use Rattle.sci_cgen.proofs.Parted.{reads, masked, guarded, called, all_shown, all_delays, all_states, all_halts, all_held, first_states, all_begun, until_asked, where_ports, starting, ending, running, own, blocks, sources, settle_function, clear_function, choose_function, clears, shared, chooses}
 use Rattle.sci_cgen_blocks.specs.Terms.{is_looped}
+use Rattle.sci_cgen_blocks.specs.Recipes.{next_alike}
 use Rattle.sci_cgen.proofs.Halves.{in_first, react_last, react_more}
 use Rattle.sci_cgen_laws.specs.Values.{spares_values, are_sets, told_well, statement_shows_values, shows_values, IsBlockFunction}
 use Rattle.sci_cgen_laws.specs.Laws.{ProgramKeepsValues}
@@ -194,7 +196,14 @@ module _ (n : Parts) where
       (outputs_kept b (p + 1) (o + elements q) qs)
 
   next_kept : (b : ℕ) → Kept (next_text (spec_of n b) (places_of n b))
-  next_kept b = each _ (state_len_of (spec_of n b).kind (spec_of n b)) (λ i. (refl, refl))
+  next_kept b =
+      let s = spec_of n b in
+      let p = places_of n b in
+      let alike = next_alike s.kind s in
+      let rest = upto (λ i. next_value_text s p (alike + i)) (state_len_of s.kind s - alike) in
+      let kept = each (λ i. next_value_text s p (alike + i)) (state_len_of s.kind s - alike) (λ i. (refl, refl)) in
+      either_kept (is_looped alike) (next (next_loop s p alike) rest) (upto (next_value_text s p) (state_len_of s.kind s)) (kept.0, kept.1)
+      (each (next_value_text s p) (state_len_of s.kind s) (λ i. (refl, refl)))
 
   module _ (part : ℕ → Part) where
     shown_kept : (b : ℕ) → Kept (values_shown n part b)
@@ -206,7 +215,8 @@ module _ (n : Parts) where
     delay_kept : (i : ℕ) (s : Source) → Kept (delay_text n part i s)
     delay_kept i Start = (refl, refl)
     delay_kept i (Port q) =
-        part_kept (part q.block) q.block (program_text (i - 1) (delay_expression (spec_of n q.block) (places_of n q.block)) done) (refl, refl)
+        part_kept (part q.block) q.block (delayed_text (i - 1) (delay_expression (spec_of n q.block) (places_of n q.block)))
+        (delayed_form Kept (i - 1) (delay_expression (spec_of n q.block) (places_of n q.block)) (λ d q. (refl, refl)) (refl, refl))
 
     state_kept : (b : ℕ) → Kept (state_text n part b)
     state_kept b =
@@ -240,6 +250,10 @@ module _ (n : Parts) where
   clear_kept =
       let h = where_kept (has_sync n) (one (set (cell branches (var scan_name)) (natural 0))) (refl, refl) in
       (and_from _ true h.0 refl, and_from _ true h.1 refl)
+
+  choose_kept : Kept (choose_text n)
+  choose_kept =
+      either_kept (nat_lt 1 (port_count n)) (choose_of (port_count n) date_text) (one (set (scalar next_date) (place dates 0))) (refl, refl) (refl, refl)
 
   -- ---- the run
 
@@ -413,12 +427,12 @@ module _ (n : Parts) (rows : List (List Entry)) where
   all_spare : (f : Function) → Contains (functions n rows) f → Spares f
   all_spare =
       of_program Spares n rows (λ k l none. absurd (none (suc k, record { least = omega arith; most = omega (arith, l) }, refl)))
-      (λ none. (settle_kept n (λ b. Marked)).0) (λ none. (clear_kept n).0) (λ none. refl) (λ i none. (source_kept i).0)
+      (λ none. (settle_kept n (λ b. Marked)).0) (λ none. (clear_kept n).0) (λ none. (choose_kept n).0) (λ i none. (source_kept i).0)
       (λ none. (turn_kept n (has_own n rows)).0)
 
   all_show : (f : Function) → Contains (functions n rows) f → Shows f
   all_show =
-      of_program Shows n rows (λ k l. own_shows (suc k)) (settle_kept n (λ b. Marked)).1 (clear_kept n).1 refl (λ i. (source_kept i).1)
+      of_program Shows n rows (λ k l. own_shows (suc k)) (settle_kept n (λ b. Marked)).1 (clear_kept n).1 (choose_kept n).1 (λ i. (source_kept i).1)
       (turn_kept n (has_own n rows)).1
 
 pub program_keeps_values : ProgramKeepsValues

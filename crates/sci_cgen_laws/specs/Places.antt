@@ -12,7 +12,7 @@ use Rattle.sci_reaction.specs.Schedule.{Entry}
 use Rattle.c_ast.specs.declared.Name.{Name}
 use Rattle.c_ast.specs.Syntax.{Block, Function, Whole}
 use Rattle.c_mean.specs.Meaning.{World, Around, run_block, first_world}
-use Rattle.c_steps.specs.Places.{get, Has}
+use Rattle.c_mean.specs.Places.{get, Has}
 use Rattle.sci_cgen_blocks.specs.Texts.{values, states, masks, input_place}
 use Rattle.sci_cgen_blocks.specs.Meant.{Answers, Senses}
 use Rattle.sci_cgen.specs.Names.{block_name}

@@ -4,7 +4,7 @@ use Rattle.sci_net.specs.Parts.{Parts, IsBlock}
 use Rattle.c_ast.specs.declared.Op.TheVariants.{Add}
 use Rattle.c_ast.specs.Syntax.{Exp, num, var, element, bin, Told, value, Statement, set, choice, loop, tell, Block, done, next, Function, Whole}
 use Rattle.c_mean.specs.Meaning.{same_name}
-use Rattle.c_steps.specs.Texts.{joined, May, block_within}
+use Rattle.c_mean.specs.Texts.{joined, May, block_within}
 use Rattle.sci_cgen_blocks.specs.Texts.{values}
 use Rattle.sci_cgen.specs.Names.{block_name}
 

@@ -10,7 +10,7 @@ use Rattle.sci_forms.specs.declared.ports.Port.{Port}
 use Rattle.sci_forms.specs.declared.spec.Spec.{Spec}
 use Rattle.sci_forms.specs.Forms.{or_else, first_not, given, all_to, within, counts_of, fed, unfed, params_len_ok, param_ok, state_len_ok, state_ok, firing_ok}
 use Rattle.sci_forms.specs.Form.{has_delay, has_state}
-use Rattle.sci_forms.specs.Names.{by_name}
+use Rattle.sci_names.specs.Names.{by_name}
 use Rattle.sci_check.specs.Check.{counts_broken, lengths_broken, forms_broken, types_broken, active_broken, values_broken, params_broken, state_broken, events_broken, broken, feed_by, feed_of, part_broken, feed_broken, bad, bad_truth, date_ok, firing_len_ok, cols_ok, types_len_ok, bad_value, declared_ports, kept, spec_of, judged, checked_kind}
 use Rattle.sci_forms.specs.Typed.{feed_ok, formed_of}
 use Rattle.sci_forms.proofs.Feeds.{length_repeated, length_own, own_fed, all_fed, none_fed}

@@ -11,7 +11,7 @@ use Rattle.sci_forms.specs.declared.spec.Spec.{Spec}
 use Rattle.sci_forms.specs.Forms.{or_else, first_not, given, counts_of, own_feed, fed, unfed, between, params_len_ok, param_ok, state_len_ok, state_ok, firing_ok, within}
 use Rattle.sci_forms.specs.Form.{has_delay, has_state}
 use Rattle.sci_forms.specs.Broken.{violation_at}
-use Rattle.sci_forms.specs.Names.{by_name}
+use Rattle.sci_names.specs.Names.{by_name}
 
 -- ---- counts and lengths
 

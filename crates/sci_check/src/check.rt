@@ -4,14 +4,16 @@ ghost use Rattle.sci_base.specs.Plain.{fields_of, feedthrough_of, dep_of};
 ghost use Rattle.sci_forms.specs.declared.Kind.TheVariants.{Logic as LogicKind, ModuloCount as CountKind};
 ghost use Rattle.sci_forms.specs.Forms.{first_not};
 ghost use Rattle.sci_forms.specs.Form.{has_delay, has_state};
-ghost use Rattle.sci_forms.specs.Names.{by_name};
+ghost use Rattle.sci_names.specs.Names.{by_name};
 ghost use Rattle.sci_base.specs.Stops.{Stops};
 ghost use Rattle.sci_check.specs.Check.{is_integer, integer_at, date_ok, shape, cols_ok, types_len_ok, firing_len_ok, counts_broken, lengths_broken};
 ghost use Rattle.sci_check.specs.Check.{forms_broken, not_integer, side_broken, types_broken, bad, params_broken, state_broken, events_broken, feed_by};
 ghost use Rattle.sci_check.specs.Check.{feed_of, list_broken, part_broken, feed_broken, values_broken, active_broken, broken, columns_at, declared_port};
 ghost use Rattle.sci_check.specs.Check.{declared_ports, kept, spec_of, checked, checked_kind, judged};
 
-use sci_base::{BlockFields, Dep, Ints, NoMemory, Part, Place, Rule, Stop, Truths, limits};
+use sci_base::{
+    BlockFields, Dep, DirectFeedthrough, Ints, NoMemory, Place, Rule, Stop, Truths, limits,
+};
 use sci_forms::values::{
     between, first_fed, first_param, first_state, first_unfed, own_feed, params_len_ok,
     state_len_ok, within,
@@ -196,17 +198,17 @@ fn list_broken(kind: Kind, truths: &[bool], n: usize) -> Option<Broken>
 }
 
 /// What is declared of the feedthrough of `n` inputs.
-fn part_broken(kind: Kind, part: &Part, n: usize) -> Option<Broken>
+fn part_broken(kind: Kind, part: &DirectFeedthrough, n: usize) -> Option<Broken>
     requires { n < 2 ^ 63 }
     ensures { result ≡ part_broken kind (feedthrough_of part.now) n }
 {
     match part {
-        Part::All(true) => None,
-        Part::All(false) => match first_fed(kind, n) {
+        DirectFeedthrough::All(true) => None,
+        DirectFeedthrough::All(false) => match first_fed(kind, n) {
             None => None,
             Some(_) => Some(bad(4, 1, 0)),
         },
-        Part::Each(truths) => list_broken(kind, truths.as_slice(), n),
+        DirectFeedthrough::Each(truths) => list_broken(kind, truths.as_slice(), n),
     }
 }
 
@@ -221,12 +223,12 @@ fn feed_broken(kind: Kind, dep: &Option<Dep>, n: usize) -> Option<Broken>
 }
 
 /// Of each of `n` inputs whether it has feedthrough, as it is declared.
-fn feed_by(alloc: Global, part: &Part, n: usize) -> Result<Truths, NoMemory>
+fn feed_by(alloc: Global, part: &DirectFeedthrough, n: usize) -> Result<Truths, NoMemory>
     ensures { IfOk result (λ r. r ≡ feed_by (feedthrough_of part.now) n) }
 {
     match part {
-        Part::All(truth) => Truths::repeated(alloc, *truth, n),
-        Part::Each(truths) => Ok(Truths::of(truths.as_slice().to_vec(alloc)?)),
+        DirectFeedthrough::All(truth) => Truths::repeated(alloc, *truth, n),
+        DirectFeedthrough::Each(truths) => Ok(Truths::of(truths.as_slice().to_vec(alloc)?)),
     }
 }
 
@@ -379,7 +381,7 @@ pub fn check_spec(alloc: Global, gui: &str, f: &BlockFields, place: &Place) -> R
     ensures ok { IfOk result (λ s. checked place.now.path.items gui.now (fields_of f.now) ≡ Ok s) }
     ensures stop { IfErr result (λ e. Stops (checked place.now.path.items gui.now (fields_of f.now)) e) }
 {
-    match Kind::by_name(gui) {
+    match sci_names::by_name(gui) {
         None => {
             let unknown = Broken {
                 rule: Rule::UnknownBlock,

@@ -3,12 +3,12 @@ use Rattle.std.proofs.Common.{◌≡◌, ◌≤◌, ◌^◌, ℕ, List, codes, d
 use Rattle.std.proofs.lemmas.Fmt.{decimal_injective}
 use Rattle.sci_base.specs.Plain.{Violation}
 use Rattle.sci_io.specs.Files.{Files}
-use Rattle.sci_commands.specs.declared.command.Report.{Report}
-use Rattle.sci_commands.specs.declared.command.Report.TheVariants.{Check, Map, Schedule}
-use Rattle.sci_commands.specs.Answer.{Answer, refused}
-use Rattle.sci_commands.specs.Course.{DueOn}
-use Rattle.sci_commands.specs.Words.{Request, report, simulate, judge, code, run_c, report_word, spelled, InBounds}
-use Rattle.sci_commands.specs.Due.{course_of, Due}
+use Rattle.sci_words.specs.declared.command.Report.{Report}
+use Rattle.sci_words.specs.declared.command.Report.TheVariants.{Check, Map, Schedule}
+use Rattle.sci_answers.specs.Answer.{Answer, refused}
+use Rattle.sci_answers.specs.Course.{DueOn}
+use Rattle.sci_words.specs.Words.{Request, report, simulate, judge, code, run_c, report_word, spelled, InBounds}
+use Rattle.sci_answers.specs.Due.{course_of, Due}
 
 pub status-is : {a b : Answer} → a ≡ b → a.status ≡ b.status
 status-is h = ap (λ (c : Answer). c.status) h

@@ -3,7 +3,7 @@ use Rattle.std.proofs.Common.{◌≡◌, ◌≤◌, ℕ, suc, ◌+◌, ◌*◌, 
 use Rattle.sci_base.specs.declared.observation.Obs.{Obs}
 use Rattle.sci_forms.specs.declared.Kind.{Kind}
 use Rattle.sci_forms.specs.declared.spec.Spec.{Spec}
-use Rattle.sci_forms.specs.Names.{number_of}
+use Rattle.sci_forms.specs.Numbers.{number_of}
 use Rattle.sci_net.specs.Parts.{Parts}
 use Rattle.sci_net.specs.Net.{IsNet}
 use Rattle.sci_reaction.specs.Memory.{Columns}
@@ -15,7 +15,7 @@ use Rattle.sci_bank.specs.Bank.{Meaning}
 use Rattle.sci_bank.specs.Library.{bank_of, IsFull, total_outs}
 use Rattle.sci_sim.specs.Steps.{IsFiring, start, event}
 use Rattle.sci_sim.proofs.Totals.{together, sum_least, sum_most}
-use Rattle.sci_commands.specs.Counts.{CountsStopped}
+use Rattle.sci_answers.specs.Counts.{CountsStopped}
 use Rattle.sci_command_laws.specs.Counted.{AreStoppedWithin, CountsAddUp, StoppedCountsAddUp}
 
 within : (p : Spec → Bool) (b : ℕ) (ss : List Spec) (activations : ℕ → ℕ) → ((c : ℕ) → activations c ≤ 1000001) → activations_from p b ss activations ≤ 1000001 * length ss

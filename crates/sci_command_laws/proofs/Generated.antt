@@ -15,13 +15,13 @@ use Rattle.c_read.proofs.Uniqueness.{one_spelled}
 use Rattle.sci_cgen.specs.Laws.{answer_by}
 use Rattle.sci_verdict.specs.Verdict.{Plan, Accepts}
 use Rattle.sci_verdict.proofs.Verdicts.{one_verdict, given_is_net}
-use Rattle.sci_commands.specs.Inputs.{AcceptsColumns}
-use Rattle.sci_commands.specs.Answer.{Answer}
-use Rattle.sci_commands.specs.RunC.{c_ran, behind_program}
-use Rattle.sci_commands.specs.Code.{IsCodeOf}
-use Rattle.sci_commands.specs.Course.{DueOn}
-use Rattle.sci_commands.specs.Words.{code, run_c}
-use Rattle.sci_commands.specs.Due.{course_of}
+use Rattle.sci_answers.specs.Inputs.{AcceptsColumns}
+use Rattle.sci_answers.specs.Answer.{Answer}
+use Rattle.sci_answers.specs.RunC.{c_ran, behind_program}
+use Rattle.sci_answers.specs.Code.{IsCodeOf}
+use Rattle.sci_answers.specs.Course.{DueOn}
+use Rattle.sci_words.specs.Words.{code, run_c}
+use Rattle.sci_answers.specs.Due.{course_of}
 use Rattle.sci_command_laws.specs.Generated.{CodeIsNeverUndefined}
 use Rattle.sci_command_laws.proofs.Commands.{status-is, not_refused, code_alone, run_alone, due_course}
 

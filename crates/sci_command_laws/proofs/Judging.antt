@@ -14,14 +14,14 @@ use Rattle.sci_agree.specs.Verdict.{IsVerdict}
 use Rattle.sci_agree.proofs.Lines.{own_agreement}
 use Rattle.sci_verdict.specs.Verdict.{Plan, Accepts}
 use Rattle.sci_verdict.proofs.Verdicts.{one_verdict, given_is_net}
-use Rattle.sci_commands.specs.Inputs.{AcceptsColumns, behind_inputs}
-use Rattle.sci_commands.specs.Answer.{Answer, IsDone, refused}
-use Rattle.sci_commands.specs.Simulate.{IsTraceOf, gives_trace}
-use Rattle.sci_commands.specs.Judge.{IsJudgementOf, reads_trace}
-use Rattle.sci_commands.specs.Course.{Holds, DueOn}
-use Rattle.sci_commands.specs.Words.{simulate, judge}
-use Rattle.sci_commands.specs.Due.{course_of}
-use Rattle.sci_commands.specs.RunsDue.{IsSimulatedRun}
+use Rattle.sci_answers.specs.Inputs.{AcceptsColumns, behind_inputs}
+use Rattle.sci_answers.specs.Answer.{Answer, IsDone, refused}
+use Rattle.sci_answers.specs.Simulate.{IsTraceOf, gives_trace}
+use Rattle.sci_answers.specs.Judge.{IsJudgementOf, reads_trace}
+use Rattle.sci_answers.specs.Course.{Holds, DueOn}
+use Rattle.sci_words.specs.Words.{simulate, judge}
+use Rattle.sci_answers.specs.Due.{course_of}
+use Rattle.sci_command_laws.specs.RunsDue.{IsSimulatedRun}
 use Rattle.sci_command_laws.specs.Judging.{JudgeSaysYes, JudgeSaysYesOfNothingElse}
 use Rattle.sci_command_laws.proofs.Commands.{status-is, not_refused, simulate_alone, judge_alone, due_course}
 use Rattle.sci_command_laws.proofs.Lines.{text_lines}

@@ -1,6 +1,13 @@
-pub mod Commands
-pub mod Lines
-pub mod Judging
-pub mod Statuses
-pub mod Generated
-pub mod Counted
+mod BulkRuns
+mod Commands
+mod Counted
+mod DumpRuns
+mod Generated
+mod Judging
+mod Lines
+mod OneAnswer
+mod Resumed
+mod RunsAlike
+mod RunsDue
+mod ShortColumns
+mod Statuses

@@ -6,20 +6,20 @@ use Rattle.sci_io.specs.Files.{Files}
 use Rattle.sci_net.specs.Parts.{Parts}
 use Rattle.sci_reaction.specs.Memory.{Columns}
 use Rattle.sci_trace.specs.Lines.{stops}
-use Rattle.c_mean.specs.declared.start.CEnd.{CEnd}
-use Rattle.c_mean.specs.declared.start.CEnd.TheVariants.{End, Stop, Undefined}
+use Rattle.c_run.specs.declared.start.CEnd.{CEnd}
+use Rattle.c_run.specs.declared.start.CEnd.TheVariants.{End, Stop, Undefined}
 use Rattle.c_mean.specs.Meaning.{Ran, meaning}
-use Rattle.c_mean.specs.Answering.{end_of}
+use Rattle.c_run.specs.Answering.{end_of}
 use Rattle.sci_agree.specs.declared.verdict.Verdict.{Verdict}
 use Rattle.sci_agree.specs.declared.verdict.Verdict.TheVariants.{Yes, No}
-use Rattle.sci_commands.specs.Words.{Request, report, simulate, judge, save, resume, code, run_c, host, bulk, dump, dump_at, Spells}
-use Rattle.sci_commands.specs.Answer.{Answer}
-use Rattle.sci_commands.specs.RunC.{c_status, c_err, c_ran, undefined_line}
-use Rattle.sci_commands.specs.Simulate.{run_status}
-use Rattle.sci_commands.specs.Judge.{judged}
-use Rattle.sci_commands.specs.Save.{IsSaveOf, saves, ended}
-use Rattle.sci_commands.specs.Course.{Course, gives, makes, reads, DueOn}
-use Rattle.sci_commands.specs.Due.{course_of}
+use Rattle.sci_words.specs.Words.{Request, report, simulate, judge, save, resume, code, run_c, host, bulk, dump, dump_at, Spells}
+use Rattle.sci_answers.specs.Answer.{Answer}
+use Rattle.sci_answers.specs.RunC.{c_status, c_err, c_ran, undefined_line}
+use Rattle.sci_answers.specs.Simulate.{run_status}
+use Rattle.sci_answers.specs.Judge.{judged}
+use Rattle.sci_answers.specs.Save.{IsSaveOf, saves, ended}
+use Rattle.sci_answers.specs.Course.{Course, gives, makes, reads, DueOn}
+use Rattle.sci_answers.specs.Due.{course_of}
 use Rattle.sci_command_laws.specs.Statuses.{statuses_of, IsOneOf, EachHasItsStatuses, JudgesNo, EightIsOfJudge, RunsUndefined, SevenIsOfCrun, MayStop, SixIsOfRuns}
 use Rattle.sci_command_laws.proofs.Commands.{status-is}
 

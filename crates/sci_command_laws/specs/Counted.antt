@@ -11,7 +11,7 @@ use Rattle.sci_run.specs.Run.{State}
 use Rattle.sci_store.specs.Store.{MayActivate}
 use Rattle.sci_bank.specs.Bank.{Meaning}
 use Rattle.sci_bank.specs.Library.{IsFull, total_outs}
-use Rattle.sci_commands.specs.Counts.{CountsEnded, CountsStopped}
+use Rattle.sci_answers.specs.Counts.{CountsEnded, CountsStopped}
 
 -- Where the run of a net of at most 1,000,000 events has ended, the sum of what the banks of all kinds have counted is how many blocks were active, over all its reactions.
 abbrev pub CountsAddUp : Type 0

@@ -4,10 +4,10 @@ use Rattle.sci_base.specs.declared.limits.TheConstants.{TICKS, EVENTS}
 use Rattle.sci_io.specs.Files.{Files}
 use Rattle.sci_needs.specs.Needs.{needs_of}
 use Rattle.sci_verdict.specs.Verdict.{Plan, Accepts}
-use Rattle.sci_commands.specs.Inputs.{AcceptsColumns}
-use Rattle.sci_commands.specs.Words.{code, run_c, spelled}
-use Rattle.sci_commands.specs.Answer.{Answer}
-use Rattle.sci_commands.specs.Due.{Due}
+use Rattle.sci_answers.specs.Inputs.{AcceptsColumns}
+use Rattle.sci_words.specs.Words.{code, run_c, spelled}
+use Rattle.sci_answers.specs.Answer.{Answer}
+use Rattle.sci_answers.specs.Due.{Due}
 
 -- The diagram's bytes are accepted, and this answer of ccode is due of them. The input file's bytes are no columns, or these have what the diagram's
 -- sensors need.

@@ -3,13 +3,13 @@ use Rattle.std.specs.Prelude.{ℕ, ◌≡◌, ◌≤◌, length, List, [], ◌�
 use Rattle.sci_base.specs.declared.observation.Obs.{Obs}
 use Rattle.sci_io.specs.Files.{Files}
 use Rattle.sci_agree.specs.declared.verdict.Verdict.TheVariants.{Yes}
-use Rattle.sci_commands.specs.Words.{judge, spelled}
-use Rattle.sci_commands.specs.Answer.{Answer}
-use Rattle.sci_commands.specs.Simulate.{ran}
-use Rattle.sci_commands.specs.Judge.{judged}
-use Rattle.sci_commands.specs.Course.{Holds, third_slot}
-use Rattle.sci_commands.specs.Due.{Due}
-use Rattle.sci_commands.specs.RunsDue.{IsSimulatedRun}
+use Rattle.sci_words.specs.Words.{judge, spelled}
+use Rattle.sci_answers.specs.Answer.{Answer}
+use Rattle.sci_answers.specs.Simulate.{ran}
+use Rattle.sci_answers.specs.Judge.{judged}
+use Rattle.sci_answers.specs.Course.{Holds, third_slot}
+use Rattle.sci_answers.specs.Due.{Due}
+use Rattle.sci_command_laws.specs.RunsDue.{IsSimulatedRun}
 
 -- Of the bytes that are due of simulate judge is due to say yes, with how many observations they tell.
 pub record IsToldYes (files : Files) (d i v : List ℕ) (until limit : ℕ) (diagram inputs : List ℕ) (simulated : Answer) : Type 0 where

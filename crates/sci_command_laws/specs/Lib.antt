@@ -1,4 +1,10 @@
-pub mod Judging
-pub mod Statuses
-pub mod Generated
+pub mod BulkRuns
 pub mod Counted
+pub mod DumpRuns
+pub mod Generated
+pub mod Judging
+pub mod OneAnswer
+pub mod Ran
+pub mod Resumed
+pub mod RunsDue
+pub mod Statuses

@@ -2,11 +2,11 @@
 use Rattle.std.specs.Prelude.{ℕ, ◌≡◌, ◌⊎◌, List, [], ◌∷◌}
 use Rattle.sci_io.specs.Files.{Files}
 use Rattle.sci_agree.specs.declared.verdict.Verdict.TheVariants.{No}
-use Rattle.sci_commands.specs.Words.{Request, report, simulate, judge, save, resume, code, run_c, host, bulk, dump, dump_at, Spells, NoCommand}
-use Rattle.sci_commands.specs.Answer.{Answer}
-use Rattle.sci_commands.specs.RunC.{undefined_line}
-use Rattle.sci_commands.specs.Judge.{judged}
-use Rattle.sci_commands.specs.Due.{Due}
+use Rattle.sci_words.specs.Words.{Request, report, simulate, judge, save, resume, code, run_c, host, bulk, dump, dump_at, Spells, NoCommand}
+use Rattle.sci_answers.specs.Answer.{Answer}
+use Rattle.sci_answers.specs.RunC.{undefined_line}
+use Rattle.sci_answers.specs.Judge.{judged}
+use Rattle.sci_answers.specs.Due.{Due}
 
 -- 0 where it was done, 1 where it was refused, 6 where a run stopped, 7 where a C program has no meaning, 8 where a file isn't the trace
 abbrev pub statuses_of : Request → List ℕ

@@ -5,20 +5,20 @@ use Rattle.sci_bank.specs.Bank.{Meaning}
 use Rattle.sci_io.specs.Causes.{Rose, counted}
 use Rattle.sci_io.specs.Files.{FolderState}
 use Rattle.sci_io.specs.Taken.{SinkState}
-use Rattle.sci_commands.specs.Words.{Request, Spells, NoCommand, files_of}
-use Rattle.sci_commands.specs.Answer.{Answer, IsDone}
-use Rattle.sci_commands.specs.Course.{AsksFront}
-use Rattle.sci_commands.specs.Due.{course_of, Due}
-use Rattle.sci_commands.specs.Counts.{HaveCounted}
-use Rattle.sci_commands.specs.Reached.{ReachesOf, ReachesBy, AsksFrontOf}
-use Rattle.sci_commands.specs.Written.{Given, Written}
+use Rattle.sci_words.specs.Words.{Request, Spells, NoCommand, files_of}
+use Rattle.sci_answers.specs.Answer.{Answer, IsDone}
+use Rattle.sci_answers.specs.Course.{AsksFront}
+use Rattle.sci_answers.specs.Due.{course_of, Due}
+use Rattle.sci_answers.specs.Counts.{HaveCounted}
+use Rattle.sci_answers.specs.Reached.{ReachesOf, ReachesBy, AsksFrontOf}
+use Rattle.sci_answers.specs.Written.{Given, Written}
 use Rattle.sci_commands.specs.Headline.{Quiet, GivesDue, AsksMemory, AsksInOrder, AsksAll, Meets}
-use Rattle.sci_commands.proofs.Ends.{status-is, out-is, done_by, ends_of, Kind, printed, turned_down, kind_of, front_of, front_files}
+use Rattle.sci_answers.proofs.Ends.{status-is, out-is, done_by, ends_of, EndKind, printed, turned_down, kind_of, front_of, front_files}
 
 -- what a call came to, with what its status tells
 pub data Came (words : List (List ℕ)) (bytes : List (List ℕ)) (old new : FolderState) (a : Answer) : Type 0 where
   used : NoCommand words → Due old.files words bytes [] a → new.asked ≡ old.asked → a.status ≡ 2 → a.out ≡ [] → Came words bytes old new a
-  gave : (c : Request) (names : List (List ℕ)) → Spells words c → Due old.files words bytes names a → new.asked ≡ old.asked ++ names → Kind (files_of c) names a → Came words bytes old new a
+  gave : (c : Request) (names : List (List ℕ)) → Spells words c → Due old.files words bytes names a → new.asked ≡ old.asked ++ names → EndKind (files_of c) names a → Came words bytes old new a
   faulted : Rose old.faults new.faults → a.status ≡ 3 → a.out ≡ [] → Came words bytes old new a
   lacked : AsksMemory words → a.status ≡ 5 → a.out ≡ [] → Came words bytes old new a
 
@@ -79,7 +79,7 @@ not_done s not0 not6 not7 not8 (inr (inr (inr h))) = not8 h
 is_other : (s : ℕ) → 2 ≤ s → s ≤ 5 → IsOther s
 is_other s least most = (not_done s (λ e. omega (arith, e, least)) (λ e. omega (arith, e, most)) (λ e. omega (arith, e, most)) (λ e. omega (arith, e, most)), λ e. omega (arith, e, least))
 
-pub no_kind : (files names : List (List ℕ)) (a : Answer) → Kind files names a → IsOther a.status → ⊥
+pub no_kind : (files names : List (List ℕ)) (a : Answer) → EndKind files names a → IsOther a.status → ⊥
 no_kind files names a (printed h all) other = other.0 h
 no_kind files names a (turned_down h o) other = other.1 h
 
@@ -121,7 +121,7 @@ done_not_one s (inr (inl h)) e = omega (arith, h, e)
 done_not_one s (inr (inr (inl h))) e = omega (arith, h, e)
 done_not_one s (inr (inr (inr h))) e = omega (arith, h, e)
 
-pub all_of : (words : List (List ℕ)) (old new : FolderState) (a : Answer) (c : Request) (names : List (List ℕ)) → Spells words c → new.asked ≡ old.asked ++ names → Kind (files_of c) names a → (a.status ≡ 1 → ⊥) → AsksAll words old new
+pub all_of : (words : List (List ℕ)) (old new : FolderState) (a : Answer) (c : Request) (names : List (List ℕ)) → Spells words c → new.asked ≡ old.asked ++ names → EndKind (files_of c) names a → (a.status ≡ 1 → ⊥) → AsksAll words old new
 all_of words old new a c names spells is (printed h all) not1 = (c, spells, is ∙ ap (λ (l : List (List ℕ)). old.asked ++ l) all)
 all_of words old new a c names spells is (turned_down h o) not1 = absurd (not1 h)
 

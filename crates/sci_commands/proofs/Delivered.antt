@@ -3,14 +3,14 @@ use Rattle.std.proofs.Common.{ℕ, List, inl, inr, arith}
 use Rattle.sci_bank.specs.Bank.{Meaning}
 use Rattle.sci_io.specs.Files.{FolderState}
 use Rattle.sci_io.specs.Taken.{SinkState}
-use Rattle.sci_commands.specs.Answer.{Answer, IsDone, no_memory}
-use Rattle.sci_commands.specs.Coming.{Reaches, ReachesCounted}
-use Rattle.sci_commands.specs.Prepare.{IsAnswerOf, MayLack, LeavesBanks}
-use Rattle.sci_commands.specs.Deliver.{Delivers}
+use Rattle.sci_answers.specs.Answer.{Answer, IsDone, no_memory}
+use Rattle.sci_answers.specs.Coming.{Reaches, ReachesCounted}
+use Rattle.sci_answers.specs.Prepared.{IsAnswerOf, MayLack, LeavesBanks}
+use Rattle.sci_deliver.specs.Deliver.{Delivers}
 use Rattle.sci_commands.specs.Headline.{Meets}
-use Rattle.sci_commands.specs.declared.prepare.Prepared.{Prepared}
+use Rattle.sci_answers.specs.declared.prepared.Prepared.{Prepared}
 use Rattle.sci_commands.proofs.Causes.{met_by}
-use Rattle.sci_commands.proofs.Ends.{undone}
+use Rattle.sci_answers.proofs.Ends.{undone}
 
 pub met_either : (p : Prepared) (words : List (List ℕ)) (old new : FolderState) (out out' err err' : SinkState) (before after : List Meaning) (s : ℕ) → ((a : Answer) → IsAnswerOf p a → ReachesCounted words old new a (LeavesBanks p before))
     → (MayLack p → Reaches words old new no_memory) → (IsDone s → LeavesBanks p before after) → Delivers p out out' err err' s → Meets words old new out out' err err' after s

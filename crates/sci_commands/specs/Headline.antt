@@ -4,13 +4,13 @@ use Rattle.sci_bank.specs.Bank.{Meaning}
 use Rattle.sci_io.specs.Causes.{Rose}
 use Rattle.sci_io.specs.Files.{FolderState}
 use Rattle.sci_io.specs.Taken.{SinkState}
-use Rattle.sci_commands.specs.Words.{Request, Spells, NoCommand, files_of}
-use Rattle.sci_commands.specs.Answer.{Answer, IsDone}
-use Rattle.sci_commands.specs.Course.{TakesMemory}
-use Rattle.sci_commands.specs.Due.{course_of, Due}
-use Rattle.sci_commands.specs.Counts.{HaveCounted}
-use Rattle.sci_commands.specs.Reached.{ReachesBy, AsksFrontOf}
-use Rattle.sci_commands.specs.Written.{Given, Written}
+use Rattle.sci_words.specs.Words.{Request, Spells, NoCommand, files_of}
+use Rattle.sci_answers.specs.Answer.{Answer, IsDone}
+use Rattle.sci_answers.specs.Course.{TakesMemory}
+use Rattle.sci_answers.specs.Due.{course_of, Due}
+use Rattle.sci_answers.specs.Counts.{HaveCounted}
+use Rattle.sci_answers.specs.Reached.{ReachesBy, AsksFrontOf}
+use Rattle.sci_answers.specs.Written.{Given, Written}
 
 -- no fault rose
 abbrev pub Quiet : ℕ → ℕ → Type 0

@@ -3,11 +3,11 @@ ghost use Rattle.sci_bank.specs.Library.{IsFull};
 ghost use Rattle.sci_commands.specs.Headline.{Meets};
 ghost use Rattle.sci_commands.specs.Defined.{WritesDefined};
 
-use crate::deliver::deliver;
-use crate::prepare::prepare;
 use sci_bank::Bank;
 use sci_bank::library::Library;
+use sci_deliver::deliver::deliver;
 use sci_io::{Folder, Sink};
+use sci_prepare::prepare::prepare;
 use std::alloc::Global;
 
 /// Does what the words ask for, and gives the status: 0 where it was done, 1 where a rule is broken, 2 where the words are

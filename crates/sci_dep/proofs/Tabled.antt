@@ -6,7 +6,7 @@ use Rattle.std.specs.declared.alloc.Global.{Global}
 use Rattle.std.proofs.lemmas.Bool.{cases_eq}
 use Rattle.std.proofs.lemmas.Grind.{get_or_default_zero}
 use Rattle.std.proofs.lemmas.List.{get_or-take, length-take-le, take_more, length-map, get_or-map, get_or_append_left, get_or_push}
-use Rattle.std.proofs.lemmas.List.Elements.{Contains-append_left, Contains-push, Contains-push_cases, Contains-get_or}
+use Rattle.std.proofs.lemmas.List.Elements.{All-contains, Contains-append_left, Contains-push, Contains-push_cases, Contains-get_or}
 use Rattle.std.proofs.lemmas.List.Kept.{AllPairs-from_increasing}
 use Rattle.std.proofs.lemmas.Option.{slice_get-get_or, slice_get_within, slice_get_cases, get_or_from_slice_get}
 use Rattle.sci_loop.specs.Lists.{plain, list_at}
@@ -118,10 +118,16 @@ waits_inside n w c m xs waits net is count j d h =
     ]
 
 -- what is found are blocks
-pub found_blocks : (n : Parts) (s : Source) (found members : List ℕ) → ArePossible n s found → ((b : ℕ) → Contains members b ↔ Contains found b) → All (IsBlock n) members
-found_blocks n s found members possible exactly j d h =
+pub found_blocks : (n : Parts) (s : Source) (found : List ℕ) → ArePossible n s found → All (IsBlock n) found
+found_blocks n s found possible j d h =
+    let b : ℕ = get_or found j d in
+    Spread-block n s _ ((possible b).0 (Contains-get_or found j d h))
+
+-- and so are the members, which are what is found
+pub members_blocks : (n : Parts) (found members : List ℕ) → All (IsBlock n) found → ((b : ℕ) → Contains members b ↔ Contains found b) → All (IsBlock n) members
+members_blocks n found members blocks exactly j d h =
     let b : ℕ = get_or members j d in
-    Spread-block n s _ ((possible b).0 ((exactly b).0 (Contains-get_or members j d h)))
+    All-contains (IsBlock n) found b blocks ((exactly b).0 (Contains-get_or members j d h))
 
 -- ---- the whole table
 

@@ -1,7 +1,9 @@
 //! The possible blocks of a source, and what each of them depends on.
 #![tactic(auto)]
 
-ghost use Rattle.std.specs.Prelude.{◌≡◌, ◌+◌, ◌<◌, length, IfOk, OnOk};
+ghost use Rattle.std.specs.Prelude.{◌≡◌, ◌+◌, ◌<◌, length, All, IfOk, OnOk};
+ghost use Rattle.sci_net.specs.declared.Source.{Source};
+ghost use Rattle.sci_net.specs.Parts.{IsBlock};
 ghost use Rattle.sci_net.specs.Sources.{sources_of, source_of};
 ghost use Rattle.sci_inherit.specs.Origins.{AreOrigins};
 ghost use Rattle.sci_dep.specs.Tables.{AreWaits, ArePossible, IsTableOf};
@@ -33,24 +35,19 @@ pub fn possible(net: &Net, reach: &Reach, source: u32, walk: &mut Walk) -> Resul
     requires count { walk.old.count ≡ length net.now.specs + 1 }
     ensures count { walk.new.count ≡ walk.old.count }
     ensures possible { OnOk result (ArePossible net.now (source_of net.now source) walk.new.found) }
+    ensures blocks { OnOk result (All (IsBlock net.now) walk.new.found) }
 {
     net.well_formed();
     walk.walk(reach.onward(), reach.always(source))
 }
 
-/// The table of the dependencies among the possible blocks of the source at this place, which the walk has found. The time is that of
-/// sorting them, and of a look at each block that one of them waits for. Want of memory is the only error.
-pub fn depends(
-    alloc: Global,
-    net: &Net,
-    waits: &Waits,
-    source: u32,
-    walk: &Walk,
-) -> Result<DepTable, NoMemory>
+/// The table of the dependencies among the blocks that the walk has found: that of each source whose possible blocks they are. The time is
+/// that of sorting them, and of a look at each block that one of them waits for. Want of memory is the only error.
+pub fn depends(alloc: Global, net: &Net, waits: &Waits, walk: &Walk) -> Result<DepTable, NoMemory>
     requires waits { AreWaits net.now waits.now }
     requires count { walk.now.count ≡ length net.now.specs + 1 }
-    requires possible { ArePossible net.now (source_of net.now source) walk.now.found }
-    ensures { IfOk result (λ t. IsTableOf net.now (source_of net.now source) t) }
+    requires blocks { All (IsBlock net.now) walk.now.found }
+    ensures { IfOk result (λ t. (s : Source) → ArePossible net.now s walk.now.found → IsTableOf net.now s t) }
 {
-    table::made(alloc, net, waits, source, walk)
+    table::made(alloc, net, waits, walk)
 }

@@ -2,8 +2,8 @@
 ghost use Rattle.std.specs.Prelude.{◌≡◌, ℕ, ◌+◌, ◌<◌, ◌≤◌, ◌↔◌, [], length, All, Contains, IfOk, OnOk};
 ghost use Rattle.std.specs.List.Sorted.{IsStrictlyIncreasing};
 ghost use Rattle.sci_loop.specs.Lists.{plain};
+ghost use Rattle.sci_net.specs.declared.Source.{Source};
 ghost use Rattle.sci_net.specs.Parts.{numbered, IsBlock};
-ghost use Rattle.sci_net.specs.Sources.{source_of};
 ghost use Rattle.sci_dep.specs.Tables.{AreWaits, ArePossible, IsTableOf};
 ghost use Rattle.sci_dep.specs.Building.{KeepsFound, AreNeeds};
 
@@ -60,18 +60,12 @@ fn needs(
     Ok(needs)
 }
 
-/// The possible blocks, and what they depend on.
-pub fn made(
-    alloc: Global,
-    net: &Net,
-    waits: &Waits,
-    _source: u32,
-    walk: &Walk,
-) -> Result<DepTable, NoMemory>
+/// The blocks that the walk has found, and what they depend on among them: the table of each source whose possible blocks they are.
+pub fn made(alloc: Global, net: &Net, waits: &Waits, walk: &Walk) -> Result<DepTable, NoMemory>
     requires waits { AreWaits net.now waits.now }
     requires count { walk.now.count ≡ length net.now.specs + 1 }
-    requires possible { ArePossible net.now (source_of net.now _source) walk.now.found }
-    ensures { IfOk result (λ t. IsTableOf net.now (source_of net.now _source) t) }
+    requires blocks { All (IsBlock net.now) walk.now.found }
+    ensures { IfOk result (λ t. (s : Source) → ArePossible net.now s walk.now.found → IsTableOf net.now s t) }
 {
     let members = members(alloc, walk)?;
     let needs = needs(alloc, net, waits, &members, walk)?;

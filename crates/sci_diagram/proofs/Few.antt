@@ -6,8 +6,8 @@ use Rattle.serde_json.specs.Find.{get, as_str}
 use Rattle.sci_base.specs.Plain.{Violation}
 use Rattle.sci_base.specs.Outcome.{◌>>=◌}
 use Rattle.sci_json.specs.Field.{field, as_ints}
-use Rattle.sci_diagram.specs.declared.sorts.Role.{Role}
-use Rattle.sci_diagram.specs.declared.sorts.Role.TheVariants.{Kind, Port, Joint, Tag, Super}
+use Rattle.sci_diagram.specs.declared.sorts.ObjectRole.{ObjectRole}
+use Rattle.sci_diagram.specs.declared.sorts.ObjectRole.TheVariants.{Kind, Port, Joint, Tag, Super}
 use Rattle.sci_diagram.specs.declared.sorts.Sort.{Sort}
 use Rattle.sci_diagram.specs.Objects.{Object, Objects, block, superblock, link, text, deleted, no_objects, object as one_object}
 use Rattle.sci_diagram.specs.Tree.{Inner, required, whole_object, sim_name, is_super, role_of, read_fields, inside, block_of, read_block, read_sort, object_of, read_object, read_link, link_end, second, walk, list_of, diagram_at}
@@ -25,7 +25,7 @@ after : {A B : Type 0} (g : B → ℕ) (n : ℕ) (o : Result A Violation) (f : A
 after g n (Err e) f h = tt
 after g n (Ok a) f h = h a refl
 
-one_at_most : (r : Role) → one_of_kind r ≤ 1
+one_at_most : (r : ObjectRole) → one_of_kind r ≤ 1
 one_at_most Kind = omega arith
 one_at_most Port = omega arith
 one_at_most Joint = omega arith

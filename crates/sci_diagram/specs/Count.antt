@@ -5,12 +5,12 @@ use Rattle.sci_base.specs.declared.refusal.Rule.{Rule}
 use Rattle.sci_base.specs.declared.refusal.Rule.TheVariants.{TooManyBlocks, TooManyLinks}
 use Rattle.sci_base.specs.Plain.{Violation}
 use Rattle.sci_base.specs.Outcome.{Outcome}
-use Rattle.sci_diagram.specs.declared.sorts.Role.{Role}
-use Rattle.sci_diagram.specs.declared.sorts.Role.TheVariants.{Kind, Port, Joint, Tag, Super}
+use Rattle.sci_diagram.specs.declared.sorts.ObjectRole.{ObjectRole}
+use Rattle.sci_diagram.specs.declared.sorts.ObjectRole.TheVariants.{Kind, Port, Joint, Tag, Super}
 use Rattle.sci_diagram.specs.Objects.{Object, block, superblock, link, text, deleted, Objects, no_objects, object}
 use Rattle.sci_diagram.specs.Tree.{role_of}
 
-abbrev pub one_of_kind : Role → ℕ
+abbrev pub one_of_kind : ObjectRole → ℕ
 one_of_kind Kind = 1
 one_of_kind Port = 0
 one_of_kind Joint = 0

@@ -10,8 +10,8 @@ use Rattle.sci_base.specs.Plain.{Violation, Dependence, Fields}
 use Rattle.sci_base.specs.Outcome.{Outcome, ◌>>=◌}
 use Rattle.sci_json.specs.Field.{Field, absent, ill_formed, holds, field, as_ints, as_dep}
 use Rattle.sci_diagram.specs.declared.diagram.End.{End}
-use Rattle.sci_diagram.specs.declared.sorts.Role.{Role}
-use Rattle.sci_diagram.specs.declared.sorts.Role.TheVariants.{Kind, Port, Joint, Tag, Super}
+use Rattle.sci_diagram.specs.declared.sorts.ObjectRole.{ObjectRole}
+use Rattle.sci_diagram.specs.declared.sorts.ObjectRole.TheVariants.{Kind, Port, Joint, Tag, Super}
 use Rattle.sci_diagram.specs.declared.sorts.Sort.{Sort}
 use Rattle.sci_diagram.specs.Objects.{Object, block, superblock, link, text, deleted, Objects, no_objects, object as one_object}
 
@@ -112,17 +112,17 @@ is_tag s = bytes_eq s (codes "GOTO") || bytes_eq s (codes "FROM") || bytes_eq s 
 abbrev pub is_pass_through : List ℕ → Bool
 is_pass_through s = is_port s || is_joint s || is_tag s
 
-abbrev pub role_of : List ℕ → Role
+abbrev pub role_of : List ℕ → ObjectRole
 role_of gui = if is_port gui then Port else (if is_joint gui then Joint else (if is_tag gui then Tag else Kind))
 
-abbrev pub keeps_state : Role → Bool
+abbrev pub keeps_state : ObjectRole → Bool
 keeps_state Kind = true
 keeps_state Port = false
 keeps_state Joint = false
 keeps_state Tag = false
 keeps_state Super = false
 
-abbrev pub keeps_ipar : Role → Bool
+abbrev pub keeps_ipar : ObjectRole → Bool
 keeps_ipar Kind = true
 keeps_ipar Port = true
 keeps_ipar Joint = false
@@ -139,7 +139,7 @@ there at None = Err (missing at (pos 15))
 there at (Some d) = Ok tt
 
 -- a superblock has an inner diagram
-abbrev pub inner_there : Role → List ℕ → Data → Outcome (Unit {0})
+abbrev pub inner_there : ObjectRole → List ℕ → Data → Outcome (Unit {0})
 inner_there Kind at model = Ok tt
 inner_there Port at model = Ok tt
 inner_there Joint at model = Ok tt
@@ -151,7 +151,7 @@ dep_at at absent = Ok None
 dep_at at ill_formed = Err (wrong at (pos 18))
 dep_at at (holds p) = Ok (Some p)
 
-unfoldable pub read_fields : Role → List ℕ → Data → Outcome Fields
+unfoldable pub read_fields : ObjectRole → List ℕ → Data → Outcome Fields
 read_fields role at m = do
   ins ← small_list at (pos 6) (codes "in") m
   in2 ← small_list at (pos 7) (codes "in2") m

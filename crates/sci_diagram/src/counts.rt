@@ -4,7 +4,7 @@ ghost use Rattle.sci_diagram.specs.Count.{blocks_in, blocks_of, links_in, links_
 ghost use Rattle.sci_diagram.specs.Tree.{role_of};
 
 use crate::diagram::{Diagram, Obj};
-use crate::sorts::Role;
+use crate::sorts::ObjectRole;
 
 /// The blocks that are neither superblocks nor pass-through nor tag objects, over all levels.
 #[cycle(count)]
@@ -38,9 +38,9 @@ fn count_object(obj: &Obj) -> u64
 fn of_kind(gui: &str) -> u64
     ensures { result ≡ one_of_kind (role_of gui.now) }
 {
-    match Role::of(gui) {
-        Role::Kind => 1,
-        Role::Port | Role::Joint | Role::Tag | Role::Super => 0,
+    match ObjectRole::of(gui) {
+        ObjectRole::Kind => 1,
+        ObjectRole::Port | ObjectRole::Joint | ObjectRole::Tag | ObjectRole::Super => 0,
     }
 }
 

@@ -22,4 +22,4 @@ pub use from_bytes::read;
 pub use laws::{one_diagram, one_verdict, one_violation};
 pub use pass_through::{is_pass_through, is_tag};
 pub use places::child;
-pub use sorts::{Role, Sort};
+pub use sorts::{ObjectRole, Sort};

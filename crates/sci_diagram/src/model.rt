@@ -12,7 +12,7 @@ ghost use Rattle.sci_diagram.specs.Weight.{weight};
 use crate::fields::{missing, optional_ints, small_ints, wrong};
 use crate::keys;
 use crate::numbers::small_count;
-use crate::sorts::Role;
+use crate::sorts::ObjectRole;
 use crate::table::Fields;
 use sci_base::{BlockFields, Dep, Stop};
 use sci_json::FieldStop;
@@ -77,7 +77,7 @@ fn ints_where(
 #[tactic(auto, using(crate::proofs::Told::tells_violation))]
 fn inner_there(
     alloc: Global,
-    role: Role,
+    role: ObjectRole,
     model: &Fields<'_, '_, '_>,
     at: &[u32],
 ) -> Result<(), Stop>
@@ -85,7 +85,7 @@ fn inner_there(
     ensures stop { IfErr result (λ e. Tells (inner_there role at.now (view model.now)) e) }
 {
     match role {
-        Role::Super => match model.get(keys::RPAR) {
+        ObjectRole::Super => match model.get(keys::RPAR) {
             None => Err(missing(alloc, at, keys::RPAR)),
             Some(_) => Ok(()),
         },
@@ -132,7 +132,7 @@ fn count(alloc: Global, v: &Fields<'_, '_, '_>, code: u32, at: &[u32]) -> Result
 #[tactic(auto, using(sci_base::proofs::Stopping::stops_then, crate::proofs::Told::told_then), unfolding(crate::specs::Tree::read_fields))]
 pub(crate) fn read_fields(
     alloc: Global,
-    role: Role,
+    role: ObjectRole,
     model: &Fields<'_, '_, '_>,
     at: &[u32],
 ) -> Result<BlockFields, Stop>

@@ -22,7 +22,7 @@ pub enum Sort {
 
 /// What a block is, as far as it decides which fields of its model are looked at.
 #[derive(Clone, Copy, PartialEq, Eq, Drop)]
-pub enum Role {
+pub enum ObjectRole {
     /// A block of some kind.
     Kind,
     /// A port of the superblock around it: IN_f, OUT_f, CLKINV_f, CLKOUTV_f.
@@ -35,18 +35,18 @@ pub enum Role {
     Super,
 }
 
-impl Role {
+impl ObjectRole {
     ghost use Rattle.sci_diagram.specs.Tree.{role_of, keeps_state, keeps_ipar};
 
     /// By its name, for a block that is no superblock.
-    pub fn of(gui: &str) -> Role
+    pub fn of(gui: &str) -> ObjectRole
         ensures { result ≡ role_of gui.now }
     {
         match gui {
-            "IN_f" | "OUT_f" | "CLKINV_f" | "CLKOUTV_f" => Role::Port,
-            "SPLIT_f" | "CLKSPLIT_f" | "CLKSOM_f" | "CLKSOMV_f" => Role::Joint,
-            "GOTO" | "FROM" | "CLKGOTO" | "CLKFROM" => Role::Tag,
-            _ => Role::Kind,
+            "IN_f" | "OUT_f" | "CLKINV_f" | "CLKOUTV_f" => ObjectRole::Port,
+            "SPLIT_f" | "CLKSPLIT_f" | "CLKSOM_f" | "CLKSOMV_f" => ObjectRole::Joint,
+            "GOTO" | "FROM" | "CLKGOTO" | "CLKFROM" => ObjectRole::Tag,
+            _ => ObjectRole::Kind,
         }
     }
 
@@ -54,14 +54,14 @@ impl Role {
     pub fn keeps_state(self) -> bool
         ensures { result ≡ keeps_state self }
     {
-        self == Role::Kind
+        self == ObjectRole::Kind
     }
 
     /// Whether `ipar` is looked at.
     pub fn keeps_ipar(self) -> bool
         ensures { result ≡ keeps_ipar self }
     {
-        matches!(self, Role::Kind | Role::Port | Role::Tag)
+        matches!(self, ObjectRole::Kind | ObjectRole::Port | ObjectRole::Tag)
     }
 }
 

@@ -14,7 +14,7 @@ use crate::keys;
 use crate::links::read_link;
 use crate::model::{is_super, read_fields};
 use crate::places::child;
-use crate::sorts::{Role, Sort, read_sort};
+use crate::sorts::{ObjectRole, Sort, read_sort};
 use crate::table::{Fields, look_up, nothing};
 use sci_base::Stop;
 use sci_json::FieldStop;
@@ -142,7 +142,7 @@ fn block_of(
         (λ e. Stops (modelled (diagram_at left) at.now (string_bytes gui) (view model.now)) e) }
 {
     if is_super(alloc, model, at)? {
-        let fields = read_fields(alloc, Role::Super, model, at)?;
+        let fields = read_fields(alloc, ObjectRole::Super, model, at)?;
         let Some(rpar) = model.get(keys::RPAR) else {
             return Err(missing(alloc, at, keys::RPAR));
         };
@@ -153,7 +153,7 @@ fn block_of(
             inner: Some(inner),
         })
     } else {
-        let fields = read_fields(alloc, Role::of(gui.as_str()), model, at)?;
+        let fields = read_fields(alloc, ObjectRole::of(gui.as_str()), model, at)?;
         Ok(BlockObj {
             gui,
             fields,

@@ -4,7 +4,7 @@ ghost use Rattle.sci_base.specs.declared.limits.TheConstants.{DIAGRAM_BYTES};
 
 use crate::print::{show_feeds, show_stop};
 use sci_base::Stop;
-use sci_blocks::{Part, PassThrough, links, parts};
+use sci_blocks::{PassThrough, PlacedBlock, links, parts};
 use sci_diagram::read;
 use sci_flat::flatten;
 use sci_goto::{Serving, serve};
@@ -13,7 +13,7 @@ use std::alloc::Global;
 use std::io;
 
 /// The blocks of a diagram whose objects and links break no rule.
-fn parts_of(alloc: Global, bytes: &[u8]) -> Result<Vec<Part>, Stop>
+fn parts_of(alloc: Global, bytes: &[u8]) -> Result<Vec<PlacedBlock>, Stop>
     requires { length bytes.now ≤ DIAGRAM_BYTES }
 {
     match read(alloc, bytes) {
@@ -43,8 +43,11 @@ pub fn show_parts(rt: &impl Print, alloc: Global, bytes: &[u8]) -> anyhow::Resul
 }
 
 /// Prints a block: its kind, where it stands, its parameters, the rows of its inputs, and which of these feed through.
-fn show_part(rt: &impl Print, part: &Part) -> io::Result<()> {
-    let (kind, place) = (part.spec.kind.name(), part.place.path.as_slice());
+fn show_part(rt: &impl Print, part: &PlacedBlock) -> io::Result<()> {
+    let (kind, place) = (
+        sci_names::name_of(part.spec.kind),
+        part.place.path.as_slice(),
+    );
     let (params, feed) = (part.spec.params.as_slice(), part.spec.feed.as_slice());
     print!(rt; "  {kind} at {place:?}: parameters {params:?}, inputs of rows")?;
     for k in 0..part.spec.ins.len() {

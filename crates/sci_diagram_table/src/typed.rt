@@ -178,7 +178,7 @@ fn table_at(alloc: Global, net: &Net, source: u32) -> Result<DepTable, NoMemory>
     let waits = waits(alloc, net, &reach)?;
     let mut walk = Walk::new(alloc, net.len() as usize + 1)?;
     possible(net, &reach, source, &mut walk)?;
-    let table = depends(alloc, net, &waits, source, &walk)?;
+    let table = depends(alloc, net, &waits, &walk)?;
     Ok(table)
 }
 

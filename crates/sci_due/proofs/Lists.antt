@@ -154,6 +154,9 @@ pub nothing_next : (es : List Event) → ((f : Event) → Contains es f → ⊥)
 nothing_next [] h = refl
 nothing_next (e ∷ es) h = absurd (h e (has_first e es))
 
+pub next_none : (es : List Event) → next es ≡ None → (f : Event) → Contains es f → ⊥
+next_none es h = subst (IsNext es) h (next_is es)
+
 pub next_first : (es : List Event) (e : Event) → next es ≡ Some e → Contains es e
 next_first es e h = here (subst (IsNext es) h (next_is es))
   where

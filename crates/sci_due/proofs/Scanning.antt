@@ -7,14 +7,14 @@ use Rattle.c_ast.specs.declared.Bound.TheVariants as bounds
 use Rattle.c_ast.specs.declared.Op.TheVariants.{Lt, Ge, Eq, And, Or}
 use Rattle.c_ast.specs.Syntax.{num, var, neg, bin, scalar, set, choice, Block, done, next}
 use Rattle.c_mean.specs.Meaning.{World, same_name, truth, Around, Ran, run_block}
-use Rattle.c_steps.specs.Places.{get, value_of, Has, Puts}
-use Rattle.c_steps.specs.Texts.{assigns_only}
-use Rattle.c_steps.specs.Runs.{Leads, LeftAlone}
-use Rattle.c_steps.proofs.Memory.{put_there, put_other, has_puts}
-use Rattle.c_steps.proofs.Steps.{let_runs, pick, done_leads}
-use Rattle.c_steps.proofs.Values.{element_is, lt_is, ge_is, eq_is, and_is, or_is}
-use Rattle.c_steps.proofs.Frames.{alone_then, puts_alone}
-use Rattle.c_steps.proofs.Loops.{for_leads}
+use Rattle.c_mean.specs.Places.{get, value_of, Has, Puts}
+use Rattle.c_mean.specs.Texts.{assigns_only}
+use Rattle.c_mean.specs.Runs.{Leads, LeftAlone}
+use Rattle.c_mean.proofs.Memory.{put_there, put_other, has_puts}
+use Rattle.c_mean.proofs.Steps.{let_runs, pick, done_leads}
+use Rattle.c_mean.proofs.Values.{element_is, lt_is, ge_is, eq_is, and_is, or_is}
+use Rattle.c_mean.proofs.Frames.{alone_then, puts_alone}
+use Rattle.c_mean.proofs.Loops.{for_leads}
 use Rattle.sci_due.specs.Due.{Table, same_int, sooner, better, chosen, dates, orders, best, scan, ShowsTable, is_choosing}
 use Rattle.sci_due.specs.Texts.{at_scan, at_best, sooner_exp, better_exp, choose_text, port_code}
 use Rattle.sci_due.proofs.Chosen.{chosen_within}

@@ -1,7 +1,7 @@
 -- The pending events that memory shows, as a table.
 use Rattle.std.proofs.Common.{◌≡◌, ℕ, suc, ◌-◌, ◌<◌, ◌⊎◌, inl, inr, List, [], ◌∷◌, Option, Some, None, Bool, true, false, ◌||◌, refl, sym, ap, ◌∙◌, subst, arith, ℤ, pos, negsuc, nat_eq, eqb-true, eq-eqb, true≢false, Contains}
 use Rattle.c_mean.specs.Meaning.{World}
-use Rattle.c_steps.specs.Places.{get, Has}
+use Rattle.c_mean.specs.Places.{get, Has}
 use Rattle.sci_pending.specs.Pending.{Event, Pending, is_pending}
 use Rattle.sci_due.specs.Due.{Table, IsTable, ShowsTable, dates, orders, last}
 use Rattle.sci_due.specs.Laws.{ShowsPending, AreOfPorts}

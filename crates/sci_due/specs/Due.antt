@@ -3,7 +3,7 @@ use Rattle.std.specs.Prelude.{◌≡◌, ℕ, zero, suc, ◌<◌, ℤ, pos, negs
 use Rattle.sci_pending.specs.Pending.{Event}
 use Rattle.c_ast.specs.declared.Name.{Name}
 use Rattle.c_mean.specs.Meaning.{World, same_name}
-use Rattle.c_steps.specs.Places.{named, get}
+use Rattle.c_mean.specs.Places.{named, get}
 
 -- Of each port, counted from 0, the date of its pending event, or -1 where it has none, and the event's order.
 pub record Table : Type 0 where

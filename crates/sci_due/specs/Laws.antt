@@ -2,10 +2,10 @@
 use Rattle.std.specs.Prelude.{◌≡◌, ℕ, suc, ◌+◌, ◌-◌, ◌<◌, ◌≤◌, ◌^◌, ℤ, pos, negsuc, List, Contains, Option, Some, None, false}
 use Rattle.c_ast.specs.Syntax.{Exp, Block}
 use Rattle.c_mean.specs.Meaning.{World, Around, run_block}
-use Rattle.c_steps.specs.Places.{get, HasValue, Has}
-use Rattle.c_steps.specs.Texts.{assigns_only}
-use Rattle.c_steps.specs.Runs.{LeftAlone}
-use Rattle.c_steps.specs.Laws.{Within, GoesOn}
+use Rattle.c_mean.specs.Places.{get, HasValue, Has}
+use Rattle.c_mean.specs.Texts.{assigns_only}
+use Rattle.c_mean.specs.Runs.{LeftAlone}
+use Rattle.c_mean.specs.Laws.{Within, GoesOn}
 use Rattle.sci_pending.specs.Pending.{Event, Pending, next, without, is_pending, replaced}
 use Rattle.sci_pending.specs.Order.{IsNumbered}
 use Rattle.sci_due.specs.Due.{dates, orders, best, scan, now, last, delay, is_choosing, is_taking, is_programming}
@@ -55,12 +55,12 @@ ChooseLaw =
     ShowsPending n p w → Has w best 0 → Has w scan 0 →
     GoesOn env rest (HasChosen n p w) (run_block env k (choose_text n rest) w)
 
--- the next event is taken: its date becomes the date of the reaction
+-- The next event is taken, where its port's place is told by an expression that only the choice may change: its date becomes the date of the reaction.
 abbrev pub TakeLaw : Type 0
 TakeLaw =
-    (env : Around) (n : ℕ) (p : Pending) (e : Event) (rest : Block) (k : ℕ) (w : World) → IsNumbered p → AreOfPorts n p.events →
-    next p.events ≡ Some e → ShowsPending n p w →
-    get w best 0 ≡ Some (next_port (Some e)) → Has w now 0 → GoesOn env rest (HasTaken n p e w) (run_block env k (take_text rest) w)
+    (env : Around) (n : ℕ) (p : Pending) (e : Event) (at : Exp) (rest : Block) (k : ℕ) (w : World) → IsNumbered p → AreOfPorts n p.events →
+    next p.events ≡ Some e → ShowsPending n p w → ((w' : World) → get w' best 0 ≡ get w best 0 → HasValue at w' (next_port (Some e))) →
+    Has w now 0 → GoesOn env rest (HasTaken n p e w) (run_block env k (take_text at rest) w)
 
 -- A port is programmed at a date: its event is replaced by one that is a delay later.
 abbrev pub ProgramLaw : Type 0

@@ -1,5 +1,5 @@
 -- The C texts on the table of due dates.
-use Rattle.std.specs.Prelude.{ℕ, ℤ, pos, negsuc, Option, Some, None}
+use Rattle.std.specs.Prelude.{ℕ, ℤ, pos, negsuc, Bool, true, false, if◌then◌else◌, Option, Some, None}
 use Rattle.c_ast.specs.declared.Name.{Name}
 use Rattle.c_ast.specs.declared.Bound.TheVariants as bounds
 use Rattle.c_ast.specs.declared.Op.TheVariants.{Add, Lt, Ge, Eq, And, Or}
@@ -30,17 +30,26 @@ abbrev pub port_code : Option ℕ → ℤ
 port_code None = negsuc 0
 port_code (Some i) = pos i
 
--- The chosen event is taken: its date is the date of the reaction, and its port's entry is free.
-abbrev pub take_text : Block → Block
-take_text rest = next (set (scalar now) (at_best dates)) (next (set (cell dates (var best)) (neg (num (pos 1)))) rest)
+-- The event of the port at a place is taken: its date is the date of the reaction, and its port's entry is free.
+abbrev pub take_text : Exp → Block → Block
+take_text at rest = next (set (scalar now) (element dates at)) (next (set (cell dates at) (neg (num (pos 1)))) rest)
 
--- the entry of port i, and the next order
-abbrev pub entry_text : ℕ → Block
-entry_text i =
-    next (set (cell dates (num (pos i))) (bin Add (var now) (var delay)))
+-- the entry of port i, for a delay of 0 or more, and the next order
+abbrev pub entry_text : ℕ → Exp → Block
+entry_text i e =
+    next (set (cell dates (num (pos i))) (bin Add (var now) e))
     (next (set (cell orders (num (pos i))) (var last))
     (next (set (scalar last) (bin Add (var last) (num (pos 1)))) done))
 
 -- Port i is programmed with a delay, unless the delay is -1.
 abbrev pub program_text : ℕ → Exp → Block → Block
-program_text i e rest = next (set (scalar delay) e) (next (choice (bin Ge (var delay) (num (pos 0))) (entry_text i) done) rest)
+program_text i e rest = next (set (scalar delay) e) (next (choice (bin Ge (var delay) (num (pos 0))) (entry_text i (var delay)) done) rest)
+
+-- a delay that is a number of 0 or more
+abbrev pub is_ticks : Exp → Bool
+is_ticks (num (pos d)) = true
+is_ticks _ = false
+
+-- The same, where nothing is asked of such a delay.
+abbrev pub delayed_text : ℕ → Exp → Block
+delayed_text i e = if is_ticks e then entry_text i e else program_text i e done

@@ -15,8 +15,8 @@ use Rattle.sci_goto.specs.Worked.{around, wire, constant, gain}
 use Rattle.sci_flat.specs.Chain.{Chain, stay, onward}
 use Rattle.sci_flat.specs.Ports.{port, link_steps, split_steps, union_steps, port_steps, steps_of, object_steps, tree_steps}
 use Rattle.sci_flat.specs.Tagged.{tag_step}
-use Rattle.sci_flat.specs.declared.steps.seat.Seat.{Seat}
-use Rattle.sci_flat.specs.Seat.{past, start, port_number}
+use Rattle.sci_flat.specs.declared.steps.port_numbers.PortNumbers.{PortNumbers}
+use Rattle.sci_flat.specs.PortNumbers.{past, start, port_number}
 use Rattle.sci_flat.specs.Flat.{IsWire}
 use Rattle.sci_flat.specs.Refused.{ShareColumn, IsTaken, no_source, column_twice}
 use Rattle.sci_examples.proofs.Blocks.{sensor, sum}
@@ -139,7 +139,7 @@ two_steps = onward (onward stay (inl (refl, refl))) (inr (inl (refl, refl)))
 
 -- ---- seats: two inputs, three outputs, one activation input and four activation outputs, from number 10 on
 
-abbrev seat : Seat
+abbrev seat : PortNumbers
 seat = record { first = 10; ins = 2; outs = 3; evtin = 1; evtout = 4 }
 
 past_seat : past seat ≡ 20

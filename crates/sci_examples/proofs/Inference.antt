@@ -6,7 +6,7 @@ use Rattle.sci_forms.specs.declared.ports.Port.{Port}
 use Rattle.sci_forms.specs.declared.spec.Spec.{Spec}
 use Rattle.sci_net.specs.Parts.{Parts}
 use Rattle.sci_infer.specs.declared.classes.Tie.{Tie}
-use Rattle.sci_infer.specs.declared.parts.Part.{Part}
+use Rattle.sci_infer.specs.declared.parts.PortPart.{PortPart}
 use Rattle.sci_infer.specs.declared.parts.Side.{Side}
 use Rattle.sci_infer.specs.declared.parts.Side.TheVariants.{Input, Output}
 use Rattle.sci_infer.specs.declared.parts.What.{What}
@@ -21,7 +21,7 @@ use Rattle.sci_examples.proofs.Blocks.{column, wire, constant, gain, net_of}
 
 -- ---- parts
 
-abbrev part : ℕ → Side → ℕ → What → ℤ → Part
+abbrev part : ℕ → Side → ℕ → What → ℤ → PortPart
 part b side port what declared = record { block = b; side = side; port = port; what = what; declared = declared }
 
 abbrev port_of : ℤ → ℤ → ℤ → Port
@@ -72,7 +72,7 @@ code DataType = 0
 code Rows = 1
 code Columns = 2
 
-abbrev code_at : Option Part → ℕ
+abbrev code_at : Option PortPart → ℕ
 code_at None = 3
 code_at (Some p) = code p.what
 

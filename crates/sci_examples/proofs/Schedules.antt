@@ -11,7 +11,7 @@ use Rattle.sci_reaction.specs.Links.{Feeds, IsConstant, IsSource}
 use Rattle.sci_reaction.specs.Active.{seeded, passed, Reaches, IsAlways, set_off, Possible}
 use Rattle.sci_reaction.specs.Depends.{Conditions, Depends}
 use Rattle.sci_reaction.specs.Schedule.{Guard, Entry}
-use Rattle.sci_inherit.specs.Links.{comes, IsHeir}
+use Rattle.sci_inherit.specs.Followers.{comes, IsHeir}
 use Rattle.sci_inherit.specs.ByBlock.{ByBlock, AreByBlock}
 use Rattle.sci_inherit.specs.Live.{IsLive, FedFrom}
 use Rattle.sci_inherit.specs.Origins.{Origins, AreOrigins}

@@ -9,17 +9,17 @@ use Rattle.sci_agree.specs.declared.verdict.Verdict.TheVariants.{Yes, No}
 use Rattle.sci_agree.specs.Lines.{lines_of, first_lines, AgreeOn, IsAgreement, first_line, behind_lines}
 use Rattle.sci_agree.specs.Verdict.{IsVerdict}
 use Rattle.sci_agree.specs.Compared.{Compared, taken_by, WasGiven}
-use Rattle.c_mean.specs.declared.start.CEnd.TheVariants as ends
-use Rattle.sci_commands.specs.Answer.{usage}
-use Rattle.sci_commands.specs.RunC.{c_status}
-use Rattle.sci_commands.specs.Simulate.{ran}
-use Rattle.sci_commands.specs.Report.{counts_line}
-use Rattle.sci_commands.specs.Course.{Slot, Passes, Fails}
-use Rattle.sci_commands.specs.Judge.{verdict_line, verdict_status}
-use Rattle.sci_commands.specs.Numbers.{spaced, numbers_line}
-use Rattle.sci_commands.specs.Line.{step_text, detail_text, head_text, refused_line}
-use Rattle.sci_commands.specs.Save.{run_ended}
-use Rattle.sci_commands.specs.Words.{save, simulate, InBounds, spelled}
+use Rattle.c_run.specs.declared.start.CEnd.TheVariants as ends
+use Rattle.sci_answers.specs.Answer.{usage}
+use Rattle.sci_answers.specs.RunC.{c_status}
+use Rattle.sci_answers.specs.Simulate.{ran}
+use Rattle.sci_answers.specs.Report.{counts_line}
+use Rattle.sci_answers.specs.Course.{Slot, Passes, Fails}
+use Rattle.sci_answers.specs.Judge.{verdict_line, verdict_status}
+use Rattle.sci_print.specs.Numbers.{spaced, numbers_line}
+use Rattle.sci_print.specs.Line.{step_text, detail_text, head_text, refused_line}
+use Rattle.sci_answers.specs.Save.{run_ended}
+use Rattle.sci_words.specs.Words.{save, simulate, InBounds, spelled}
 
 -- ---- lines: of "ab", "cd" and an unfinished one
 

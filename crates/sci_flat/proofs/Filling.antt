@@ -15,8 +15,8 @@ use Rattle.sci_net.specs.declared.Feed.{Feed}
 use Rattle.sci_blocks.specs.declared.class.PortClass.{PortClass}
 use Rattle.sci_blocks.specs.declared.class.PortClass.TheVariants.{Input, ActivationInput}
 use Rattle.sci_forms.specs.declared.spec.Spec.{Spec}
-use Rattle.sci_flat.specs.declared.steps.seat.Seat.{Seat}
-use Rattle.sci_flat.specs.Seat.{count}
+use Rattle.sci_flat.specs.declared.steps.port_numbers.PortNumbers.{PortNumbers}
+use Rattle.sci_flat.specs.PortNumbers.{count}
 use Rattle.sci_flat.specs.Ends.{end_of, seat_numbers, seat_ends, numbers_of, ends_of}
 use Rattle.sci_flat.specs.Wired.{feed_at, wire_at, no_wire, input_list, activation_list, AreWires, IsFirstUnfed, AreFeeds, seat_of, IsTakenAt, IsSoundAt, AllWired, AllFed}
 
@@ -39,10 +39,10 @@ ends_more b n f xs ys zs e before grown =
 
 -- ---- one block's ports after another's
 
-pub numbers_next : (c : PortClass) (ss : List Seat) (i : ℕ) (d s : Seat) → i < length ss → s ≡ get_or ss i d → (xs ys w : List ℕ) → ys ≡ xs ++ seat_numbers c s → xs ++ numbers_of c (drop i ss) ≡ w → ys ++ numbers_of c (drop (i + 1) ss) ≡ w
+pub numbers_next : (c : PortClass) (ss : List PortNumbers) (i : ℕ) (d s : PortNumbers) → i < length ss → s ≡ get_or ss i d → (xs ys w : List ℕ) → ys ≡ xs ++ seat_numbers c s → xs ++ numbers_of c (drop i ss) ≡ w → ys ++ numbers_of c (drop (i + 1) ss) ≡ w
 numbers_next c ss i d s h is xs ys w grown whole = let now = rw (drop_more ss i d h, ← is) at whole in rw grown (append_assoc xs _ _ ∙ now)
 
-pub ends_next : (c : PortClass) (ss : List Seat) (i b : ℕ) (d s : Seat) → i < length ss → s ≡ get_or ss i d → b ≡ i + 1 → (xs ys w : List Feed) → ys ≡ xs ++ seat_ends c b s → xs ++ ends_of c (i + 1) (drop i ss) ≡ w → ys ++ ends_of c ((i + 1) + 1) (drop (i + 1) ss) ≡ w
+pub ends_next : (c : PortClass) (ss : List PortNumbers) (i b : ℕ) (d s : PortNumbers) → i < length ss → s ≡ get_or ss i d → b ≡ i + 1 → (xs ys w : List Feed) → ys ≡ xs ++ seat_ends c b s → xs ++ ends_of c (i + 1) (drop i ss) ≡ w → ys ++ ends_of c ((i + 1) + 1) (drop (i + 1) ss) ≡ w
 ends_next c ss i b d s h is e xs ys w grown whole = let now = rw (drop_more ss i d h, ← is) at whole in rw (grown, e) (append_assoc xs _ _ ∙ now)
 
 -- ---- marks
@@ -61,7 +61,7 @@ marked_all ms ns all q (k, h, e) = subst (λ (x : ℕ). get_or ms x false ≡ tr
 
 -- ---- rows
 
-pub wires_more : (feeds : List Feed) (lists : List (List ℕ)) (s : Seat) (k i : ℕ) (w : Wire) (row new : List Wire) → Contains (input_list lists s k) i → w ≡ wire_at feeds i → new ≡ row ++ w ∷ [] → AreWires feeds lists s k row → AreWires feeds lists s (k + 1) new
+pub wires_more : (feeds : List Feed) (lists : List (List ℕ)) (s : PortNumbers) (k i : ℕ) (w : Wire) (row new : List Wire) → Contains (input_list lists s k) i → w ≡ wire_at feeds i → new ≡ row ++ w ∷ [] → AreWires feeds lists s k row → AreWires feeds lists s (k + 1) new
 wires_more feeds lists s k i w row new has is grown r = record {
   long = ap length grown ∙ (length_push row w ∙ ap (λ (n : ℕ). n + 1) r.long);
   each = λ j h. elim (cases_lt j k) [
@@ -70,10 +70,10 @@ wires_more feeds lists s k i w row new has is grown r = record {
   ];
 }
 
-pub first_unfed : (feeds : List Feed) (lists : List (List ℕ)) (s : Seat) (k : ℕ) (row : List Wire) → k < count s Input → input_list lists s k ≡ [] → AreWires feeds lists s k row → IsFirstUnfed lists s k
+pub first_unfed : (feeds : List Feed) (lists : List (List ℕ)) (s : PortNumbers) (k : ℕ) (row : List Wire) → k < count s Input → input_list lists s k ≡ [] → AreWires feeds lists s k row → IsFirstUnfed lists s k
 first_unfed feeds lists s k row h none r = record { there = h; before = λ j l. let old = r.each j l in (old.0, old.1); unfed = none }
 
-pub feeds_more : (feeds : List Feed) (lists : List (List ℕ)) (s : Seat) (p : ℕ) (f : List Feed) (row new : List (List Feed)) → f ≡ map (feed_at feeds) (activation_list lists s p) → new ≡ row ++ f ∷ [] → AreFeeds feeds lists s p row → AreFeeds feeds lists s (p + 1) new
+pub feeds_more : (feeds : List Feed) (lists : List (List ℕ)) (s : PortNumbers) (p : ℕ) (f : List Feed) (row new : List (List Feed)) → f ≡ map (feed_at feeds) (activation_list lists s p) → new ≡ row ++ f ∷ [] → AreFeeds feeds lists s p row → AreFeeds feeds lists s (p + 1) new
 feeds_more feeds lists s p f row new is grown r = record {
   long = ap length grown ∙ (length_push row f ∙ ap (λ (n : ℕ). n + 1) r.long);
   each = λ j h. elim (cases_lt j p) [
@@ -84,10 +84,10 @@ feeds_more feeds lists s p f row new is grown r = record {
 
 -- ---- all blocks
 
-pub wired_none : (feeds : List Feed) (lists : List (List ℕ)) (ss : List Seat) (specs : List Spec) (rows : List (List Wire)) → rows ≡ [] → AllWired feeds lists ss specs 0 rows
+pub wired_none : (feeds : List Feed) (lists : List (List ℕ)) (ss : List PortNumbers) (specs : List Spec) (rows : List (List Wire)) → rows ≡ [] → AllWired feeds lists ss specs 0 rows
 wired_none feeds lists ss specs rows e = record { long = ap length e; each = λ b h. absurd (omega arith); sound = λ b h. absurd (omega arith) }
 
-pub wired_more : (feeds : List Feed) (lists : List (List ℕ)) (ss : List Seat) (specs : List Spec) (b : ℕ) (row : List Wire) (rows new : List (List Wire)) → AreWires feeds lists (seat_of ss b) (count (seat_of ss b) Input) row → (IsTakenAt specs b → ⊥) → new ≡ rows ++ row ∷ []
+pub wired_more : (feeds : List Feed) (lists : List (List ℕ)) (ss : List PortNumbers) (specs : List Spec) (b : ℕ) (row : List Wire) (rows new : List (List Wire)) → AreWires feeds lists (seat_of ss b) (count (seat_of ss b) Input) row → (IsTakenAt specs b → ⊥) → new ≡ rows ++ row ∷ []
     → AllWired feeds lists ss specs b rows → AllWired feeds lists ss specs (b + 1) new
 wired_more feeds lists ss specs b row rows new w own grown r = record {
   long = ap length grown ∙ (length_push rows row ∙ ap (λ (n : ℕ). n + 1) r.long);
@@ -107,7 +107,7 @@ wired_more feeds lists ss specs b row rows new w own grown r = record {
   ];
 }
 
-pub fed_more : (feeds : List Feed) (lists : List (List ℕ)) (ss : List Seat) (b : ℕ) (row : List (List Feed)) (rows new : List (List (List Feed))) → AreFeeds feeds lists (seat_of ss b) (count (seat_of ss b) ActivationInput) row → new ≡ rows ++ row ∷ []
+pub fed_more : (feeds : List Feed) (lists : List (List ℕ)) (ss : List PortNumbers) (b : ℕ) (row : List (List Feed)) (rows new : List (List (List Feed))) → AreFeeds feeds lists (seat_of ss b) (count (seat_of ss b) ActivationInput) row → new ≡ rows ++ row ∷ []
     → AllFed feeds lists ss b rows → AllFed feeds lists ss (b + 1) new
 fed_more feeds lists ss b row rows new w grown r = record {
   long = ap length grown ∙ (length_push rows row ∙ ap (λ (n : ℕ). n + 1) r.long);
@@ -122,7 +122,7 @@ fed_more feeds lists ss b row rows new w grown r = record {
   ];
 }
 
-pub fed_none : (feeds : List Feed) (lists : List (List ℕ)) (ss : List Seat) (rows : List (List (List Feed))) → rows ≡ [] → AllFed feeds lists ss 0 rows
+pub fed_none : (feeds : List Feed) (lists : List (List ℕ)) (ss : List PortNumbers) (rows : List (List (List Feed))) → rows ≡ [] → AllFed feeds lists ss 0 rows
 fed_none feeds lists ss rows e = record { long = ap length e; each = λ b h. absurd (omega arith) }
 
 -- ---- one list

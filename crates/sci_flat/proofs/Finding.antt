@@ -8,8 +8,8 @@ use Rattle.sci_base.specs.Plain.{Fields}
 use Rattle.sci_diagram.specs.Objects.{Object, block, superblock, link, text, deleted, Objects, no_objects, object}
 use Rattle.sci_blocks.specs.declared.class.PortClass.{PortClass}
 use Rattle.sci_blocks.specs.declared.class.PortClass.TheVariants.{Input, Output, ActivationInput, ActivationOutput}
-use Rattle.sci_flat.specs.declared.steps.seat.Seat.{Seat}
-use Rattle.sci_flat.specs.Seat.{seat_at, past, start, count, port_number}
+use Rattle.sci_flat.specs.declared.steps.port_numbers.PortNumbers.{PortNumbers}
+use Rattle.sci_flat.specs.PortNumbers.{seat_at, past, start, count, port_number}
 use Rattle.sci_flat.specs.Ports.{Port}
 use Rattle.sci_flat.specs.Numbers.{object_seat, own_past, inside_past}
 use Rattle.sci_flat.specs.Numbered.{no_port}
@@ -24,7 +24,7 @@ unfoldable mutual
   number_of m n k [] c z (object o os) = None
   number_of m n k (j ∷ rest) c z (object o os) = cond (nat_eq j k) (number_within (object_seat m o) n rest c z o) (number_of (past (object_seat m o)) (inside_past n o) (k + 1) (j ∷ rest) c z os)
 
-  pub number_within : Seat → ℕ → List ℕ → PortClass → ℤ → Object → Option ℕ
+  pub number_within : PortNumbers → ℕ → List ℕ → PortClass → ℤ → Object → Option ℕ
   number_within s n [] c z o = port_number s c z
   number_within s n (j ∷ rest) c z (block gui f) = None
   number_within s n (j ∷ rest) c z (superblock gui f os) = number_of n (own_past n os) 1 (j ∷ rest) c z os
@@ -55,7 +55,7 @@ pub number_stays : (m n k : ℕ) (rest : List ℕ) (c : PortClass) (z : ℤ) (o 
 unfolding number_of number_within
 number_stays m n k rest c z o os = ap (λ (b : Bool). cond b (number_within (object_seat m o) n rest c z o) (number_of (past (object_seat m o)) (inside_past n o) (k + 1) (k ∷ rest) c z os)) (same_place k)
 
-pub number_own : (s : Seat) (n : ℕ) (c : PortClass) (z : ℤ) (o : Object) → number_within s n [] c z o ≡ port_number s c z
+pub number_own : (s : PortNumbers) (n : ℕ) (c : PortClass) (z : ℤ) (o : Object) → number_within s n [] c z o ≡ port_number s c z
 unfolding number_of number_within
 number_own s n c z (block gui f) = refl
 number_own s n c z (superblock gui f os) = refl
@@ -63,7 +63,7 @@ number_own s n c z (link from to kind) = refl
 number_own s n c z text = refl
 number_own s n c z deleted = refl
 
-pub number_inside : (s : Seat) (n j : ℕ) (rest : List ℕ) (c : PortClass) (z : ℤ) (gui : List ℕ) (f : Fields) (os : Objects) → number_within s n (j ∷ rest) c z (superblock gui f os) ≡ number_of n (own_past n os) 1 (j ∷ rest) c z os
+pub number_inside : (s : PortNumbers) (n j : ℕ) (rest : List ℕ) (c : PortClass) (z : ℤ) (gui : List ℕ) (f : Fields) (os : Objects) → number_within s n (j ∷ rest) c z (superblock gui f os) ≡ number_of n (own_past n os) 1 (j ∷ rest) c z os
 unfolding number_of number_within
 number_inside s n j rest c z gui f os = refl
 
@@ -71,7 +71,7 @@ found_skip : (at : List ℕ) (k m n : ℕ) (o : Object) (os : Objects) (p : Port
 found_skip at k m n o os p i r = record { j = r.j; rest = r.rest; later = omega (arith, r.later); place = r.place; found = number_skips m n k r.j r.rest p.class p.number o os r.later ∙ r.found }
 
 -- a port of a seat
-record Spot (here : List ℕ) (s : Seat) (p : Port) (i : ℕ) : Type 0 where
+record Spot (here : List ℕ) (s : PortNumbers) (p : Port) (i : ℕ) : Type 0 where
   place : p.place ≡ here
   number : port_number s p.class p.number ≡ Some i
 
@@ -113,7 +113,7 @@ split xs ys i h = elim (cases_lt i (length xs)) [
 
 -- ---- the ports of one seat
 
-class_spot : (place : List ℕ) (s : Seat) (c : PortClass) (n i j : ℕ) → n ≡ count s c → j < n → i ≡ start s c + j → Spot place s (get_or (class_names place c n) j no_port) i
+class_spot : (place : List ℕ) (s : PortNumbers) (c : PortClass) (n i j : ℕ) → n ≡ count s c → j < n → i ≡ start s c + j → Spot place s (get_or (class_names place c n) j no_port) i
 class_spot place s c n i j e h f =
     let is = class_named place c n j h in
     let low : j < count s c = omega arith in

@@ -8,7 +8,7 @@ use Rattle.std.proofs.lemmas.List.{length-append}
 use Rattle.std.proofs.lemmas.List.Elements.{All-nil, All-push}
 use Rattle.sci_base.specs.Lists.{at}
 use Rattle.sci_base.specs.Plain.{Violation, Fields}
-use Rattle.sci_diagram.specs.declared.sorts.Role.TheVariants.{Kind as IsKind, Port as IsPort, Joint, Tag}
+use Rattle.sci_diagram.specs.declared.sorts.ObjectRole.TheVariants.{Kind as IsKind, Port as IsPort, Joint, Tag}
 use Rattle.sci_diagram.specs.Objects.{Object, block, superblock, link, text, deleted, Objects, no_objects, object}
 use Rattle.sci_diagram.specs.Tree.{is_small, is_tag, role_of}
 use Rattle.sci_diagram.specs.Count.{one_of_kind, blocks_in, blocks_of}
@@ -16,7 +16,7 @@ use Rattle.sci_forms.specs.declared.Kind.{Kind}
 use Rattle.sci_forms.specs.declared.broken.Broken.{Broken}
 use Rattle.sci_forms.specs.declared.spec.Spec.{Spec}
 use Rattle.sci_forms.specs.Forms.{or_else, given, first_not, unless}
-use Rattle.sci_forms.specs.Names.{by_name}
+use Rattle.sci_names.specs.Names.{by_name}
 use Rattle.sci_forms.specs.Typed.{formed_of}
 use Rattle.sci_check.specs.Laws.{CheckedLaw}
 use Rattle.sci_check.specs.Check.{is_integer, integer_at, not_integer, side_broken, forms_broken, types_broken, active_broken, values_broken, broken, columns_at, declared_port, declared_ports, spec_of, judged, checked_kind, checked}

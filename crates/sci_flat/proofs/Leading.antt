@@ -7,7 +7,7 @@ use Rattle.std.proofs.lemmas.List.{append-nil, get_or_append_left, get_or_push, 
 use Rattle.sci_flat.specs.Chain.{Step}
 use Rattle.sci_flat.specs.Search.{Visits}
 use Rattle.sci_flat.specs.Successors.{from_at, to_at, latest, leading, targets}
-use Rattle.sci_flat.specs.declared.reach.search.Search.{Search}
+use Rattle.sci_flat.specs.declared.reach.search.FeedSearch.{FeedSearch}
 use Rattle.sci_flat.proofs.ReachFilling.{Steps, step_at, place_of}
 use Rattle.sci_flat.proofs.Searching.{visits_none}
 
@@ -96,14 +96,14 @@ listed_more es ports last before last' before' n from inside is e f t = rw (e, f
 
 -- ---- turning from one step to the one before it
 
-pub record Turning (es : Steps) (wanted : List Bool) (source port : ℕ) (old new : Search) (next : ℕ) : Type 0 where
+pub record Turning (es : Steps) (wanted : List Bool) (source port : ℕ) (old new : FeedSearch) (next : ℕ) : Type 0 where
   pub done : List ℕ
   pub visits : Visits wanted source done old new
   pub rest : done ++ leading es port next ≡ targets es port
   pub fixed : latest es port next ≡ next
   pub few : next ≤ length es
 
-pub turning_begins : (es : Steps) (wanted : List Bool) (source port : ℕ) (old : Search) (next : ℕ) → next ≡ latest es port (length es) → Turning es wanted source port old old next
+pub turning_begins : (es : Steps) (wanted : List Bool) (source port : ℕ) (old : FeedSearch) (next : ℕ) → next ≡ latest es port (length es) → Turning es wanted source port old old next
 turning_begins es wanted source port old next e = rw e (record {
   done = [];
   visits = visits_none wanted source old;
@@ -113,7 +113,7 @@ turning_begins es wanted source port old next e = rw e (record {
 })
 
 -- the step k is visited, and then comes the one before it
-pub turning_more : (es : Steps) (wanted : List Bool) (source port : ℕ) (old mid new : Search) (k next : ℕ) (t : Turning es wanted source port old mid (suc k)) → next ≡ latest es (from_at es k) k → Visits wanted source (t.done ++ to_at es k ∷ []) old new → Turning es wanted source port old new next
+pub turning_more : (es : Steps) (wanted : List Bool) (source port : ℕ) (old mid new : FeedSearch) (k next : ℕ) (t : Turning es wanted source port old mid (suc k)) → next ≡ latest es (from_at es k) k → Visits wanted source (t.done ++ to_at es k ∷ []) old new → Turning es wanted source port old new next
 turning_more es wanted source port old mid new k next t e v =
     let from = leads_from es port k t.fixed in
     let is : next ≡ latest es port k = e ∙ ap (λ (x : ℕ). latest es x k) from in
@@ -125,10 +125,10 @@ turning_more es wanted source port old mid new k next t e v =
       few = omega (arith, latest_few es port k, t.few);
     })
 
-pub turning_ends : (es : Steps) (wanted : List Bool) (source port : ℕ) (old new : Search) → Turning es wanted source port old new 0 → Visits wanted source (targets es port) old new
+pub turning_ends : (es : Steps) (wanted : List Bool) (source port : ℕ) (old new : FeedSearch) → Turning es wanted source port old new 0 → Visits wanted source (targets es port) old new
 turning_ends es wanted source port old new t = subst (λ (x : List ℕ). Visits wanted source x old new) (sym (append-nil t.done) ∙ t.rest) t.visits
 
-pub turning_on : (es : Steps) (wanted : List Bool) (source port : ℕ) (old mid new : Search) (n next : ℕ) (t : Turning es wanted source port old mid n) → (n ≡ 0 → ⊥) → next ≡ latest es (from_at es (n - 1)) (n - 1) → Visits wanted source (t.done ++ to_at es (n - 1) ∷ []) old new → Turning es wanted source port old new next
+pub turning_on : (es : Steps) (wanted : List Bool) (source port : ℕ) (old mid new : FeedSearch) (n next : ℕ) (t : Turning es wanted source port old mid n) → (n ≡ 0 → ⊥) → next ≡ latest es (from_at es (n - 1)) (n - 1) → Visits wanted source (t.done ++ to_at es (n - 1) ∷ []) old new → Turning es wanted source port old new next
 turning_on es wanted source port old mid new zero next t h e v = absurd (h refl)
 turning_on es wanted source port old mid new (suc k) next t h e v =
     let is : suc k - 1 ≡ k = omega arith in

@@ -7,8 +7,8 @@ use Rattle.sci_base.specs.Plain.{Fields}
 use Rattle.sci_diagram.specs.Objects.{Object, block, superblock, link, text, deleted, Objects, no_objects, object}
 use Rattle.sci_blocks.specs.declared.class.PortClass.{PortClass}
 use Rattle.sci_blocks.specs.declared.class.PortClass.TheVariants.{Input, Output, ActivationInput, ActivationOutput}
-use Rattle.sci_flat.specs.declared.steps.seat.Seat.{Seat}
-use Rattle.sci_flat.specs.Seat.{seat_at, no_seat, past, start, count}
+use Rattle.sci_flat.specs.declared.steps.port_numbers.PortNumbers.{PortNumbers}
+use Rattle.sci_flat.specs.PortNumbers.{seat_at, no_seat, past, start, count}
 use Rattle.sci_flat.specs.Ports.{Port, port}
 use Rattle.sci_flat.specs.Numbers.{object_seat, own_past, insides_past, inside_past}
 use Rattle.sci_flat.specs.Numbered.{no_port}
@@ -135,7 +135,7 @@ at_inside names n xs a = let long = ap length a.whole ∙ length-append a.before
 
 -- ---- the ports of one seat
 
-pub record Seated (names : List Port) (place : List ℕ) (s : Seat) : Type 0 where
+pub record Seated (names : List Port) (place : List ℕ) (s : PortNumbers) : Type 0 where
   pub inside : (c : PortClass) (k : ℕ) → k < count s c → start s c + k < length names
   pub named : (c : PortClass) (k : ℕ) → k < count s c → get_or names (start s c + k) no_port ≡ port place c (pos (k + 1))
 

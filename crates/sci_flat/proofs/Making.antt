@@ -19,9 +19,9 @@ use Rattle.sci_blocks.specs.Blocks.{Placed, placed, parts_in, parts_of}
 use Rattle.sci_blocks.specs.Wiring.{links_of}
 use Rattle.sci_goto.specs.Phase.{tags_of}
 use Rattle.sci_flat.specs.Lists.{list_at}
-use Rattle.sci_flat.specs.declared.steps.seat.Seat.{Seat}
+use Rattle.sci_flat.specs.declared.steps.port_numbers.PortNumbers.{PortNumbers}
 use Rattle.sci_flat.specs.declared.steps.numbered.Numbered.{Numbered}
-use Rattle.sci_flat.specs.Seat.{start, count, no_seat}
+use Rattle.sci_flat.specs.PortNumbers.{start, count, no_seat}
 use Rattle.sci_flat.specs.Numbered.{IsNumbered}
 use Rattle.sci_flat.specs.Tagged.{all_steps}
 use Rattle.sci_flat.proofs.Valid.{then_ok, tree_ok}
@@ -87,22 +87,22 @@ module _ (t : Objects) (ps : List Placed) (n : Numbered) (num : IsNumbered t ps 
       let s = num.seats b (get_or ps b (placed [] no_spec)) (get_or n.blocks.items b d) low (get_or_default ps b (placed [] no_spec) (get_or ps b (placed [] no_spec)) low) (get_or_default n.blocks.items b d (get_or n.blocks.items b d) h) in
       omega (arith, s.inside c k l, num.long)
 
-  pub inside_for : (ss : List Seat) → ss ≡ n.blocks.items → All (IsInside n.ports) ss
-  inside_for ss e = let P : List Seat → Type 0 = All (IsInside n.ports) in subst P (sym e) seats_inside
+  pub inside_for : (ss : List PortNumbers) → ss ≡ n.blocks.items → All (IsInside n.ports) ss
+  inside_for ss e = let P : List PortNumbers → Type 0 = All (IsInside n.ports) in subst P (sym e) seats_inside
 
-  pub few_for : (ss : List Seat) → ss ≡ n.blocks.items → length ps ≤ 2048 → length ss ≤ 2048
+  pub few_for : (ss : List PortNumbers) → ss ≡ n.blocks.items → length ps ≤ 2048 → length ss ≤ 2048
   few_for ss e h = let long = ap length e in omega (arith, long, h, num.one_seat_each)
 
-  pub long_for : (ss : List Seat) → ss ≡ n.blocks.items → length ss ≡ length ps
+  pub long_for : (ss : List PortNumbers) → ss ≡ n.blocks.items → length ss ≡ length ps
   long_for ss e = ap length e ∙ num.one_seat_each
 
-pub there_for : (ss : List Seat) (es : List (ℕ × ℕ)) (ports : ℕ) (from to : PortClass) (feeds : List Feed) (lists : List (List ℕ)) → AreFeeding ss es ports from to feeds lists
+pub there_for : (ss : List PortNumbers) (es : List (ℕ × ℕ)) (ports : ℕ) (from to : PortClass) (feeds : List Feed) (lists : List (List ℕ)) → AreFeeding ss es ports from to feeds lists
     → (b k : ℕ) → b < length ss → k < count (seat_of ss b) to → All (λ i. i < length feeds) (list_at lists (start (seat_of ss b) to + k))
 there_for ss es ports from to feeds lists f b k h l j d m =
     let q = start (seat_of ss b) to + k in
     ((f.exactly q (get_or (list_at lists q) j d) (number_listed to ss b k h l)).0 (Contains-get_or (list_at lists q) j d m)).0
 
-pub inside_lists : (ss : List Seat) (ports m : ℕ) (c : PortClass) → All (IsInside ports) ss → m ≡ ports → (b k : ℕ) → b < length ss → k < count (seat_of ss b) c → start (seat_of ss b) c + k < m
+pub inside_lists : (ss : List PortNumbers) (ports m : ℕ) (c : PortClass) → All (IsInside ports) ss → m ≡ ports → (b k : ℕ) → b < length ss → k < count (seat_of ss b) c → start (seat_of ss b) c + k < m
 inside_lists ss ports m c all e b k h l = let low = all b (no_seat 0) h c k l in omega (arith, low)
 
 -- ---- the answers
@@ -111,31 +111,31 @@ pub stop_flattened : (t : Objects) (P : Violation → Type 0) (e : Stop) → ((v
 stop_flattened t P (Refused r) f s = f (violation_of r) s
 stop_flattened t P Memory f s = tt
 
-pub wires_stop : (t : Objects) (specs : List Spec) (places : List Place) (n : Numbered) (num : IsNumbered t (placed_all specs places) (all_steps t) n) → blocks t ≡ Ok (placed_all specs places) → length places ≡ length specs → (ss : List Seat) (es : List (ℕ × ℕ)) → ss ≡ n.blocks.items → es ≡ n.steps.items
+pub wires_stop : (t : Objects) (specs : List Spec) (places : List Place) (n : Numbered) (num : IsNumbered t (placed_all specs places) (all_steps t) n) → blocks t ≡ Ok (placed_all specs places) → length places ≡ length specs → (ss : List PortNumbers) (es : List (ℕ × ℕ)) → ss ≡ n.blocks.items → es ≡ n.steps.items
     → (feeds : List Feed) (lists : List (List ℕ)) → AreFeeding ss es n.ports Output Input feeds lists → (specs' : List Spec) (places' : List Place) → specs' ≡ specs → places' ≡ places → (e : Stop) → StopsBy (BreaksAt lists ss specs' (paths_of places')) e → IsFlattened t (Err e)
 wires_stop t specs places n num found long ss es ss_is es_is feeds lists fed specs' places' specs_is places_is e s =
     let ps = placed_all specs places in
-    let P : List Seat → Type 0 = λ x. AreFeeding x es n.ports Output Input feeds lists in
+    let P : List PortNumbers → Type 0 = λ x. AreFeeding x es n.ports Output Input feeds lists in
     let Q : List (ℕ × ℕ) → Type 0 = λ x. AreFeeding n.blocks.items x n.ports Output Input feeds lists in
-    let A : List Seat → Type 0 = λ x. StopsBy (BreaksAt lists x specs' (paths_of places')) e in
+    let A : List PortNumbers → Type 0 = λ x. StopsBy (BreaksAt lists x specs' (paths_of places')) e in
     let B : List Spec → Type 0 = λ x. StopsBy (BreaksAt lists n.blocks.items x (paths_of places')) e in
     let C : List Place → Type 0 = λ x. StopsBy (BreaksAt lists n.blocks.items specs (paths_of x)) e in
     stop_flattened t (BreaksAt lists n.blocks.items specs (paths_of places)) e
     (λ v b. inr (ps, found, broken t ps n num specs (placed_specs specs places long) feeds lists (subst Q es_is (subst P ss_is fed)) (paths_of places) (placed_paths specs places long) v b))
     (subst C places_is (subst B specs_is (subst A ss_is s)))
 
-pub made : CheckedLaw → (t : Objects) (specs : List Spec) (places : List Place) (n : Numbered) → IsReady t → IsNumbered t (placed_all specs places) (all_steps t) n → blocks t ≡ Ok (placed_all specs places) → length places ≡ length specs → (ss : List Seat) (es : List (ℕ × ℕ)) → ss ≡ n.blocks.items → es ≡ n.steps.items
+pub made : CheckedLaw → (t : Objects) (specs : List Spec) (places : List Place) (n : Numbered) → IsReady t → IsNumbered t (placed_all specs places) (all_steps t) n → blocks t ≡ Ok (placed_all specs places) → length places ≡ length specs → (ss : List PortNumbers) (es : List (ℕ × ℕ)) → ss ≡ n.blocks.items → es ≡ n.steps.items
     → (feeds : List Feed) (lists : List (List ℕ)) → AreFeeding ss es n.ports Output Input feeds lists → (specs' : List Spec) → specs' ≡ specs → (wires : List (Vec Wire Global)) → AllWired feeds lists ss specs' (length ss) (rows_of wires)
     → (acts : List Feed) (act_lists : List (List ℕ)) → AreFeeding ss es n.ports ActivationOutput ActivationInput acts act_lists → (rows : List (List (List Feed))) → AllFed acts act_lists ss (length ss) rows
     → Made t (placed_all specs places) n (net_parts specs places wires rows)
 made law t specs places n ready num found long ss es ss_is es_is feeds lists fed specs' specs_is wires wired acts act_lists act_fed rows all =
-    let P : List Seat → Type 0 = λ x. AreFeeding x es n.ports Output Input feeds lists in
+    let P : List PortNumbers → Type 0 = λ x. AreFeeding x es n.ports Output Input feeds lists in
     let Q : List (ℕ × ℕ) → Type 0 = λ x. AreFeeding n.blocks.items x n.ports Output Input feeds lists in
-    let R : List Seat → Type 0 = λ x. AreFeeding x es n.ports ActivationOutput ActivationInput acts act_lists in
+    let R : List PortNumbers → Type 0 = λ x. AreFeeding x es n.ports ActivationOutput ActivationInput acts act_lists in
     let S : List (ℕ × ℕ) → Type 0 = λ x. AreFeeding n.blocks.items x n.ports ActivationOutput ActivationInput acts act_lists in
-    let A : List Seat → Type 0 = λ x. AllWired feeds lists x specs' (length x) (rows_of wires) in
+    let A : List PortNumbers → Type 0 = λ x. AllWired feeds lists x specs' (length x) (rows_of wires) in
     let B : List Spec → Type 0 = λ x. AllWired feeds lists n.blocks.items x (length n.blocks.items) (rows_of wires) in
-    let C : List Seat → Type 0 = λ x. AllFed acts act_lists x (length x) rows in
+    let C : List PortNumbers → Type 0 = λ x. AllFed acts act_lists x (length x) rows in
     record {
       num = num;
       blocks = found;

@@ -14,9 +14,9 @@ use Rattle.sci_blocks.specs.Blocks.{Placed, placed}
 use Rattle.sci_net.specs.Parts.{no_spec}
 use Rattle.sci_flat.specs.Chain.{Step, Chain, stay, onward, AllWithin}
 use Rattle.sci_flat.specs.Lists.{list_at}
-use Rattle.sci_flat.specs.declared.steps.seat.Seat.{Seat}
+use Rattle.sci_flat.specs.declared.steps.port_numbers.PortNumbers.{PortNumbers}
 use Rattle.sci_flat.specs.declared.steps.numbered.Numbered.{Numbered}
-use Rattle.sci_flat.specs.Seat.{start, count, no_seat}
+use Rattle.sci_flat.specs.PortNumbers.{start, count, no_seat}
 use Rattle.sci_flat.specs.Ports.{Port, port, PortStep}
 use Rattle.sci_flat.specs.Numbered.{no_port, named_step, IsSeat, IsNumbered}
 use Rattle.sci_flat.specs.Tagged.{all_steps}
@@ -28,23 +28,23 @@ use Rattle.sci_flat.proofs.Reaching.{length_ends}
 -- ---- the ports of a class, by index
 
 -- index i is port k of block b, counted from 0, where the first of the seats is that of block `first`
-pub record IsEnd (c : PortClass) (first : ℕ) (ss : List Seat) (i b k : ℕ) : Type 0 where
+pub record IsEnd (c : PortClass) (first : ℕ) (ss : List PortNumbers) (i b k : ℕ) : Type 0 where
   pub block : b < length ss
   pub port : k < count (seat_of ss b) c
   pub index : i < length (ends_of c first ss)
   pub is : feed_at (ends_of c first ss) i ≡ end_of (first + b) (k + 1)
   pub number : get_or (numbers_of c ss) i 0 ≡ start (seat_of ss b) c + k
 
-seat_end : (c : PortClass) (b : ℕ) (s : Seat) (k : ℕ) (d : Feed) → k < count s c → get_or (seat_ends c b s) k d ≡ end_of b (k + 1)
+seat_end : (c : PortClass) (b : ℕ) (s : PortNumbers) (k : ℕ) (d : Feed) → k < count s c → get_or (seat_ends c b s) k d ≡ end_of b (k + 1)
 seat_end c b s k d h =
     let there : k < length (range_with_len 1 (count s c)) = omega (arith, length-range_with_len 1 (count s c)) in
     let is : get_or (range_with_len 1 (count s c)) k 0 ≡ k + 1 = omega (arith, get_or-range_with_len 1 (count s c) k 0 h) in
     get_or-map (end_of b) (range_with_len 1 (count s c)) k 0 d there ∙ ap (end_of b) is
 
-length-seat_ends : (c : PortClass) (b : ℕ) (s : Seat) → length (seat_ends c b s) ≡ count s c
+length-seat_ends : (c : PortClass) (b : ℕ) (s : PortNumbers) → length (seat_ends c b s) ≡ count s c
 length-seat_ends c b s = length-map (range_with_len 1 (count s c)) (end_of b) ∙ length-range_with_len 1 (count s c)
 
-first_end : (c : PortClass) (first : ℕ) (s : Seat) (ss : List Seat) (k : ℕ) → k < count s c → IsEnd c first (s ∷ ss) k 0 k
+first_end : (c : PortClass) (first : ℕ) (s : PortNumbers) (ss : List PortNumbers) (k : ℕ) → k < count s c → IsEnd c first (s ∷ ss) k 0 k
 first_end c first s ss k h =
     let long = length-seat_ends c first s in
     let long' = length-range_with_len (start s c) (count s c) in
@@ -57,7 +57,7 @@ first_end c first s ss k h =
       number = get_or_append_left (seat_numbers c s) (numbers_of c ss) 0 k (omega (arith, h, long')) ∙ get_or-range_with_len (start s c) (count s c) k 0 h;
     }
 
-later_end : (c : PortClass) (first : ℕ) (s : Seat) (ss : List Seat) (i b k : ℕ) → IsEnd c (first + 1) ss i b k → IsEnd c first (s ∷ ss) (count s c + i) (suc b) k
+later_end : (c : PortClass) (first : ℕ) (s : PortNumbers) (ss : List PortNumbers) (i b k : ℕ) → IsEnd c (first + 1) ss i b k → IsEnd c first (s ∷ ss) (count s c + i) (suc b) k
 later_end c first s ss i b k e =
     let long = length-seat_ends c first s in
     let long' = length-range_with_len (start s c) (count s c) in
@@ -72,7 +72,7 @@ later_end c first s ss i b k e =
     }
 
 -- each index is a port
-pub end_at : (c : PortClass) (first : ℕ) (ss : List Seat) (i : ℕ) → i < length (ends_of c first ss) → (b : ℕ) × (k : ℕ) × IsEnd c first ss i b k
+pub end_at : (c : PortClass) (first : ℕ) (ss : List PortNumbers) (i : ℕ) → i < length (ends_of c first ss) → (b : ℕ) × (k : ℕ) × IsEnd c first ss i b k
 end_at c first [] i h = absurd (omega arith)
 end_at c first (s ∷ ss) i h = elim (cases_lt i (count s c)) [
   | inl l ↦ (0, i, first_end c first s ss i l)
@@ -85,12 +85,12 @@ end_at c first (s ∷ ss) i h = elim (cases_lt i (count s c)) [
 ]
 
 -- each port has an index
-pub end_of_port : (c : PortClass) (first : ℕ) (ss : List Seat) (b k : ℕ) → b < length ss → k < count (seat_of ss b) c → (i : ℕ) × IsEnd c first ss i b k
+pub end_of_port : (c : PortClass) (first : ℕ) (ss : List PortNumbers) (b k : ℕ) → b < length ss → k < count (seat_of ss b) c → (i : ℕ) × IsEnd c first ss i b k
 end_of_port c first [] b k h l = absurd (omega arith)
 end_of_port c first (s ∷ ss) zero k h l = (k, first_end c first s ss k l)
 end_of_port c first (s ∷ ss) (suc b) k h l = let r = end_of_port c (first + 1) ss b k (omega arith) l in (count s c + r.0, later_end c first s ss r.0 b k r.1)
 
-pub number_listed : (c : PortClass) (ss : List Seat) (b k : ℕ) → b < length ss → k < count (seat_of ss b) c → Contains (numbers_of c ss) (start (seat_of ss b) c + k)
+pub number_listed : (c : PortClass) (ss : List PortNumbers) (b k : ℕ) → b < length ss → k < count (seat_of ss b) c → Contains (numbers_of c ss) (start (seat_of ss b) c + k)
 number_listed c ss b k h l =
     let r = end_of_port c 1 ss b k h l in
     let low : r.0 < length (numbers_of c ss) = omega (arith, r.1.index, length_ends c 1 ss) in
@@ -113,7 +113,7 @@ earlier_port a p q h =
     or_true true = refl
     or_true false = refl
 
-pub ends_rise : (c : PortClass) (first : ℕ) (ss : List Seat) → AllPairs (λ a b. precedes a b ≡ true) (ends_of c first ss)
+pub ends_rise : (c : PortClass) (first : ℕ) (ss : List PortNumbers) → AllPairs (λ a b. precedes a b ≡ true) (ends_of c first ss)
 ends_rise c first [] i j d h l = absurd (omega arith)
 ends_rise c first (s ∷ ss) i j d h l =
     let long = length-seat_ends c first s in

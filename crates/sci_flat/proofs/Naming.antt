@@ -17,8 +17,8 @@ use Rattle.sci_blocks.specs.Rows.{pass_through}
 use Rattle.sci_blocks.specs.Ports.{ports, no_ports}
 use Rattle.sci_blocks.specs.Wiring.{is_port_of, object_ports, ports_of, at_position, side_number, link_type, source_class, target_class}
 use Rattle.sci_flat.specs.Chain.{AllWithin}
-use Rattle.sci_flat.specs.declared.steps.seat.Seat.{Seat}
-use Rattle.sci_flat.specs.Seat.{seat_at, no_seat, past, start, count, port_number}
+use Rattle.sci_flat.specs.declared.steps.port_numbers.PortNumbers.{PortNumbers}
+use Rattle.sci_flat.specs.PortNumbers.{seat_at, no_seat, past, start, count, port_number}
 use Rattle.sci_flat.specs.Ports.{Port, port, PortStep, end_port, place_port, link_steps, split_steps, union_steps, port_steps, numbered_steps, through_steps, steps_of, object_steps, tree_steps}
 use Rattle.sci_flat.specs.Numbers.{Steps, object_seat, seats, own_past, inside_past, joined, seat_port, placed_port, end_number, link_numbers, fan_out, fan_in, port_numbers, block_numbers, through_numbers, steps_by, object_steps_by}
 use Rattle.sci_flat.specs.Numbered.{no_port, named_step}
@@ -77,7 +77,7 @@ fan_within f m a (suc n) h =
 
 -- ---- one port
 
-pub number_there : (s : Seat) (c : PortClass) (k : ℕ) → k < count s c → port_number s c (pos (suc k)) ≡ Some (start s c + k)
+pub number_there : (s : PortNumbers) (c : PortClass) (k : ℕ) → k < count s c → port_number s c (pos (suc k)) ≡ Some (start s c + k)
 number_there s c k h = let e : nat_lt k (count s c) ≡ true = below k (count s c) h in ap (λ (b : Bool). cond b (Some (start s c + k)) None) e
   where
     below : (a b : ℕ) → a < b → nat_lt a b ≡ true
@@ -112,7 +112,7 @@ pub record PortNamed (names : List Port) (o : Option ℕ) (p : Port) : Type 0 wh
   pub inside : number < length names
   pub named : get_or names number no_port ≡ p
 
-port_named : (names : List Port) (place : List ℕ) (s : Seat) (c : PortClass) (k : ℕ) → Seated names place s → k < count s c → PortNamed names (port_number s c (pos (suc k))) (port place c (pos (suc k)))
+port_named : (names : List Port) (place : List ℕ) (s : PortNumbers) (c : PortClass) (k : ℕ) → Seated names place s → k < count s c → PortNamed names (port_number s c (pos (suc k))) (port place c (pos (suc k)))
 port_named names place s c k a h = record {
   number = start s c + k;
   is = number_there s c k h;
@@ -128,13 +128,13 @@ joined_named names a b p q x y = rw (x.is, y.is) (named_one names x.number y.num
 
 -- ---- through a pass-through object
 
-first_named : (names : List Port) (place : List ℕ) (s : Seat) (c : PortClass) → Seated names place s → 1 ≤ count s c → PortNamed names (port_number s c (pos 1)) (port place c (pos 1))
+first_named : (names : List Port) (place : List ℕ) (s : PortNumbers) (c : PortClass) → Seated names place s → 1 ≤ count s c → PortNamed names (port_number s c (pos 1)) (port place c (pos 1))
 first_named names place s c a h = port_named names place s c 0 a (omega arith)
 
 pair_same : (a b p q : Port) → a ≡ p → b ≡ q → (let s : PortStep = (a, b) in s) ≡ (let t : PortStep = (p, q) in t)
 pair_same a b p q e f = rw (e, f) refl
 
-fan_out_named : (names : List Port) (here : List ℕ) (s : Seat) (c d : PortClass) (o : Option ℕ) (n : ℕ) → n ≡ count s d → Seated names here s → PortNamed names o (port here c (pos 1)) → Named names (fan_out o (start s d) (count s d)) (split_steps here c d n)
+fan_out_named : (names : List Port) (here : List ℕ) (s : PortNumbers) (c d : PortClass) (o : Option ℕ) (n : ℕ) → n ≡ count s d → Seated names here s → PortNamed names o (port here c (pos 1)) → Named names (fan_out o (start s d) (count s d)) (split_steps here c d n)
 fan_out_named names here s c d o n e a x = rw (x.is, e) (record {
   same = fan_same names (λ k. (x.number, k)) (λ k. (port here c (pos 1), port here d (pos k))) (start s d) 1 (count s d) same;
   within = fan_within (λ k. (x.number, k)) (length names) (start s d) (count s d) (λ k h. (x.inside, a.inside d k h));
@@ -146,7 +146,7 @@ fan_out_named names here s c d o n e a x = rw (x.is, e) (record {
     same : (k : ℕ) → k < count s d → named_step names (x.number, start s d + k) ≡ (port here c (pos 1), port here d (pos (1 + k)))
     same k h = pair_same (get_or names x.number no_port) (get_or names (start s d + k) no_port) (port here c (pos 1)) (port here d (pos (1 + k))) x.named (a.named d k h ∙ ap (λ (i : ℕ). port here d (pos i)) (one_more k))
 
-fan_in_named : (names : List Port) (here : List ℕ) (s : Seat) (o : Option ℕ) (n : ℕ) → n ≡ count s ActivationInput → Seated names here s → PortNamed names o (port here ActivationOutput (pos 1)) → Named names (fan_in (start s ActivationInput) (count s ActivationInput) o) (union_steps here n)
+fan_in_named : (names : List Port) (here : List ℕ) (s : PortNumbers) (o : Option ℕ) (n : ℕ) → n ≡ count s ActivationInput → Seated names here s → PortNamed names o (port here ActivationOutput (pos 1)) → Named names (fan_in (start s ActivationInput) (count s ActivationInput) o) (union_steps here n)
 fan_in_named names here s o n e a x = rw (x.is, e) (record {
   same = fan_same names (λ k. (k, x.number)) (λ k. (port here ActivationInput (pos k), port here ActivationOutput (pos 1))) (start s ActivationInput) 1 (count s ActivationInput) same;
   within = fan_within (λ k. (k, x.number)) (length names) (start s ActivationInput) (count s ActivationInput) (λ k h. (a.inside ActivationInput k h, x.inside));
@@ -158,7 +158,7 @@ fan_in_named names here s o n e a x = rw (x.is, e) (record {
     same : (k : ℕ) → k < count s ActivationInput → named_step names (start s ActivationInput + k, x.number) ≡ (port here ActivationInput (pos (1 + k)), port here ActivationOutput (pos 1))
     same k h = pair_same (get_or names (start s ActivationInput + k) no_port) (get_or names x.number no_port) (port here ActivationInput (pos (1 + k))) (port here ActivationOutput (pos 1)) (a.named ActivationInput k h ∙ ap (λ (i : ℕ). port here ActivationInput (pos i)) (one_more k)) x.named
 
-block_named : (names : List Port) (at here : List ℕ) (outer s : Seat) (cnt : PortClass → ℕ) (f : Fields) (c : PortClass) → Seated names at outer → Seated names here s → ((d : PortClass) → count outer d ≡ cnt d) → ((d : PortClass) → count s d ≡ ports f d)
+block_named : (names : List Port) (at here : List ℕ) (outer s : PortNumbers) (cnt : PortClass → ℕ) (f : Fields) (c : PortClass) → Seated names at outer → Seated names here s → ((d : PortClass) → count outer d ≡ cnt d) → ((d : PortClass) → count s d ≡ ports f d)
     → StandsFor cnt c f → Named names (block_numbers outer s c f.ipar) (numbered_steps at here c f.ipar)
 block_named names at here outer s cnt f c a b same own j = rw j.ipar (kinds c (subst (λ (i : ℕ). j.k < i) (sym (same c)) j.there) (subst (λ (i : ℕ). 1 ≤ i) (sym (own (opposite c))) j.own))
   where
@@ -168,7 +168,7 @@ block_named names at here outer s cnt f c a b same own j = rw j.ipar (kinds c (s
     kinds ActivationInput h l = joined_named names _ _ _ _ (port_named names at outer ActivationInput j.k a h) (first_named names here s ActivationOutput b l)
     kinds ActivationOutput h l = joined_named names _ _ _ _ (first_named names here s ActivationInput b l) (port_named names at outer ActivationOutput j.k a h)
 
-through_named : (names : List Port) (at here : List ℕ) (outer s : Seat) (cnt : PortClass → ℕ) (f : Fields) (o : Option PassThrough) → Seated names at outer → Seated names here s → ((d : PortClass) → count outer d ≡ cnt d) → ((d : PortClass) → count s d ≡ ports f d)
+through_named : (names : List Port) (at here : List ℕ) (outer s : PortNumbers) (cnt : PortClass → ℕ) (f : Fields) (o : Option PassThrough) → Seated names at outer → Seated names here s → ((d : PortClass) → count outer d ≡ cnt d) → ((d : PortClass) → count s d ≡ ports f d)
     → JointOk cnt f o → Named names (through_numbers outer s f.ipar o) (through_steps at here f o)
 through_named names at here outer s cnt f None a b same own j = named_nil names
 through_named names at here outer s cnt f (Some Split) a b same own j = fan_out_named names here s Input Output _ (length f.outs) (sym (own Output)) b (first_named names here s Input b (subst (λ (i : ℕ). 1 ≤ i) (sym (own Input)) j))
@@ -182,7 +182,7 @@ through_named names at here outer s cnt f (Some (Taker l)) a b same own j = name
 
 -- the seat of an object of a diagram
 record SeatOf (names : List Port) (at : List ℕ) (n k j : ℕ) (os : Objects) (o : Object) : Type 0 where
-  seat : Seat
+  seat : PortNumbers
   is : slice_get (seats n os) j ≡ Some seat
   seated : Seated names (at ++ (k + j) ∷ []) seat
   counts : (c : PortClass) → count seat c ≡ object_ports c o
@@ -207,7 +207,7 @@ seat_of names at n k (suc j) (object p os) o a e =
     record { seat = r.seat; is = r.is; seated = rw next r.seated; counts = r.counts }
 
 -- the end names one port, which has a number
-record EndNamed (names : List Port) (at : List ℕ) (all : List Seat) (c : PortClass) (e : End) : Type 0 where
+record EndNamed (names : List Port) (at : List ℕ) (all : List PortNumbers) (c : PortClass) (e : End) : Type 0 where
   target : Port
   one : end_port at c e ≡ target ∷ []
   named : PortNamed names (end_number all c e) target
@@ -262,7 +262,7 @@ link_named names at n os from to (Some t) a ok =
 mutual
   unfolding steps_by object_steps_by steps_of object_steps
 
-  diagram_named : (names : List Port) (at : List ℕ) (first : ℕ) (all : Objects) (outer : Seat) (cnt : PortClass → ℕ) (k m n : ℕ) (os : Objects) → At names first (own_names at 1 all) → Seated names at outer → ((c : PortClass) → count outer c ≡ cnt c)
+  diagram_named : (names : List Port) (at : List ℕ) (first : ℕ) (all : Objects) (outer : PortNumbers) (cnt : PortClass → ℕ) (k m n : ℕ) (os : Objects) → At names first (own_names at 1 all) → Seated names at outer → ((c : PortClass) → count outer c ≡ cnt c)
       → At names m (own_names at k os) → At names n (inside_names at k os) → DiagramOk all cnt os → Named names (steps_by (seats first all) outer (seats m os) n os) (steps_of at k os)
   diagram_named names at first all outer cnt k m n no_objects a o same own inside ok = named_nil names
   diagram_named names at first all outer cnt k m n (object p os) a o same own inside ok =
@@ -273,7 +273,7 @@ mutual
       (at_right names n (inside_past n p) (inside_object here p) (inside_names at (k + 1) os) (past_inside here n p) inside) ok.1 in
       named_append names _ _ _ _ one more
 
-  object_named : (names : List Port) (at here : List ℕ) (first : ℕ) (all : Objects) (outer : Seat) (cnt : PortClass → ℕ) (m n : ℕ) (p : Object) → At names first (own_names at 1 all) → Seated names at outer → ((c : PortClass) → count outer c ≡ cnt c)
+  object_named : (names : List Port) (at here : List ℕ) (first : ℕ) (all : Objects) (outer : PortNumbers) (cnt : PortClass → ℕ) (m n : ℕ) (p : Object) → At names first (own_names at 1 all) → Seated names at outer → ((c : PortClass) → count outer c ≡ cnt c)
       → At names m (object_names here p) → At names n (inside_object here p) → ObjectOk all cnt p → Named names (object_steps_by (seats first all) outer (object_seat m p) n p) (object_steps at here p)
   object_named names at here first all outer cnt m n (block gui f) a o same own inside ok =
       through_named names at here outer (seat_at m f) cnt f (pass_through gui) o (object_seated names here m (block gui f) own) same (λ c. seat_counts m (block gui f) c) ok

@@ -15,7 +15,7 @@ use Rattle.sci_blocks.specs.declared.class.PortClass.{PortClass}
 use Rattle.sci_blocks.specs.declared.class.PortClass.TheVariants.{Input, Output, ActivationInput, ActivationOutput}
 use Rattle.sci_blocks.specs.Blocks.{Placed, placed}
 use Rattle.sci_flat.specs.declared.steps.numbered.Numbered.{Numbered}
-use Rattle.sci_flat.specs.Seat.{start, count}
+use Rattle.sci_flat.specs.PortNumbers.{start, count}
 use Rattle.sci_flat.specs.Numbered.{spec_ports, IsNumbered}
 use Rattle.sci_flat.specs.Tagged.{all_steps}
 use Rattle.sci_flat.specs.Ends.{end_of, ends_of, AreFeeding}

@@ -9,7 +9,7 @@ use Rattle.sci_diagram.specs.Objects.{Object, block, superblock, link, text, del
 use Rattle.sci_forms.specs.declared.Kind.{Kind}
 use Rattle.sci_forms.specs.declared.broken.Broken.{Broken}
 use Rattle.sci_forms.specs.declared.spec.Spec.{Spec}
-use Rattle.sci_forms.specs.Names.{by_name}
+use Rattle.sci_names.specs.Names.{by_name}
 use Rattle.sci_check.specs.Check.{declared_ports, declared_port, broken, spec_of, judged, checked_kind, checked}
 use Rattle.sci_blocks.specs.declared.class.PortClass.{PortClass}
 use Rattle.sci_blocks.specs.declared.class.PortClass.TheVariants.{Input, Output, ActivationInput, ActivationOutput}
@@ -17,8 +17,8 @@ use Rattle.sci_blocks.specs.declared.pass_through.PassThrough.{PassThrough}
 use Rattle.sci_blocks.specs.Rows.{pass_through, joint_checked}
 use Rattle.sci_blocks.specs.Ports.{ports, ports_matched}
 use Rattle.sci_blocks.specs.Blocks.{Placed, placed, block_parts, parts_in, object_parts}
-use Rattle.sci_flat.specs.declared.steps.seat.Seat.{Seat}
-use Rattle.sci_flat.specs.Seat.{seat_at, past, start, count, port_number}
+use Rattle.sci_flat.specs.declared.steps.port_numbers.PortNumbers.{PortNumbers}
+use Rattle.sci_flat.specs.PortNumbers.{seat_at, past, start, count, port_number}
 use Rattle.sci_flat.specs.Ports.{Port}
 use Rattle.sci_flat.specs.Numbers.{object_seat, seats, own_past, inside_past, unless_passed, blocks_by, object_blocks_by}
 use Rattle.sci_flat.specs.Numbered.{spec_ports, IsSeat}
@@ -53,7 +53,7 @@ checked_counts place gui f s h c = of_kind (by_name gui) h
 -- ---- a block with its seat
 
 -- within an object at a place
-record BlockIn (names : List Port) (here : List ℕ) (m n : ℕ) (o : Object) (p : Placed) (s : Seat) : Type 0 where
+record BlockIn (names : List Port) (here : List ℕ) (m n : ℕ) (o : Object) (p : Placed) (s : PortNumbers) : Type 0 where
   rest : List ℕ
   place : p.place ≡ here ++ rest
   numbers : (c : PortClass) (z : ℤ) → number_within (object_seat m o) n rest c z o ≡ port_number s c z
@@ -61,7 +61,7 @@ record BlockIn (names : List Port) (here : List ℕ) (m n : ℕ) (o : Object) (p
   counts : (c : PortClass) → count s c ≡ spec_ports p.spec c
 
 -- among the objects of a diagram
-pub record BlockOf (names : List Port) (at : List ℕ) (k m n : ℕ) (os : Objects) (p : Placed) (s : Seat) : Type 0 where
+pub record BlockOf (names : List Port) (at : List ℕ) (k m n : ℕ) (os : Objects) (p : Placed) (s : PortNumbers) : Type 0 where
   pub j : ℕ
   pub rest : List ℕ
   pub later : k ≤ j
@@ -127,7 +127,7 @@ mutual
       let P : List Placed → Type 0 = λ x. AllZip (BlockOf names at k m n (object o os)) x (object_blocks_by (object_seat m o) n o ++ blocks_by (seats (past (object_seat m o)) os) (inside_past n o) os) in
       subst P is (zip_append (BlockOf names at k m n (object o os)) a.0 b.0 _ _ (first a.0 _ one) (others b.0 _ more))
     where
-      first : (xs : List Placed) (us : List Seat) → AllZip (BlockIn names (at ++ k ∷ []) m n o) xs us → AllZip (BlockOf names at k m n (object o os)) xs us
+      first : (xs : List Placed) (us : List PortNumbers) → AllZip (BlockIn names (at ++ k ∷ []) m n o) xs us → AllZip (BlockOf names at k m n (object o os)) xs us
       first xs us a = zip_more (BlockIn names (at ++ k ∷ []) m n o) (BlockOf names at k m n (object o os)) (λ p s r. record {
         j = k;
         rest = r.rest;
@@ -138,7 +138,7 @@ mutual
         counts = r.counts;
       }) xs us a
 
-      others : (xs : List Placed) (us : List Seat) → AllZip (BlockOf names at (k + 1) (past (object_seat m o)) (inside_past n o) os) xs us → AllZip (BlockOf names at k m n (object o os)) xs us
+      others : (xs : List Placed) (us : List PortNumbers) → AllZip (BlockOf names at (k + 1) (past (object_seat m o)) (inside_past n o) os) xs us → AllZip (BlockOf names at k m n (object o os)) xs us
       others xs us a = zip_more (BlockOf names at (k + 1) (past (object_seat m o)) (inside_past n o) os) (BlockOf names at k m n (object o os)) (λ p s r. record {
         j = r.j;
         rest = r.rest;
@@ -156,7 +156,7 @@ mutual
       let a = then_ok (ports_matched here (ports f) os) _ ps h in
       within ps _ (diagram_zip names here 1 n (own_past n os) os ps a.2 (at_left names n (own_names here 1 os) (inside_names here 1 os) inside) (at_right names n (own_past n os) (own_names here 1 os) (inside_names here 1 os) (past_own here 1 n os) inside))
     where
-      within : (xs : List Placed) (us : List Seat) → AllZip (BlockOf names here 1 n (own_past n os) os) xs us → AllZip (BlockIn names here m n (superblock gui f os)) xs us
+      within : (xs : List Placed) (us : List PortNumbers) → AllZip (BlockOf names here 1 n (own_past n os) os) xs us → AllZip (BlockIn names here m n (superblock gui f os)) xs us
       within xs us a = zip_more (BlockOf names here 1 n (own_past n os) os) (BlockIn names here m n (superblock gui f os)) (λ p s r. record {
         rest = r.j ∷ r.rest;
         place = r.place;
@@ -179,7 +179,7 @@ mutual
 
 -- ---- the seat's ports are the block's, and no others are
 
-numbered_back : (s : Seat) (c : PortClass) (z : ℤ) (n : ℕ) → port_number s c z ≡ Some n → (k : ℕ) × (k < count s c) × (z ≡ pos (k + 1)) × (n ≡ start s c + k)
+numbered_back : (s : PortNumbers) (c : PortClass) (z : ℤ) (n : ℕ) → port_number s c z ≡ Some n → (k : ℕ) × (k < count s c) × (z ≡ pos (k + 1)) × (n ≡ start s c + k)
 numbered_back s c (pos zero) n h = cc
 numbered_back s c (negsuc k) n h = cc
 numbered_back s c (pos (suc k)) n h = back (nat_lt k (count s c)) refl h
@@ -191,7 +191,7 @@ numbered_back s c (pos (suc k)) n h = back (nat_lt k (count s c)) refl h
     back true e f = let is : start s c + k ≡ n = cc in let one_more : suc k ≡ k + 1 = omega arith in (k, below k (count s c) e, ap pos one_more, sym is)
     back false e f = cc
 
-is_seat : (t : Objects) (p : Placed) (s : Seat) → BlockOf (tree_names t) [] 1 0 (own_past 0 t) t p s → IsSeat (tree_names t) p s
+is_seat : (t : Objects) (p : Placed) (s : PortNumbers) → BlockOf (tree_names t) [] 1 0 (own_past 0 t) t p s → IsSeat (tree_names t) p s
 is_seat t p s b = record {
   counts = b.counts;
   inside = b.seated.inside;

@@ -6,8 +6,8 @@ use Rattle.serde_json.specs.Find.{get, as_str}
 use Rattle.sci_base.specs.Plain.{Violation, Fields}
 use Rattle.sci_base.specs.Outcome.{◌>>=◌}
 use Rattle.sci_json.specs.Field.{field, formed, as_ints, as_dep}
-use Rattle.sci_diagram.specs.declared.sorts.Role.{Role}
-use Rattle.sci_diagram.specs.declared.sorts.Role.TheVariants.{Super}
+use Rattle.sci_diagram.specs.declared.sorts.ObjectRole.{ObjectRole}
+use Rattle.sci_diagram.specs.declared.sorts.ObjectRole.TheVariants.{Super}
 use Rattle.sci_diagram.specs.declared.sorts.Sort.{Sort}
 use Rattle.sci_diagram.specs.Objects.{Object, Objects, block, superblock, link, text, deleted, no_objects, object as one_object}
 use Rattle.sci_diagram.specs.Numbers.{small_count}
@@ -44,7 +44,7 @@ list_light at code name m xs h = count_light at code name m (length xs) (rw h re
 four : (a b c d w : ℕ) → a ≤ w → b ≤ w → c ≤ w → d ≤ w → a + b + c + d ≤ 4 * w
 four a b c d w p q r s = omega arith
 
-fields_few : (role : Role) (at : List ℕ) (m : Data) (f : Fields) → read_fields role at m ≡ Ok f → field_ports f ≤ 4 * weight m
+fields_few : (role : ObjectRole) (at : List ℕ) (m : Data) (f : Fields) → read_fields role at m ≡ Ok f → field_ports f ≤ 4 * weight m
 unfolding read_fields
 fields_few role at m f h =
     let a1 = then_ok (small_list at (pos 6) (codes "in") m) _ f h in

@@ -6,7 +6,7 @@ use Rattle.std.proofs.lemmas.Bool.Decides.{eqb_tells, nat_tests}
 use Rattle.std.proofs.lemmas.List.{append-nil}
 use Rattle.std.proofs.lemmas.List.Elements.{Contains-get_or, Contains-append_left, Contains-push, Contains-push_cases}
 use Rattle.std.proofs.lemmas.List.Quantifiers.{all_pairs_push}
-use Rattle.sci_flat.specs.declared.reach.search.Search.{Search}
+use Rattle.sci_flat.specs.declared.reach.search.FeedSearch.{FeedSearch}
 use Rattle.sci_flat.specs.Chain.{Chain}
 use Rattle.sci_flat.specs.Chain as chain
 use Rattle.sci_flat.specs.Lists.{lists_of, list_at}
@@ -24,13 +24,13 @@ path_from_chain es ls lead chain.stay = stay
 path_from_chain es ls lead (chain.onward {q = q} {r = r} before s) = onward (path_from_chain es ls lead before) ((lead q r).1 s)
 
 -- the lists with the first i sources
-pub record Reaching (es : Steps) (sources : List ℕ) (wanted : List Bool) (s : Search) (i : ℕ) : Type 0 where
+pub record Reaching (es : Steps) (sources : List ℕ) (wanted : List Bool) (s : FeedSearch) (i : ℕ) : Type 0 where
   pub ready : IsReady s (length wanted) i
   pub rising : (q : ℕ) → AllPairs (λ a b. a < b) (list_at (lists_of s.lists) q)
   pub under : (q j : ℕ) → Contains (list_at (lists_of s.lists) q) j → j < i
   pub exactly : (q j : ℕ) → IsWanted wanted q → Contains (list_at (lists_of s.lists) q) j ↔ ((j < i) × Chain es (get_or sources j 0) q)
 
-pub reaching_none : (es : Steps) (sources : List ℕ) (wanted : List Bool) (s : Search) (n : ℕ) → lists_of s.lists ≡ replicate n [] → IsReady s (length wanted) 0 → Reaching es sources wanted s 0
+pub reaching_none : (es : Steps) (sources : List ℕ) (wanted : List Bool) (s : FeedSearch) (n : ℕ) → lists_of s.lists ≡ replicate n [] → IsReady s (length wanted) 0 → Reaching es sources wanted s 0
 reaching_none es sources wanted s n e ready = record {
   ready = ready;
   rising = λ q a b d l h. absurd (none q (get_or (list_at (lists_of s.lists) q) b d) (Contains-get_or (list_at (lists_of s.lists) q) b d h));
@@ -72,7 +72,7 @@ module _ (i : ℕ) (old new : List ℕ) where
       differs : false ≡ true → ⊥
       differs f = cc
 
-pub reaching_more : (es : Steps) (ls : ℕ → List ℕ) (sources : List ℕ) (wanted : List Bool) (s new : Search) (i : ℕ) → LeadOn es ls → Walks ls wanted i (get_or sources i 0) s new → Reaching es sources wanted s i → Reaching es sources wanted new (i + 1)
+pub reaching_more : (es : Steps) (ls : ℕ → List ℕ) (sources : List ℕ) (wanted : List Bool) (s new : FeedSearch) (i : ℕ) → LeadOn es ls → Walks ls wanted i (get_or sources i 0) s new → Reaching es sources wanted s i → Reaching es sources wanted new (i + 1)
 reaching_more es ls sources wanted s new i lead w r = record {
   ready = record { stamps_long = w.stamps_long ∙ r.ready.stamps_long; lists_long = w.lists_long ∙ r.ready.lists_long; pending = w.pending; below = w.below };
   rising = λ q. rising_more i (list_at (lists_of s.lists) q) (list_at (lists_of new.lists) q) (is_stamped new.stamps.items (i + 1) q && is_wanted wanted q) (w.lists q) (r.under q) (r.rising q);
@@ -89,7 +89,7 @@ reaching_more es ls sources wanted s new i lead w r = record {
     both_true : (b w : Bool) → b ≡ true → w ≡ true → (b && w) ≡ true
     both_true b w e f = rw (e, f) refl
 
-pub reaching_all : (es : Steps) (sources : List ℕ) (wanted : List Bool) (s : Search) (lists : List (List ℕ)) (i : ℕ) → i ≡ length sources → lists ≡ lists_of s.lists → length lists ≡ length wanted → Reaching es sources wanted s i → AreReached es sources wanted lists
+pub reaching_all : (es : Steps) (sources : List ℕ) (wanted : List Bool) (s : FeedSearch) (lists : List (List ℕ)) (i : ℕ) → i ≡ length sources → lists ≡ lists_of s.lists → length lists ≡ length wanted → Reaching es sources wanted s i → AreReached es sources wanted lists
 reaching_all es sources wanted s lists i e is long r = record {
   long = long;
   rising = λ q. let P : List (List ℕ) → Type 0 = λ x. AllPairs (λ (a : ℕ) (c : ℕ). a < c) (list_at x q) in subst P (sym is) (r.rising q);

@@ -10,11 +10,11 @@ use Rattle.sci_blocks.specs.declared.class.PortClass.{PortClass}
 use Rattle.sci_flat.specs.Chain.{Chain}
 use Rattle.sci_flat.specs.Lists.{list_at}
 use Rattle.sci_flat.specs.Reached.{IsWanted, AreReached}
-use Rattle.sci_flat.specs.declared.steps.seat.Seat.{Seat}
-use Rattle.sci_flat.specs.Seat.{start, count}
+use Rattle.sci_flat.specs.declared.steps.port_numbers.PortNumbers.{PortNumbers}
+use Rattle.sci_flat.specs.PortNumbers.{start, count}
 use Rattle.sci_flat.specs.Ends.{end_of, seat_numbers, seat_ends, numbers_of, ends_of, IsInside, AreFeeding}
 
-pub numbers_within : (ports : ℕ) (c : PortClass) (ss : List Seat) → All (IsInside ports) ss → All (λ n. n < ports) (numbers_of c ss)
+pub numbers_within : (ports : ℕ) (c : PortClass) (ss : List PortNumbers) → All (IsInside ports) ss → All (λ n. n < ports) (numbers_of c ss)
 numbers_within ports c [] h = All-nil (λ n. n < ports)
 numbers_within ports c (s ∷ ss) h = All-append (λ n. n < ports) (seat_numbers c s) (numbers_of c ss) one (numbers_within ports c ss (All-tail (IsInside ports) s ss h))
   where
@@ -25,7 +25,7 @@ numbers_within ports c (s ∷ ss) h = All-append (λ n. n < ports) (seat_numbers
         let in' = All-head (IsInside ports) s ss h c k low in
         omega (arith, is, in')
 
-pub length_ends : (c : PortClass) (b : ℕ) (ss : List Seat) → length (numbers_of c ss) ≡ length (ends_of c b ss)
+pub length_ends : (c : PortClass) (b : ℕ) (ss : List PortNumbers) → length (numbers_of c ss) ≡ length (ends_of c b ss)
 length_ends c b [] = refl
 length_ends c b (s ∷ ss) =
     let more = length_ends c (b + 1) ss in
@@ -39,7 +39,7 @@ length_ends c b (s ∷ ss) =
 pub marks_at : (ms ns : List Bool) (q : ℕ) → ms ≡ ns → IsWanted ns q → IsWanted ms q
 marks_at ms ns q e h = subst (λ (x : List Bool). IsWanted x q) (sym e) h
 
-pub are_feeding : (ss : List Seat) (es : List (ℕ × ℕ)) (ports : ℕ) (from to : PortClass) (feeds : List Feed) (lists : List (List ℕ)) (sources : List ℕ) (wanted : List Bool) (targets : List ℕ) → feeds ≡ ends_of from 1 ss → sources ≡ numbers_of from ss
+pub are_feeding : (ss : List PortNumbers) (es : List (ℕ × ℕ)) (ports : ℕ) (from to : PortClass) (feeds : List Feed) (lists : List (List ℕ)) (sources : List ℕ) (wanted : List Bool) (targets : List ℕ) → feeds ≡ ends_of from 1 ss → sources ≡ numbers_of from ss
     → targets ≡ numbers_of to ss → length wanted ≡ ports → ((q : ℕ) → Contains targets q → IsWanted wanted q) → AreReached es sources wanted lists → AreFeeding ss es ports from to feeds lists
 are_feeding ss es ports from to feeds lists sources wanted targets f s t long marks r = record {
   ends = f;

@@ -10,8 +10,8 @@ use Rattle.serde_json.specs.Read.{read}
 use Rattle.sci_base.specs.Plain.{Violation, Fields}
 use Rattle.sci_base.specs.Outcome.{◌>>=◌}
 use Rattle.sci_json.specs.Field.{field, as_ints, as_dep}
-use Rattle.sci_diagram.specs.declared.sorts.Role.{Role}
-use Rattle.sci_diagram.specs.declared.sorts.Role.TheVariants.{Super}
+use Rattle.sci_diagram.specs.declared.sorts.ObjectRole.{ObjectRole}
+use Rattle.sci_diagram.specs.declared.sorts.ObjectRole.TheVariants.{Super}
 use Rattle.sci_diagram.specs.declared.sorts.Sort.{Sort}
 use Rattle.sci_diagram.specs.Objects.{Object, Objects, block, superblock, link, text, deleted, no_objects, object as one_object, listed}
 use Rattle.sci_diagram.specs.Tree.{Inner, wrong, count_of, list_where, keeps_state, keeps_ipar, inner_there, dep_at, required, optional, whole_object, sim_name, is_super, is_small, if_small, small_list, role_of, read_fields, inside, block_of, read_block, read_sort, object_of, read_object, read_link, link_end, second, walk, list_of, diagram_at, tree}
@@ -42,7 +42,7 @@ small_list_small at code name d xs h =
 ok_same : {A : Type 0} (a b : A) → (let r : Result A Violation = Ok a in r) ≡ Ok b → a ≡ b
 ok_same a b e = cc
 
-fields_small : (role : Role) (at : List ℕ) (m : Data) (f : Fields) → read_fields role at m ≡ Ok f → AreFieldsSmall f
+fields_small : (role : ObjectRole) (at : List ℕ) (m : Data) (f : Fields) → read_fields role at m ≡ Ok f → AreFieldsSmall f
 unfolding read_fields
 fields_small role at m f h =
     let a1 = then_ok (small_list at (pos 6) (codes "in") m) _ f h in

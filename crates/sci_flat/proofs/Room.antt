@@ -2,7 +2,7 @@
 use Rattle.std.proofs.Common.{◌≡◌, ◌+◌, ◌<◌, ◌≤◌, ◌^◌, ℕ, List, length, drop, get_or, map, arith}
 use Rattle.sci_diagram.specs.Objects.{Object, Objects, block, superblock, link, text, deleted, no_objects, object, objects_of, object_view}
 use Rattle.sci_diagram.specs.declared.diagram.Obj.{Obj}
-use Rattle.sci_flat.specs.Seat.{past}
+use Rattle.sci_flat.specs.PortNumbers.{past}
 use Rattle.sci_flat.specs.Numbers.{object_seat, own_past, insides_past, inside_past}
 use Rattle.sci_flat.specs.Ready.{field_ports, ports_in}
 use Rattle.sci_flat.proofs.Walking.{opened}

@@ -6,7 +6,7 @@ use Rattle.std.specs.declared.alloc.Global.{Global}
 use Rattle.std.proofs.lemmas.Bool.Decides.{eqb_tells, nat_tests}
 use Rattle.std.proofs.lemmas.List.{append-nil, length-map}
 use Rattle.std.proofs.lemmas.List.Elements.{Contains-append_left, Contains-push, Contains-push_cases}
-use Rattle.sci_flat.specs.declared.reach.search.Search.{Search}
+use Rattle.sci_flat.specs.declared.reach.search.FeedSearch.{FeedSearch}
 use Rattle.sci_flat.specs.Lists.{Lists, plain, lists_of, list_at}
 use Rattle.sci_flat.specs.Search.{Path, stay, onward, IsStamped, is_stamped, is_wanted, one_if, unstamped, Enters, Visits, Walking, Walks, IsReady}
 
@@ -40,7 +40,7 @@ fresh_none : (b w : Bool) (n : ℕ) → one_if ((b && not b) && w) n ≡ []
 fresh_none true w n = refl
 fresh_none false w n = refl
 
-pub visits_none : (wanted : List Bool) (source : ℕ) (old : Search) → Visits wanted source [] old old
+pub visits_none : (wanted : List Bool) (source : ℕ) (old : FeedSearch) → Visits wanted source [] old old
 visits_none wanted source old = record {
   stamps_long = refl;
   lists_long = refl;
@@ -56,8 +56,8 @@ visits_none wanted source old = record {
 }
 
 -- a port that has the stamp already
-pub visits_again : (wanted : List Bool) (source : ℕ) (ps : List ℕ) (p : ℕ) (old mid new : Search) → IsStamped mid.stamps.items (source + 1) p → new ≡ mid → Visits wanted source ps old mid → Visits wanted source (ps ++ p ∷ []) old new
-visits_again wanted source ps p old mid new has same v = let P : Search → Type 0 = λ s. Visits wanted source (ps ++ p ∷ []) old s in subst P (sym same) here
+pub visits_again : (wanted : List Bool) (source : ℕ) (ps : List ℕ) (p : ℕ) (old mid new : FeedSearch) → IsStamped mid.stamps.items (source + 1) p → new ≡ mid → Visits wanted source ps old mid → Visits wanted source (ps ++ p ∷ []) old new
+visits_again wanted source ps p old mid new has same v = let P : FeedSearch → Type 0 = λ s. Visits wanted source (ps ++ p ∷ []) old s in subst P (sym same) here
   where
     here : Visits wanted source (ps ++ p ∷ []) old mid
     here = record {
@@ -84,7 +84,7 @@ lists_twice false true true w n xs ys zs ab bc e f = f ∙ (append-nil ys ∙ e)
 lists_twice false false c w n xs ys zs ab bc e f = f ∙ ap (λ (l : List ℕ). l ++ one_if ((c && true) && w) n) (e ∙ append-nil xs)
 
 -- a port that gets the stamp
-pub visits_first : (wanted : List Bool) (source : ℕ) (ps : List ℕ) (p : ℕ) (old mid new : Search) → p < length mid.stamps.items → length mid.lists.items ≡ length mid.stamps.items → get_or mid.stamps.items p 0 ≢ source + 1
+pub visits_first : (wanted : List Bool) (source : ℕ) (ps : List ℕ) (p : ℕ) (old mid new : FeedSearch) → p < length mid.stamps.items → length mid.lists.items ≡ length mid.stamps.items → get_or mid.stamps.items p 0 ≢ source + 1
     → Enters wanted source p mid new → Visits wanted source ps old mid → Visits wanted source (ps ++ p ∷ []) old new
 visits_first wanted source ps p old mid new inside even differs e v = record {
   stamps_long = ap length e.stamps ∙ (length-set mid.stamps.items p (source + 1) ∙ v.stamps_long);
@@ -156,7 +156,7 @@ visits_first wanted source ps p old mid new inside even differs e v = record {
 
 -- ---- a walk
 
-pub walking_begins : (ls : ℕ → List ℕ) (wanted : List Bool) (source start : ℕ) (old new : Search) → start < length wanted → IsReady old (length wanted) source → Enters wanted source start old new → Walking ls wanted source start old new
+pub walking_begins : (ls : ℕ → List ℕ) (wanted : List Bool) (source start : ℕ) (old new : FeedSearch) → start < length wanted → IsReady old (length wanted) source → Enters wanted source start old new → Walking ls wanted source start old new
 walking_begins ls wanted source start old new inside ready e =
     let v = visits_first wanted source [] start old old new (omega (arith, ready.stamps_long)) (omega (arith, ready.stamps_long, ready.lists_long)) (λ s. absurd (omega (arith, s, ready.below start))) e (visits_none wanted source old) in
     let begun : IsStamped new.stamps.items (source + 1) start = v.all start (0, omega arith, refl) in
@@ -189,7 +189,7 @@ walking_begins ls wanted source start old new inside ready e =
     none_before false a w e = refl
 
 -- the last port that is pending is visited: all ports to which a step leads from it
-pub walking_more : (ls : ℕ → List ℕ) (wanted : List Bool) (source start port : ℕ) (old now new : Search) (rest : Vec ℕ Global) → now.pending.items ≡ rest.items ++ port ∷ [] → Walking ls wanted source start old now
+pub walking_more : (ls : ℕ → List ℕ) (wanted : List Bool) (source start port : ℕ) (old now new : FeedSearch) (rest : Vec ℕ Global) → now.pending.items ≡ rest.items ++ port ∷ [] → Walking ls wanted source start old now
     → Visits wanted source (ls port) (record { stamps = now.stamps; lists = now.lists; pending = rest }) new → Walking ls wanted source start old new
 walking_more ls wanted source start port old now new rest popped w v = record {
   stamps_long = v.stamps_long ∙ w.stamps_long;
@@ -222,7 +222,7 @@ walking_more ls wanted source start port old now new rest popped w v = record {
     whole false false w xs ys zs bc e f = f ∙ ap (λ (l : List ℕ). l ++ []) (e ∙ append-nil xs)
 
 -- with nothing pending all that the source reaches has its stamp
-pub walking_ends : (ls : ℕ → List ℕ) (wanted : List Bool) (source start : ℕ) (old now new : Search) → now.pending.items ≡ [] → new.pending.items ≡ [] → new.stamps.items ≡ now.stamps.items → new.lists.items ≡ now.lists.items
+pub walking_ends : (ls : ℕ → List ℕ) (wanted : List Bool) (source start : ℕ) (old now new : FeedSearch) → now.pending.items ≡ [] → new.pending.items ≡ [] → new.stamps.items ≡ now.stamps.items → new.lists.items ≡ now.lists.items
     → Walking ls wanted source start old now → Walks ls wanted source start old new
 walking_ends ls wanted source start old now new none none' stamps lists w = record {
   stamps_long = ap length stamps ∙ w.stamps_long;
@@ -241,7 +241,7 @@ walking_ends ls wanted source start old now new none none' stamps lists w = reco
       | inr d ↦ let e = subst (λ (x : List ℕ). Contains x p) none d in absurd (omega (arith, e.1))
     ]
 
-pub popped_inside : (ls : ℕ → List ℕ) (wanted : List Bool) (source start port n : ℕ) (old now : Search) (rest : List ℕ) → now.pending.items ≡ rest ++ port ∷ [] → Walking ls wanted source start old now → IsReady old (length wanted) source → n ≡ length wanted → port < n
+pub popped_inside : (ls : ℕ → List ℕ) (wanted : List Bool) (source start port n : ℕ) (old now : FeedSearch) (rest : List ℕ) → now.pending.items ≡ rest ++ port ∷ [] → Walking ls wanted source start old now → IsReady old (length wanted) source → n ≡ length wanted → port < n
 popped_inside ls wanted source start port n old now rest popped w ready long =
     let inside = stamped_inside now.stamps.items (source + 1) port (omega arith) (w.pending_in port (rw popped (Contains-push rest port))) in
     omega (arith, inside, w.stamps_long, ready.stamps_long)

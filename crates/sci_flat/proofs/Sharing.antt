@@ -9,8 +9,8 @@ use Rattle.std.proofs.lemmas.List.Elements.{Contains-get_or}
 use Rattle.sci_net.specs.declared.Feed.{Feed}
 use Rattle.sci_net.specs.Parts.{rows_of, feed_lists, HaveLists}
 use Rattle.sci_blocks.specs.declared.class.PortClass.TheVariants.{ActivationInput, ActivationOutput}
-use Rattle.sci_flat.specs.declared.steps.seat.Seat.{Seat}
-use Rattle.sci_flat.specs.Seat.{start, count}
+use Rattle.sci_flat.specs.declared.steps.port_numbers.PortNumbers.{PortNumbers}
+use Rattle.sci_flat.specs.PortNumbers.{start, count}
 use Rattle.sci_flat.specs.Chain.{Chain}
 use Rattle.sci_flat.specs.Lists.{list_at}
 use Rattle.sci_flat.specs.Reached.{IsWanted, AreReached}
@@ -32,7 +32,7 @@ shared_rises lists os rising q =
       | inr g ↦ subst P (sym (list_past lists os q g)) (λ i j d h l. absurd (omega (arith, l)))
     ]
 
-pub shared_feeding : (ss : List Seat) (es : List (ℕ × ℕ)) (ports : ℕ) (feeds : List Feed) (lists : List (List ℕ)) (os sources : List ℕ) (wanted : List Bool) (targets ends : List ℕ) → feeds ≡ ends_of ActivationOutput 1 ss → sources ≡ numbers_of ActivationOutput ss
+pub shared_feeding : (ss : List PortNumbers) (es : List (ℕ × ℕ)) (ports : ℕ) (feeds : List Feed) (lists : List (List ℕ)) (os sources : List ℕ) (wanted : List Bool) (targets ends : List ℕ) → feeds ≡ ends_of ActivationOutput 1 ss → sources ≡ numbers_of ActivationOutput ss
     → targets ≡ numbers_of ActivationInput ss → All (λ n. n < ports) (numbers_of ActivationInput ss) → ends ≡ map (λ q. get_or os q 0) targets → ((q : ℕ) → Contains ends q → IsWanted wanted q) → AreOrigins es sources ports os → AreReached es sources wanted lists
     → AreFeeding ss es ports ActivationOutput ActivationInput feeds (shared lists os)
 shared_feeding ss es ports feeds lists os sources wanted targets ends f s t low e marks o r = record {
@@ -64,7 +64,7 @@ ends_within ports os targets ends low within e =
     let h : k < length targets = omega (arith, l, length-map targets (λ (q : ℕ). get_or os q 0)) in
     subst (λ (x : ℕ). x < ports) (sym (get_or-map (λ (q : ℕ). get_or os q 0) targets k 0 d h)) (within (get_or targets k 0) (low k 0 h)))
 
-pub under_all : (ss : List Seat) (es : List (ℕ × ℕ)) (feeds : List Feed) (lists : List (List ℕ)) (sources : List ℕ) (wanted : List Bool) → feeds ≡ ends_of ActivationOutput 1 ss → sources ≡ numbers_of ActivationOutput ss → AreReached es sources wanted lists
+pub under_all : (ss : List PortNumbers) (es : List (ℕ × ℕ)) (feeds : List Feed) (lists : List (List ℕ)) (sources : List ℕ) (wanted : List Bool) → feeds ≡ ends_of ActivationOutput 1 ss → sources ≡ numbers_of ActivationOutput ss → AreReached es sources wanted lists
     → (q : ℕ) → All (λ i. i < length feeds) (list_at lists q)
 under_all ss es feeds lists sources wanted f s r q k d l =
     let same : length sources ≡ length feeds = ap length s ∙ (length_ends ActivationOutput 1 ss ∙ sym (ap length f)) in
@@ -72,7 +72,7 @@ under_all ss es feeds lists sources wanted f s r q k d l =
 
 -- ---- the numbers of the lists
 
-pub numbers_more : (os : List ℕ) (s : Seat) (p x : ℕ) (row new : List ℕ) → x ≡ get_or os (start s ActivationInput + p) 0 → new ≡ row ++ x ∷ [] → AreNumbers os s p row → AreNumbers os s (p + 1) new
+pub numbers_more : (os : List ℕ) (s : PortNumbers) (p x : ℕ) (row new : List ℕ) → x ≡ get_or os (start s ActivationInput + p) 0 → new ≡ row ++ x ∷ [] → AreNumbers os s p row → AreNumbers os s (p + 1) new
 numbers_more os s p x row new is e t = rw e (record {
   long = length_push row x ∙ omega (arith, t.long);
   each = λ k l. elim (eqb_tells k p) [
@@ -81,7 +81,7 @@ numbers_more os s p x row new is e t = rw e (record {
   ];
 })
 
-pub all_numbers_more : (os : List ℕ) (ss : List Seat) (b : ℕ) (row : List ℕ) (rows new : List (List ℕ)) → AreNumbers os (seat_of ss b) (count (seat_of ss b) ActivationInput) row → new ≡ rows ++ row ∷ [] → AllNumbers os ss b rows → AllNumbers os ss (b + 1) new
+pub all_numbers_more : (os : List ℕ) (ss : List PortNumbers) (b : ℕ) (row : List ℕ) (rows new : List (List ℕ)) → AreNumbers os (seat_of ss b) (count (seat_of ss b) ActivationInput) row → new ≡ rows ++ row ∷ [] → AllNumbers os ss b rows → AllNumbers os ss (b + 1) new
 all_numbers_more os ss b row rows new one e t = rw e (record {
   long = length_push rows row ∙ omega (arith, t.long);
   each = λ k l. elim (eqb_tells k b) [
@@ -100,7 +100,7 @@ number_rows_push rows new row e = ap (rows_of {A = ℕ}) e ∙ map_push (λ (v :
 
 -- ---- the feeds as a whole
 
-module _ (feeds : List Feed) (lists : List (List ℕ)) (os : List ℕ) (ss : List Seat) (rows : List (List ℕ)) (all : AllNumbers os ss (length ss) rows)
+module _ (feeds : List Feed) (lists : List (List ℕ)) (os : List ℕ) (ss : List PortNumbers) (rows : List (List ℕ)) (all : AllNumbers os ss (length ss) rows)
     (inside : (b p : ℕ) → b < length ss → p < count (seat_of ss b) ActivationInput → start (seat_of ss b) ActivationInput + p < length os) (within : All (λ o. o < length lists) os) where
   low : (b p : ℕ) → b < length ss → p < count (seat_of ss b) ActivationInput → get_or os (start (seat_of ss b) ActivationInput + p) 0 < length lists
   low b p h l = within (start (seat_of ss b) ActivationInput + p) 0 (inside b p h l)

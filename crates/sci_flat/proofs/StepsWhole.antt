@@ -5,9 +5,9 @@ use Rattle.sci_diagram.specs.Objects.{Objects}
 use Rattle.sci_blocks.specs.Blocks.{Placed, parts_of}
 use Rattle.sci_blocks.specs.Wiring.{links_of}
 use Rattle.sci_goto.specs.Phase.{standing}
-use Rattle.sci_flat.specs.declared.steps.seat.Seat.{Seat}
+use Rattle.sci_flat.specs.declared.steps.port_numbers.PortNumbers.{PortNumbers}
 use Rattle.sci_flat.specs.declared.steps.numbered.Numbered.{Numbered}
-use Rattle.sci_flat.specs.Seat.{no_seat}
+use Rattle.sci_flat.specs.PortNumbers.{no_seat}
 use Rattle.sci_flat.specs.Chain.{AllWithin}
 use Rattle.sci_flat.specs.Ports.{tree_steps}
 use Rattle.sci_flat.specs.Numbers.{Steps, seats, own_past, insides_past, steps_by, blocks_by, tags_by}
@@ -57,11 +57,11 @@ whole_numbered t ps n h l ports steps blocks tags =
       steps = ap (map (named_step (tree_names t))) steps ∙ named.same;
       one_seat_each = ap length blocks ∙ sym (zip_length (IsSeat (tree_names t)) ps (blocks_by (seats 0 t) (own_past 0 t) t) zip);
       seats = λ b p s low is_p is_s.
-          let P : List Seat → Type 0 = λ xs. s ≡ get_or xs b s in
+          let P : List PortNumbers → Type 0 = λ xs. s ≡ get_or xs b s in
           let is : s ≡ get_or (blocks_by (seats 0 t) (own_past 0 t) t) b s = subst P blocks is_s in
           let r = zip_get (IsSeat (tree_names t)) ps (blocks_by (seats 0 t) (own_past 0 t) t) b p s zip low in
           let Q : Placed → Type 0 = λ x. IsSeat (tree_names t) x (get_or (blocks_by (seats 0 t) (own_past 0 t) t) b s) in
-          let R : Seat → Type 0 = λ x. IsSeat (tree_names t) p x in
+          let R : PortNumbers → Type 0 = λ x. IsSeat (tree_names t) p x in
           subst R (sym is) (subst Q (sym is_p) r);
       tags = subst Tags (sym tags) (tree_tags t);
     }

@@ -22,8 +22,8 @@ use Rattle.sci_goto.specs.declared.tag.TagForm.{TagForm}
 use Rattle.sci_goto.specs.declared.tag.TagForm.TheVariants.{WrongPorts}
 use Rattle.sci_goto.specs.Forms.{tag_number, scope_of, gives_as, takes_as, giver_form, taker_form, by_ports, form_of}
 use Rattle.sci_goto.specs.Phase.{standing_as, standing_in, object_standing, standing}
-use Rattle.sci_flat.specs.declared.steps.seat.Seat.{Seat}
-use Rattle.sci_flat.specs.Seat.{seat_at, past, start, count}
+use Rattle.sci_flat.specs.declared.steps.port_numbers.PortNumbers.{PortNumbers}
+use Rattle.sci_flat.specs.PortNumbers.{seat_at, past, start, count}
 use Rattle.sci_flat.specs.Ports.{Port, port}
 use Rattle.sci_flat.specs.Numbers.{object_seat, seats, own_past, inside_past, tag_numbers, tags_by, object_tags_by}
 use Rattle.sci_flat.specs.Numbered.{no_port, IsNumberOf, IsTagNumber, IsStandingNumber}
@@ -60,7 +60,7 @@ counted p f h =
 exactly : (a n : ℕ) → within a a n ≡ true → n ≡ a
 exactly a n h = grind (arith, nat_tests)
 
-first_is : (names : List Port) (here : List ℕ) (s : Seat) (c : PortClass) → Seated names here s → start s c ≡ s.first → 1 ≤ count s c → IsNumberOf names s.first (port here c (pos 1))
+first_is : (names : List Port) (here : List ℕ) (s : PortNumbers) (c : PortClass) → Seated names here s → start s c ≡ s.first → 1 ≤ count s c → IsNumberOf names s.first (port here c (pos 1))
 first_is names here s c a first one =
     let here_is : start s c + 0 ≡ s.first = omega (arith, first) in
     record { inside = subst (λ (i : ℕ). i < length names) here_is (a.inside c 0 one); named = subst (λ (i : ℕ). get_or names i no_port ≡ port here c (pos 1)) here_is (a.named c 0 one) }

@@ -6,7 +6,7 @@ use Rattle.sci_diagram.specs.Objects.{objects_of, object_view, diagram_view, lis
 use Rattle.sci_diagram.specs.declared.diagram.Obj.{Obj}
 use Rattle.sci_diagram.specs.declared.diagram.Diagram.{Diagram, out-Diagram, the_lemmas}
 use Rattle.sci_diagram.specs.Count.{objects_in, objects_within}
-use Rattle.sci_flat.specs.declared.steps.seat.Seat.{Seat}
+use Rattle.sci_flat.specs.declared.steps.port_numbers.PortNumbers.{PortNumbers}
 use Rattle.sci_flat.specs.Numbers.{Steps, insides_past, inside_past, steps_by, object_steps_by, blocks_by, object_blocks_by, tags_by, object_tags_by}
 
 range_more : (a n : ℕ) → range_with_len a (suc n) ≡ range_with_len a n ++ (a + n) ∷ []
@@ -45,35 +45,35 @@ pub next_end : (os : List Obj) (i n w : ℕ) → length os ≤ i → insides_pas
 unfolding insides_past
 next_end os i n w h whole = rw (drop_all i os h) at whole
 
-pub steps_more : (all : List Seat) (outer : Seat) (ss : List Seat) (d : Seat) (os : List Obj) (i : ℕ) (r : Obj) → i < length ss → i < length os → r ≡ get_or os i r → (n m : ℕ) (xs ys w : Steps) → m ≡ inside_past n (object_view r)
+pub steps_more : (all : List PortNumbers) (outer : PortNumbers) (ss : List PortNumbers) (d : PortNumbers) (os : List Obj) (i : ℕ) (r : Obj) → i < length ss → i < length os → r ≡ get_or os i r → (n m : ℕ) (xs ys w : Steps) → m ≡ inside_past n (object_view r)
     → ys ≡ xs ++ object_steps_by all outer (get_or ss i d) n (object_view r) → xs ++ steps_by all outer (drop i ss) n (objects_of (map object_view (drop i os))) ≡ w → ys ++ steps_by all outer (drop (i + 1) ss) m (objects_of (map object_view (drop (i + 1) os))) ≡ w
 unfolding steps_by
 steps_more all outer ss d os i r g h is n m xs ys w e grown whole =
     let now = rw (opened os i r h is, drop_more ss i d g) at whole in
     rw (grown, e) (append_assoc xs _ _ ∙ now)
 
-pub steps_end : (all : List Seat) (outer : Seat) (ss : List Seat) (os : List Obj) (i n : ℕ) (xs w : Steps) → length os ≤ i → xs ++ steps_by all outer ss n (objects_of (map object_view (drop i os))) ≡ w → xs ≡ w
+pub steps_end : (all : List PortNumbers) (outer : PortNumbers) (ss : List PortNumbers) (os : List Obj) (i n : ℕ) (xs w : Steps) → length os ≤ i → xs ++ steps_by all outer ss n (objects_of (map object_view (drop i os))) ≡ w → xs ≡ w
 unfolding steps_by
 steps_end all outer ss os i n xs w h whole = sym (append-nil xs) ∙ (rw (drop_all i os h) at whole)
 
-pub blocks_more : (ss : List Seat) (d : Seat) (os : List Obj) (i : ℕ) (r : Obj) → i < length ss → i < length os → r ≡ get_or os i r → (n m : ℕ) (xs ys w : List Seat) → m ≡ inside_past n (object_view r)
+pub blocks_more : (ss : List PortNumbers) (d : PortNumbers) (os : List Obj) (i : ℕ) (r : Obj) → i < length ss → i < length os → r ≡ get_or os i r → (n m : ℕ) (xs ys w : List PortNumbers) → m ≡ inside_past n (object_view r)
     → ys ≡ xs ++ object_blocks_by (get_or ss i d) n (object_view r) → xs ++ blocks_by (drop i ss) n (objects_of (map object_view (drop i os))) ≡ w → ys ++ blocks_by (drop (i + 1) ss) m (objects_of (map object_view (drop (i + 1) os))) ≡ w
 unfolding blocks_by
 blocks_more ss d os i r g h is n m xs ys w e grown whole =
     let now = rw (opened os i r h is, drop_more ss i d g) at whole in
     rw (grown, e) (append_assoc xs _ _ ∙ now)
 
-pub blocks_end : (ss : List Seat) (os : List Obj) (i n : ℕ) (xs w : List Seat) → length os ≤ i → xs ++ blocks_by ss n (objects_of (map object_view (drop i os))) ≡ w → xs ≡ w
+pub blocks_end : (ss : List PortNumbers) (os : List Obj) (i n : ℕ) (xs w : List PortNumbers) → length os ≤ i → xs ++ blocks_by ss n (objects_of (map object_view (drop i os))) ≡ w → xs ≡ w
 unfolding blocks_by
 blocks_end ss os i n xs w h whole = sym (append-nil xs) ∙ (rw (drop_all i os h) at whole)
 
-pub tags_more : (ss : List Seat) (d : Seat) (os : List Obj) (i : ℕ) (r : Obj) → i < length ss → i < length os → r ≡ get_or os i r → (n m : ℕ) (xs ys w : List ℕ) → m ≡ inside_past n (object_view r)
+pub tags_more : (ss : List PortNumbers) (d : PortNumbers) (os : List Obj) (i : ℕ) (r : Obj) → i < length ss → i < length os → r ≡ get_or os i r → (n m : ℕ) (xs ys w : List ℕ) → m ≡ inside_past n (object_view r)
     → ys ≡ xs ++ object_tags_by (get_or ss i d) n (object_view r) → xs ++ tags_by (drop i ss) n (objects_of (map object_view (drop i os))) ≡ w → ys ++ tags_by (drop (i + 1) ss) m (objects_of (map object_view (drop (i + 1) os))) ≡ w
 unfolding tags_by
 tags_more ss d os i r g h is n m xs ys w e grown whole =
     let now = rw (opened os i r h is, drop_more ss i d g) at whole in
     rw (grown, e) (append_assoc xs _ _ ∙ now)
 
-pub tags_end : (ss : List Seat) (os : List Obj) (i n : ℕ) (xs w : List ℕ) → length os ≤ i → xs ++ tags_by ss n (objects_of (map object_view (drop i os))) ≡ w → xs ≡ w
+pub tags_end : (ss : List PortNumbers) (os : List Obj) (i n : ℕ) (xs w : List ℕ) → length os ≤ i → xs ++ tags_by ss n (objects_of (map object_view (drop i os))) ≡ w → xs ≡ w
 unfolding tags_by
 tags_end ss os i n xs w h whole = sym (append-nil xs) ∙ (rw (drop_all i os h) at whole)

@@ -10,7 +10,7 @@ use Rattle.sci_net.specs.Flat.{IsFlat}
 use Rattle.sci_blocks.specs.declared.class.PortClass.TheVariants.{Input, Output, ActivationInput, ActivationOutput}
 use Rattle.sci_blocks.specs.Blocks.{Placed, placed}
 use Rattle.sci_flat.specs.declared.steps.numbered.Numbered.{Numbered}
-use Rattle.sci_flat.specs.Seat.{count}
+use Rattle.sci_flat.specs.PortNumbers.{count}
 use Rattle.sci_flat.specs.Numbered.{IsNumbered}
 use Rattle.sci_flat.specs.Tagged.{all_steps}
 use Rattle.sci_flat.specs.Ends.{AreFeeding}

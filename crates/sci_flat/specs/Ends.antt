@@ -5,34 +5,34 @@ use Rattle.sci_net.specs.declared.Feed.{Feed}
 use Rattle.sci_blocks.specs.declared.class.PortClass.{PortClass}
 use Rattle.sci_flat.specs.Chain.{Chain}
 use Rattle.sci_flat.specs.Lists.{list_at}
-use Rattle.sci_flat.specs.declared.steps.seat.Seat.{Seat}
-use Rattle.sci_flat.specs.Seat.{start, count}
+use Rattle.sci_flat.specs.declared.steps.port_numbers.PortNumbers.{PortNumbers}
+use Rattle.sci_flat.specs.PortNumbers.{start, count}
 
 abbrev pub end_of : ℕ → ℕ → Feed
 end_of block port = record { block = block; port = port }
 
 -- of one block
-abbrev pub seat_numbers : PortClass → Seat → List ℕ
+abbrev pub seat_numbers : PortClass → PortNumbers → List ℕ
 seat_numbers c s = range_with_len (start s c) (count s c)
 
-abbrev pub seat_ends : PortClass → ℕ → Seat → List Feed
+abbrev pub seat_ends : PortClass → ℕ → PortNumbers → List Feed
 seat_ends c block s = map (end_of block) (range_with_len 1 (count s c))
 
 -- of all, the first of which has this number
-abbrev pub numbers_of : PortClass → List Seat → List ℕ
+abbrev pub numbers_of : PortClass → List PortNumbers → List ℕ
 numbers_of c [] = []
 numbers_of c (s ∷ ss) = seat_numbers c s ++ numbers_of c ss
 
-abbrev pub ends_of : PortClass → ℕ → List Seat → List Feed
+abbrev pub ends_of : PortClass → ℕ → List PortNumbers → List Feed
 ends_of c block [] = []
 ends_of c block (s ∷ ss) = seat_ends c block s ++ ends_of c (block + 1) ss
 
 -- the ports of a seat have numbers below this
-abbrev pub IsInside : ℕ → Seat → Type 0
+abbrev pub IsInside : ℕ → PortNumbers → Type 0
 IsInside ports s = (c : PortClass) (k : ℕ) → k < count s c → start s c + k < ports
 
 -- the lists, by the number of a port of the class `to`, of the ports of the class `from` that reach it, by their index
-pub record AreFeeding (seats : List Seat) (es : List (ℕ × ℕ)) (ports : ℕ) (from to : PortClass) (feeds : List Feed) (lists : List (List ℕ)) : Type 0 where
+pub record AreFeeding (seats : List PortNumbers) (es : List (ℕ × ℕ)) (ports : ℕ) (from to : PortClass) (feeds : List Feed) (lists : List (List ℕ)) : Type 0 where
   pub ends : feeds ≡ ends_of from 1 seats
   pub long : length lists ≡ ports
   pub rising : (q : ℕ) → AllPairs (λ i j. i < j) (list_at lists q)

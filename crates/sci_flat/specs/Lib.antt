@@ -16,7 +16,7 @@ pub mod Lists
 pub mod Search
 pub mod Reached
 pub mod Successors
-pub mod Seat
+pub mod PortNumbers
 pub mod Ports
 pub mod Numbers
 pub mod Numbered

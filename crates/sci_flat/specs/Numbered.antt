@@ -12,9 +12,9 @@ use Rattle.sci_goto.specs.declared.tag.TagForm.{TagForm}
 use Rattle.sci_goto.specs.declared.tag.TagForm.TheVariants.{WrongPorts, WrongParameters, Gives, Takes}
 use Rattle.sci_goto.specs.Phase.{Standing, standing}
 use Rattle.sci_flat.specs.Chain.{AllWithin}
-use Rattle.sci_flat.specs.declared.steps.seat.Seat.{Seat}
+use Rattle.sci_flat.specs.declared.steps.port_numbers.PortNumbers.{PortNumbers}
 use Rattle.sci_flat.specs.declared.steps.numbered.Numbered.{Numbered}
-use Rattle.sci_flat.specs.Seat.{start, count}
+use Rattle.sci_flat.specs.PortNumbers.{start, count}
 use Rattle.sci_flat.specs.Ports.{Port, port, PortStep}
 
 -- the port of a number, where the ports are listed by their numbers
@@ -35,7 +35,7 @@ spec_ports s ActivationInput = s.evtin
 spec_ports s ActivationOutput = s.evtout
 
 -- the seat of this block: its ports, and no others of its place, have these numbers
-pub record IsSeat (names : List Port) (p : Placed) (s : Seat) : Type 0 where
+pub record IsSeat (names : List Port) (p : Placed) (s : PortNumbers) : Type 0 where
   pub counts : (c : PortClass) → count s c ≡ spec_ports p.spec c
   pub inside : (c : PortClass) (k : ℕ) → k < count s c → start s c + k < length names
   pub named : (c : PortClass) (k : ℕ) → k < count s c → slice_index_or names (start s c + k) no_port ≡ port p.place c (pos (k + 1))
@@ -70,5 +70,5 @@ pub record IsNumbered (t : Objects) (ps : List Placed) (es : List PortStep) (n :
   pub within : AllWithin n.ports n.steps.items
   pub steps : map (named_step names) n.steps.items ≡ es
   pub one_seat_each : length n.blocks.items ≡ length ps
-  pub seats : (b : ℕ) (p : Placed) (s : Seat) → b < length ps → p ≡ slice_index_or ps b p → s ≡ slice_index_or n.blocks.items b s → IsSeat names p s
+  pub seats : (b : ℕ) (p : Placed) (s : PortNumbers) → b < length ps → p ≡ slice_index_or ps b p → s ≡ slice_index_or n.blocks.items b s → IsSeat names p s
   pub tags : AllZip (IsStandingNumber names) (standing t) n.tags.items

@@ -1,6 +1,6 @@
 -- What a search from one source after another has come to.
 use Rattle.std.specs.Prelude.{◌≡◌, ℕ, ◌+◌, ◌≤◌, ◌⊎◌, ◌==◌, ◌&&◌, not, Bool, false, List, [], ◌∷◌, ◌++◌, length, Contains, slice_index, slice_index_or, slice_set, if◌then◌else◌}
-use Rattle.sci_flat.specs.declared.reach.search.Search.{Search}
+use Rattle.sci_flat.specs.declared.reach.search.FeedSearch.{FeedSearch}
 use Rattle.sci_flat.specs.Lists.{lists_of, list_at}
 
 -- along the lists of where steps lead from each port
@@ -30,13 +30,13 @@ unstamped s [] = 0
 unstamped s (t ∷ ts) = one_not (t == s) + unstamped s ts
 
 -- a port that had not the stamp gets it, is pending, and where it is wanted has the source at the end of its list
-pub record Enters (wanted : List Bool) (source port : ℕ) (old new : Search) : Type 0 where
+pub record Enters (wanted : List Bool) (source port : ℕ) (old new : FeedSearch) : Type 0 where
   pub stamps : new.stamps.items ≡ slice_set old.stamps.items port (source + 1)
   pub lists : lists_of new.lists ≡ slice_set (lists_of old.lists) port (list_at (lists_of old.lists) port ++ one_if (is_wanted wanted port) source)
   pub pending : new.pending.items ≡ old.pending.items ++ port ∷ []
 
 -- what visiting these ports does
-pub record Visits (wanted : List Bool) (source : ℕ) (ports : List ℕ) (old new : Search) : Type 0 where
+pub record Visits (wanted : List Bool) (source : ℕ) (ports : List ℕ) (old new : FeedSearch) : Type 0 where
   pub stamps_long : length new.stamps.items ≡ length old.stamps.items
   pub lists_long : length new.lists.items ≡ length old.lists.items
   pub from : (q : ℕ) → IsStamped new.stamps.items (source + 1) q → IsStamped old.stamps.items (source + 1) q ⊎ Contains ports q
@@ -51,7 +51,7 @@ pub record Visits (wanted : List Bool) (source : ℕ) (ports : List ℕ) (old ne
   pub count : unstamped (source + 1) new.stamps.items + length new.pending.items ≡ unstamped (source + 1) old.stamps.items + length old.pending.items
 
 -- what a walk from `start` has come to, the source's lists having been as in `old`
-pub record Walking (ls : ℕ → List ℕ) (wanted : List Bool) (source start : ℕ) (old new : Search) : Type 0 where
+pub record Walking (ls : ℕ → List ℕ) (wanted : List Bool) (source start : ℕ) (old new : FeedSearch) : Type 0 where
   pub stamps_long : length new.stamps.items ≡ length old.stamps.items
   pub lists_long : length new.lists.items ≡ length old.lists.items
   pub reach : (q : ℕ) → IsStamped new.stamps.items (source + 1) q → Path ls start q
@@ -62,7 +62,7 @@ pub record Walking (ls : ℕ → List ℕ) (wanted : List Bool) (source start : 
   pub below : (q : ℕ) → slice_index new.stamps.items q ≤ source + 1
 
 -- what it has come to at its end
-pub record Walks (ls : ℕ → List ℕ) (wanted : List Bool) (source start : ℕ) (old new : Search) : Type 0 where
+pub record Walks (ls : ℕ → List ℕ) (wanted : List Bool) (source start : ℕ) (old new : FeedSearch) : Type 0 where
   pub stamps_long : length new.stamps.items ≡ length old.stamps.items
   pub lists_long : length new.lists.items ≡ length old.lists.items
   pub pending : new.pending.items ≡ []
@@ -72,7 +72,7 @@ pub record Walks (ls : ℕ → List ℕ) (wanted : List Bool) (source start : �
   pub below : (q : ℕ) → slice_index new.stamps.items q ≤ source + 1
 
 -- so many ports, one list for each, and no port has a stamp past this
-pub record IsReady (s : Search) (ports last : ℕ) : Type 0 where
+pub record IsReady (s : FeedSearch) (ports last : ℕ) : Type 0 where
   pub stamps_long : length s.stamps.items ≡ ports
   pub lists_long : length s.lists.items ≡ ports
   pub pending : s.pending.items ≡ []

@@ -10,7 +10,7 @@ ghost use Rattle.sci_flat.specs.Ends.{end_of, seat_numbers, seat_ends, numbers_o
 ghost use Rattle.sci_flat.specs.Sharing.{AreSharing};
 
 use crate::reach::{Successors, find_origins, reached};
-use crate::steps::Seat;
+use crate::steps::PortNumbers;
 use sci_base::NoMemory;
 use sci_blocks::PortClass;
 use sci_net::Feed;
@@ -47,7 +47,13 @@ pub struct Sharing {
 
 impl Ends {
     // Adds the ports of one block.
-    fn add(&mut self, ports: u32, block: u32, seat: Seat, class: PortClass) -> Result<(), NoMemory>
+    fn add(
+        &mut self,
+        ports: u32,
+        block: u32,
+        seat: PortNumbers,
+        class: PortClass,
+    ) -> Result<(), NoMemory>
         requires { IsInside ports seat }
         ensures numbers { OnOk result (self.new.numbers.items ≡ self.old.numbers.items ++ seat_numbers class seat) }
         ensures feeds { OnOk result (self.new.feeds.items ≡ self.old.feeds.items ++ seat_ends class block seat) }
@@ -64,7 +70,7 @@ impl Ends {
     pub(crate) fn of(
         alloc: Global,
         ports: u32,
-        seats: &[Seat],
+        seats: &[PortNumbers],
         class: PortClass,
     ) -> Result<Ends, NoMemory>
         requires inside { All (IsInside ports) seats.now }
@@ -104,7 +110,7 @@ pub(crate) fn feeding_of(
     ports: u32,
     steps: &[(u32, u32)],
     successors: &Successors,
-    seats: &[Seat],
+    seats: &[PortNumbers],
     from: PortClass,
     to: PortClass,
 ) -> Result<Feeding, NoMemory>
@@ -140,7 +146,7 @@ pub(crate) fn sharing_of(
     ports: u32,
     steps: &[(u32, u32)],
     successors: &Successors,
-    seats: &[Seat],
+    seats: &[PortNumbers],
 ) -> Result<Sharing, NoMemory>
     requires within { AllWithin ports steps.now }
     requires successors { AreSuccessors steps.now ports successors.now }

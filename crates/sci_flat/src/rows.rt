@@ -3,12 +3,12 @@ ghost use Rattle.std.specs.Prelude.{◌≡◌, ◌+◌, ◌<◌, ◌≤◌, ◌+
 ghost use Rattle.sci_net.specs.Parts.{rows_of};
 ghost use Rattle.sci_blocks.specs.declared.class.PortClass.TheVariants.{Input, ActivationInput};
 ghost use Rattle.sci_flat.specs.Lists.{list_at, plain};
-ghost use Rattle.sci_flat.specs.Seat.{start, count};
+ghost use Rattle.sci_flat.specs.PortNumbers.{start, count};
 ghost use Rattle.sci_flat.specs.Wired.{feed_at, wire_at, input_list, AreWires, IsFirstUnfed};
 ghost use Rattle.sci_flat.specs.Sharing.{AreNumbers};
 ghost use Rattle.sci_flat.specs.Stops.{IsUnfedStop};
 
-use crate::steps::Seat;
+use crate::steps::PortNumbers;
 use sci_base::NoMemory;
 use sci_blocks::PortClass;
 use sci_net::{Feed, Wire};
@@ -59,7 +59,7 @@ pub(crate) fn wire_row(
     alloc: Global,
     feeds: &[Feed],
     lists: &[Vec<usize>],
-    seat: Seat,
+    seat: PortNumbers,
 ) -> Result<Vec<Wire>, RowStop>
     requires inside { (k : ℕ) → k < count seat Input → start seat Input + k < length lists.now }
     requires there { (k : ℕ) → k < count seat Input → All (λ i. i < length feeds.now) (input_list (plain lists.now) seat k) }
@@ -110,7 +110,11 @@ pub(crate) fn feed_rows(
 }
 
 /// The number of the list of each activation input of a block.
-pub(crate) fn number_row(alloc: Global, origins: &[u32], seat: Seat) -> Result<Vec<u32>, NoMemory>
+pub(crate) fn number_row(
+    alloc: Global,
+    origins: &[u32],
+    seat: PortNumbers,
+) -> Result<Vec<u32>, NoMemory>
     requires { (p : ℕ) → p < count seat ActivationInput → start seat ActivationInput + p < length origins.now }
     ensures { IfOk result (λ r. AreNumbers origins.now seat (count seat ActivationInput) r.items) }
 {

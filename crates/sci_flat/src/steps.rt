@@ -2,11 +2,11 @@
 // and the port blocks inside, and from what gives a tag to what takes it.
 mod link;
 mod numbered;
-mod seat;
+mod numberer;
+mod port_numbers;
 mod tags;
 mod through;
-mod walk;
 
 pub use numbered::{Numbered, number};
-pub use seat::Seat;
+pub use port_numbers::PortNumbers;
 pub(crate) use tags::join_tags;

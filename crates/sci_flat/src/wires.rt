@@ -5,7 +5,7 @@ ghost use Rattle.sci_blocks.specs.declared.class.PortClass.TheVariants.{Input, A
 ghost use Rattle.sci_flat.specs.Lists.{lists_of, list_at};
 ghost use Rattle.sci_flat.specs.Origins.{shared};
 ghost use Rattle.sci_flat.specs.Sharing.{AllNumbers};
-ghost use Rattle.sci_flat.specs.Seat.{start, count};
+ghost use Rattle.sci_flat.specs.PortNumbers.{start, count};
 ghost use Rattle.sci_flat.specs.Wired.{input_list, seat_of, AllWired, AllFed, BreaksAt};
 ghost use Rattle.sci_base.specs.Stops.{StopsBy};
 
@@ -13,7 +13,7 @@ use crate::columns::is_taken;
 use crate::ends::{Feeding, Sharing};
 use crate::refusals::{column_twice, no_source};
 use crate::rows::{RowStop, feed_rows, number_row, wire_row};
-use crate::steps::Seat;
+use crate::steps::PortNumbers;
 use sci_base::{NoMemory, Place, Stop};
 use sci_forms::Spec;
 use sci_net::{Feeds, Wire};
@@ -24,7 +24,7 @@ use std::alloc::Global;
 pub(crate) fn wires(
     alloc: Global,
     feeding: &Feeding,
-    seats: &[Seat],
+    seats: &[PortNumbers],
     specs: &[Spec],
     paths: &[Place],
 ) -> Result<Vec<Vec<Wire>>, Stop>
@@ -54,7 +54,11 @@ pub(crate) fn wires(
 }
 
 /// The numbers of the lists of all activation inputs.
-fn number_rows(alloc: Global, origins: &[u32], seats: &[Seat]) -> Result<Vec<Vec<u32>>, NoMemory>
+fn number_rows(
+    alloc: Global,
+    origins: &[u32],
+    seats: &[PortNumbers],
+) -> Result<Vec<Vec<u32>>, NoMemory>
     requires { (b p : ℕ) → b < length seats.now → p < count (seat_of seats.now b) ActivationInput
         → start (seat_of seats.now b) ActivationInput + p < length origins.now }
     ensures { IfOk result (λ r. AllNumbers origins.now seats.now (length seats.now) (rows_of r.items)) }
@@ -67,7 +71,11 @@ fn number_rows(alloc: Global, origins: &[u32], seats: &[Seat]) -> Result<Vec<Vec
 }
 
 /// The activation outputs that feed each activation input.
-pub(crate) fn feeds(alloc: Global, sharing: &Sharing, seats: &[Seat]) -> Result<Feeds, NoMemory>
+pub(crate) fn feeds(
+    alloc: Global,
+    sharing: &Sharing,
+    seats: &[PortNumbers],
+) -> Result<Feeds, NoMemory>
     requires inside { (b p : ℕ) → b < length seats.now → p < count (seat_of seats.now b) ActivationInput
         → start (seat_of seats.now b) ActivationInput + p < length sharing.now.origins.items }
     requires within { All (λ o. o < length sharing.now.lists.items) sharing.now.origins.items }

@@ -1,6 +1,6 @@
 pub mod Broken
 pub mod Ports
-pub mod Names
+pub mod Numbers
 pub mod Form
 pub mod Words
 pub mod Forms

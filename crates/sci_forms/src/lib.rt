@@ -1,6 +1,9 @@
-//! The kinds of block and their forms: names and numbers, the table of what each kind asks of its ports, parameters and state,
-//! the spec of a block, and the rules on types and sizes.
+//! The kinds of block and their forms: numbers, the table of what each kind asks of its ports, parameters and state, the spec of a
+//! block, and the rules on types and sizes.
 #![tactic(auto)]
+
+ghost use Rattle.std.specs.Prelude.{◌≡◌};
+ghost use Rattle.sci_forms.specs.Numbers.{number_of};
 
 mod broken;
 pub mod form;
@@ -13,7 +16,7 @@ pub mod values;
 
 pub use broken::{Broken, Detail};
 pub use form::{Form, Memory, Role};
-pub use forms::{Counts, KINDS};
+pub use forms::Counts;
 pub use ports::{Port, Ports};
 pub use search::first_failing;
 pub use spec::Spec;
@@ -90,4 +93,16 @@ pub enum Kind {
     ESelect,
     /// `HALT_f`: ends the run after its reaction.
     Halt,
+}
+
+/// How many kinds there are.
+pub const KINDS: u8 = 34;
+
+impl Kind {
+    /// The number of the kind, from 1.
+    pub fn number(self) -> u8
+        ensures { result ≡ number_of self }
+    {
+        self as u8
+    }
 }

@@ -6,7 +6,7 @@ ghost use Rattle.sci_flat.specs.Chain.{AllWithin};
 use anyhow::bail;
 use sci_flat::reach::{reached, successors_of};
 use sci_infer::classes::{Tie, classes};
-use sci_infer::values::{Verdict, judge};
+use sci_infer::values::{Resolution, judge};
 use sci_table::list;
 use std::alloc::Global;
 
@@ -61,9 +61,9 @@ pub fn show_values(rt: &impl Print, alloc: Global, words: &[&str]) -> anyhow::Re
     let declared: Vec<i64> = list(alloc, words[0])?;
     let ties = ties(alloc, words[1], declared.len())?;
     match judge(alloc, &declared, &ties) {
-        Ok(Verdict::Values(values)) => print!(rt; " {values:?}")?,
-        Ok(Verdict::Open(at)) => print!(rt; " open {at}")?,
-        Ok(Verdict::Conflict(at, span)) => print!(rt; " conflict {at} {span:?}")?,
+        Ok(Resolution::Values(values)) => print!(rt; " {values:?}")?,
+        Ok(Resolution::Open(at)) => print!(rt; " open {at}")?,
+        Ok(Resolution::Conflict(at, span)) => print!(rt; " conflict {at} {span:?}")?,
         Err(_) => bail!("out of memory"),
     }
     Ok(())

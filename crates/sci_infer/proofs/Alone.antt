@@ -3,11 +3,11 @@ use Rattle.std.proofs.Common.{ℕ, ℤ, pos, ◌≡◌, ◌≤ℤ◌, ⊎_elim, 
 use Rattle.std.proofs.lemmas.Int.{ints}
 use Rattle.std.proofs.lemmas.Bool.{cases_order}
 use Rattle.std.proofs.lemmas.List.{same_lists, get_or_default}
-use Rattle.sci_infer.specs.declared.values.Verdict.{Verdict}
-use Rattle.sci_infer.specs.declared.values.Verdict.TheVariants.{Conflict, Open, Values}
+use Rattle.sci_infer.specs.declared.values.Resolution.{Resolution}
+use Rattle.sci_infer.specs.declared.values.Resolution.TheVariants.{Conflict, Open, Values}
 use Rattle.sci_infer.specs.Values.{declared_at, IsSplit, IsAgreed}
-use Rattle.sci_infer.specs.declared.values.Span.{Span}
-use Rattle.sci_infer.specs.declared.parts.Part.{Part}
+use Rattle.sci_infer.specs.declared.values.Extremes.{Extremes}
+use Rattle.sci_infer.specs.declared.parts.PortPart.{PortPart}
 use Rattle.sci_infer.specs.Typing.{Decides, declared_of}
 use Rattle.sci_net.specs.Parts.{Parts}
 use Rattle.sci_infer.specs.PortParts.{parts_in, AreTied}
@@ -17,14 +17,14 @@ use Rattle.sci_infer.specs.Laws.{IsSameVerdict, OneAnswer}
 antisym : (x y : ℤ) → x ≤ℤ y → y ≤ℤ x → x ≡ y
 antisym x y a b = omega (arith, ints)
 
-split_not_agreed : (joins : ℕ → ℕ → Type 0) (ds : List ℤ) (i : ℕ) (s : Span) → IsSplit joins ds i s → IsAgreed joins ds i → ⊥
+split_not_agreed : (joins : ℕ → ℕ → Type 0) (ds : List ℤ) (i : ℕ) (s : Extremes) → IsSplit joins ds i s → IsAgreed joins ds i → ⊥
 split_not_agreed joins ds i s h a = h.differ (a s.least s.greatest h.least h.greatest)
 
-same_span : (joins : ℕ → ℕ → Type 0) (ds : List ℤ) (i : ℕ) (s r : Span) → IsSplit joins ds i s → IsSplit joins ds i r → (s.least ≡ r.least) × (s.greatest ≡ r.greatest)
+same_span : (joins : ℕ → ℕ → Type 0) (ds : List ℤ) (i : ℕ) (s r : Extremes) → IsSplit joins ds i s → IsSplit joins ds i r → (s.least ≡ r.least) × (s.greatest ≡ r.greatest)
 same_span joins ds i s r a b = (antisym s.least r.least (a.above r.least b.least) (b.above s.least a.least), antisym s.greatest r.greatest (b.below s.greatest a.greatest) (a.below r.greatest b.greatest))
 
-module _ (parts : List Part) (joins : ℕ → ℕ → Type 0) where
-  pub one : (v w : Verdict) → Decides parts joins v → Decides parts joins w → IsSameVerdict v w
+module _ (parts : List PortPart) (joins : ℕ → ℕ → Type 0) where
+  pub one : (v w : Resolution) → Decides parts joins v → Decides parts joins w → IsSameVerdict v w
   one (Conflict i s) (Conflict j r) h k =
       let same : i ≡ j = ⊎_elim (λ e. e) (λ apart. absurd (⊎_elim
       (λ low. split_not_agreed joins (declared_of parts) i s h.2 (k.3 i low))
@@ -46,9 +46,9 @@ module _ (parts : List Part) (joins : ℕ → ℕ → Type 0) where
       (λ i d l. get_or_default vs.items i d (pos 0) l ∙ (k.1.only (declared_at vs.items) h.1.fits i (let n = h.0 in omega (arith, l, n))
       ∙ get_or_default ws.items i (pos 0) d (let n = h.0 in let m = k.0 in omega (arith, l, n, m))))
 
-same_answer : (n : Parts) (v w : Verdict) → IsSameVerdict v w → answered n v ≡ answered n w
+same_answer : (n : Parts) (v w : Resolution) → IsSameVerdict v w → answered n v ≡ answered n w
 same_answer n (Conflict i s) (Conflict j r) h =
-    let make : ℤ → ℤ → Span = λ a b. record { least = a; greatest = b } in
+    let make : ℤ → ℤ → Extremes = λ a b. record { least = a; greatest = b } in
     ap (λ (k : ℕ). answered n (Conflict k s)) h.0
     ∙ (ap (λ (a : ℤ). answered n (Conflict j (make a s.greatest))) h.1 ∙ ap (λ (b : ℤ). answered n (Conflict j (make r.least b))) h.2)
 same_answer n (Conflict i s) (Open j) h = absurd h

@@ -11,7 +11,7 @@ use Rattle.sci_forms.specs.declared.spec.Spec.{Spec}
 use Rattle.sci_forms.specs.Forms.{between}
 use Rattle.sci_net.specs.Parts.{Parts, no_spec}
 use Rattle.sci_net.specs.Flat.{IsFlat, is_declared, AreDeclared}
-use Rattle.sci_infer.specs.declared.parts.Part.{Part}
+use Rattle.sci_infer.specs.declared.parts.PortPart.{PortPart}
 use Rattle.sci_infer.specs.declared.parts.Side.{Side}
 use Rattle.sci_infer.specs.declared.parts.Side.TheVariants.{Input, Output}
 use Rattle.sci_infer.specs.declared.parts.What.{What}
@@ -36,12 +36,12 @@ size_allowed : (v : ℤ) → pos 0 <ℤ v → pos 1 ≤ℤ v
 size_allowed v h = omega (arith, ints)
 
 -- what holds of the three parts of each declared port holds of all parts
-module _ (P : Part → Type 0)
+module _ (P : PortPart → Type 0)
     (port : (b : ℕ) (s : Side) (k : ℕ) (q : Port) → is_declared q ≡ true
     → P (record { block = b; side = s; port = k; what = DataType; declared = q.ty })
     × P (record { block = b; side = s; port = k; what = Rows; declared = q.rows })
     × P (record { block = b; side = s; port = k; what = Columns; declared = q.cols })) where
-  side_all : (b : ℕ) (s : Side) (k : ℕ) (ps : List Port) → All (λ (p : Port). is_declared p ≡ true) ps → (i : ℕ) (p : Part) → IsAt (side_parts b s k ps) i p → P p
+  side_all : (b : ℕ) (s : Side) (k : ℕ) (ps : List Port) → All (λ (p : Port). is_declared p ≡ true) ps → (i : ℕ) (p : PortPart) → IsAt (side_parts b s k ps) i p → P p
   side_all b s k [] all i p h = absurd (let w = slice_get_within [] i p h in omega (arith, w))
   side_all b s k (q ∷ ps) all zero p h =
       subst P (same_Some (record { block = b; side = s; port = k; what = DataType; declared = q.ty }) p h) (port b s k q (all 0 q (omega arith))).0
@@ -51,7 +51,7 @@ module _ (P : Part → Type 0)
       subst P (same_Some (record { block = b; side = s; port = k; what = Columns; declared = q.cols }) p h) (port b s k q (all 0 q (omega arith))).2
   side_all b s k (q ∷ ps) all (suc (suc (suc i))) p h = side_all b s (k + 1) ps (λ j d l. all (suc j) d (omega arith)) i p h
 
-  all_of : (b : ℕ) (ss : List Spec) → ((k : ℕ) (d : Spec) → k < length ss → AreDeclared (get_or ss k d)) → (i : ℕ) (p : Part) → IsAt (parts_from b ss) i p → P p
+  all_of : (b : ℕ) (ss : List Spec) → ((k : ℕ) (d : Spec) → k < length ss → AreDeclared (get_or ss k d)) → (i : ℕ) (p : PortPart) → IsAt (parts_from b ss) i p → P p
   all_of b [] all i p h = absurd (let w = slice_get_within [] i p h in omega (arith, w))
   all_of b (s ∷ ss) all i p h =
       let here = all 0 s (omega arith) in
@@ -63,7 +63,7 @@ module _ (P : Part → Type 0)
       (λ r. all_of (b + 1) ss (λ j d l. all (suc j) d (omega arith)) r.0 p r.2)
       (at_cases (block_parts b s) (parts_from (b + 1) ss) i p h)
 
-  of_flat : (n : Parts) → IsFlat n → (i : ℕ) (p : Part) → IsAt (parts_in n) i p → P p
+  of_flat : (n : Parts) → IsFlat n → (i : ℕ) (p : PortPart) → IsAt (parts_in n) i p → P p
   of_flat n flat i p h =
       all_of 1 n.specs
       (λ k d l. subst AreDeclared (get_or_default n.specs k no_spec d l) (flat.declared (suc k) (record { least = omega arith; most = omega arith })))
@@ -71,7 +71,7 @@ module _ (P : Part → Type 0)
 
 pub declared_well : (n : Parts) → IsFlat n → AreDeclaredWell (parts_in n)
 declared_well n flat i p h =
-    of_flat (λ (q : Part). pos 0 <ℤ q.declared → IsAllowed q.what q.declared)
+    of_flat (λ (q : PortPart). pos 0 <ℤ q.declared → IsAllowed q.what q.declared)
     (λ b s k q d. (type_allowed q.ty (left _ _ (left _ _ d)), size_allowed q.rows, size_allowed q.cols))
     n flat i p h
 
@@ -85,9 +85,9 @@ type_below v h =
 size_below : (v : ℤ) → int_lt v (pos (2 ^ 31)) ≡ true → v ≤ℤ pos 2147483647
 size_below v h = let low = int_lt_told v (pos 2147483648) h in omega (arith, ints)
 
-pub declared_below : (n : Parts) → IsFlat n → (i : ℕ) (p : Part) → IsAt (parts_in n) i p → p.declared ≤ℤ pos 2147483647
+pub declared_below : (n : Parts) → IsFlat n → (i : ℕ) (p : PortPart) → IsAt (parts_in n) i p → p.declared ≤ℤ pos 2147483647
 declared_below n flat i p h =
-    of_flat (λ (q : Part). q.declared ≤ℤ pos 2147483647)
+    of_flat (λ (q : PortPart). q.declared ≤ℤ pos 2147483647)
     (λ b s k q d. (type_below q.ty (left _ _ (left _ _ d)), size_below q.rows (right _ _ (left _ _ d)), size_below q.cols (right _ _ d)))
     n flat i p h
 

@@ -5,10 +5,10 @@ use Rattle.std.proofs.lemmas.Int.{ints, clamps}
 use Rattle.std.proofs.lemmas.Bool.{cases_eq, cond_both}
 use Rattle.sci_infer.specs.Classes.{Tied, AreClasses}
 use Rattle.sci_infer.proofs.Trees.{Tied-trans, Tied-sym, Tied-equal}
-use Rattle.sci_infer.specs.declared.values.Span.{Span}
+use Rattle.sci_infer.specs.declared.values.Extremes.{Extremes}
 use Rattle.sci_infer.specs.Values.{declared_at, Has, IsAgreed, AreAgreed, IsLabelled, IsSpan, IsSpanOf, AreSpans, widened, IsOne, AreOne, IsSplitAt, IsFilled, span_at, IsVerdict, IsKnown}
-use Rattle.sci_infer.specs.declared.values.Verdict.{Verdict}
-use Rattle.sci_infer.specs.declared.values.Verdict.TheVariants.{Conflict, Open, Values}
+use Rattle.sci_infer.specs.declared.values.Resolution.{Resolution}
+use Rattle.sci_infer.specs.declared.values.Resolution.TheVariants.{Conflict, Open, Values}
 
 min_is_lower : (x y : ℤ) → (int_min x y ≤ℤ x) × (int_min x y ≤ℤ y)
 min_is_lower x y = (omega (arith, ints, clamps), omega (arith, ints, clamps))
@@ -28,7 +28,7 @@ either P x y p q = (cond_both (int_lt y x) y x P (λ h. q) (λ h. p), cond_both 
 between : (x y v w : ℤ) → x ≤ℤ v → v ≤ℤ y → x ≤ℤ w → w ≤ℤ y → x ≡ y → v ≡ w
 between x y v w a b c d e = omega (arith, ints)
 
-abbrev pub least_of : Option Span → Option ℤ
+abbrev pub least_of : Option Extremes → Option ℤ
 least_of None = None
 least_of (Some s) = Some s.least
 
@@ -43,7 +43,7 @@ module _ (ds : List ℤ) (labels : List ℕ) where
       (λ other. inl (record { at = l.at; within = omega (arith, h, other); is = l.is; declares = l.declares; positive = l.positive }))
       (cases_eq l.at k)
 
-  span_kept : (k r : ℕ) (o : Option Span) → IsSpanOf ds labels k r o → ((v : ℤ) → IsLabelled ds labels (k + 1) r v → IsLabelled ds labels k r v) → IsSpanOf ds labels (k + 1) r o
+  span_kept : (k r : ℕ) (o : Option Extremes) → IsSpanOf ds labels k r o → ((v : ℤ) → IsLabelled ds labels (k + 1) r v → IsLabelled ds labels k r v) → IsSpanOf ds labels (k + 1) r o
   span_kept k r None none less = λ v l. none v (less v l)
   span_kept k r (Some s) span less =
       record {
@@ -53,7 +53,7 @@ module _ (ds : List ℤ) (labels : List ℕ) where
         below = λ v l. span.below v (less v l);
       }
 
-  span_widened : (k r : ℕ) (o : Option Span) → IsSpanOf ds labels k r o → get_or labels k 0 ≡ r → pos 0 <ℤ declared_at ds k → IsSpan ds labels (k + 1) r (widened o (declared_at ds k))
+  span_widened : (k r : ℕ) (o : Option Extremes) → IsSpanOf ds labels k r o → get_or labels k 0 ≡ r → pos 0 <ℤ declared_at ds k → IsSpan ds labels (k + 1) r (widened o (declared_at ds k))
   span_widened k r None none is positive =
       let here : IsLabelled ds labels (k + 1) r (declared_at ds k) = record { at = k; within = omega arith; is = is; declares = refl; positive = positive } in
       record {
@@ -77,11 +77,11 @@ module _ (ds : List ℤ) (labels : List ℕ) where
             (λ new. le_trans v d (int_max s.greatest d) (le_same v d (sym new.1)) high.1) (labelled_cases k r v l);
       }
 
-  pub spans_set : (k : ℕ) (spans : List (Option Span)) → length spans ≡ length labels → get_or labels k 0 < length labels → AreSpans ds labels k spans → pos 0 <ℤ declared_at ds k →
+  pub spans_set : (k : ℕ) (spans : List (Option Extremes)) → length spans ≡ length labels → get_or labels k 0 < length labels → AreSpans ds labels k spans → pos 0 <ℤ declared_at ds k →
       AreSpans ds labels (k + 1) (set spans (get_or labels k 0) (Some (widened (get_or spans (get_or labels k 0) None) (declared_at ds k))))
   spans_set k spans long inside are positive r h =
       let at = get_or labels k 0 in
-      let new : Option Span = Some (widened (get_or spans at None) (declared_at ds k)) in
+      let new : Option Extremes = Some (widened (get_or spans at None) (declared_at ds k)) in
       ⊎_elim
       (λ e. subst (λ q. IsSpanOf ds labels (k + 1) q (get_or (set spans at new) q None)) (sym e)
       (subst (IsSpanOf ds labels (k + 1) at) (sym (get_or-set_same spans at new None (omega (arith, inside, long))))
@@ -90,7 +90,7 @@ module _ (ds : List ℤ) (labels : List ℕ) where
       (span_kept k r (get_or spans r None) (are r h) (λ v l. ⊎_elim (λ old. old) (λ here. absurd (other (sym here.0))) (labelled_cases k r v l))))
       (cases_eq r at)
 
-  pub spans_kept : (k : ℕ) (spans : List (Option Span)) → AreSpans ds labels k spans → (pos 0 <ℤ declared_at ds k → ⊥) → AreSpans ds labels (k + 1) spans
+  pub spans_kept : (k : ℕ) (spans : List (Option Extremes)) → AreSpans ds labels k spans → (pos 0 <ℤ declared_at ds k → ⊥) → AreSpans ds labels (k + 1) spans
   spans_kept k spans are unknown r h =
       span_kept k r (get_or spans r None) (are r h) (λ v l. ⊎_elim (λ old. old)
       (λ here. absurd (unknown (subst (λ x. pos 0 <ℤ x) (sym here.1) here.2))) (labelled_cases k r v l))
@@ -110,18 +110,18 @@ module _ (ds : List ℤ) (labels : List ℕ) where
         positive = l.positive;
       }
 
-  span_here : (spans : List (Option Span)) → AreSpans ds labels (length ds) spans → (i : ℕ) → get_or labels i 0 < length labels → (o : Option Span) → span_at labels spans i ≡ o →
+  span_here : (spans : List (Option Extremes)) → AreSpans ds labels (length ds) spans → (i : ℕ) → get_or labels i 0 < length labels → (o : Option Extremes) → span_at labels spans i ≡ o →
       IsSpanOf ds labels (length ds) (get_or labels i 0) o
   span_here spans are i inside o e = subst (IsSpanOf ds labels (length ds) (get_or labels i 0)) e (are (get_or labels i 0) inside)
 
-  one_agreed : (joins : ℕ → ℕ → Type 0) → AreClasses joins (length ds) labels → (i : ℕ) → (o : Option Span) → IsSpanOf ds labels (length ds) (get_or labels i 0) o → IsOne o → IsAgreed joins ds i
+  one_agreed : (joins : ℕ → ℕ → Type 0) → AreClasses joins (length ds) labels → (i : ℕ) → (o : Option Extremes) → IsSpanOf ds labels (length ds) (get_or labels i 0) o → IsOne o → IsAgreed joins ds i
   one_agreed joins are i None none one v w hv hw = absurd (none v (labelled_from joins are i v hv))
   one_agreed joins are i (Some s) span one v w hv hw =
       let lv = labelled_from joins are i v hv in
       let lw = labelled_from joins are i w hw in
       between s.least s.greatest v w (span.above v lv) (span.below v lv) (span.above w lw) (span.below w lw) one
 
-  module _ (joins : ℕ → ℕ → Type 0) (are : AreClasses joins (length ds) labels) (spans : List (Option Span)) (all : AreSpans ds labels (length ds) spans) where
+  module _ (joins : ℕ → ℕ → Type 0) (are : AreClasses joins (length ds) labels) (spans : List (Option Extremes)) (all : AreSpans ds labels (length ds) spans) where
     label_inside : (i : ℕ) → i < length ds → get_or labels i 0 < length labels
     label_inside i h = let w = are.within i h in let n = are.same_length in omega (arith, w, n)
 
@@ -129,7 +129,7 @@ module _ (ds : List ℤ) (labels : List ℕ) where
     agreed_below k few one i h =
         one_agreed joins are i (span_at labels spans i) (span_here spans all i (label_inside i (omega (arith, h, few))) (span_at labels spans i) refl) (one i h)
 
-    pub split_verdict : (at : ℕ) (s : Span) → IsSplitAt labels spans at s → IsVerdict joins ds (Conflict at s)
+    pub split_verdict : (at : ℕ) (s : Extremes) → IsSplitAt labels spans at s → IsVerdict joins ds (Conflict at s)
     split_verdict at s h =
         let inside : at < length ds = let n = are.same_length in let w = h.within in omega (arith, w, n) in
         let span : IsSpan ds labels (length ds) (get_or labels at 0) s = span_here spans all at (label_inside at inside) (Some s) h.is in (
@@ -144,16 +144,16 @@ module _ (ds : List ℤ) (labels : List ℕ) where
           agreed_below at (omega (arith, inside)) h.before,
         )
 
-    has_least : (i : ℕ) → i < length ds → (s : Span) → span_at labels spans i ≡ Some s → Has joins ds i s.least
+    has_least : (i : ℕ) → i < length ds → (s : Extremes) → span_at labels spans i ≡ Some s → Has joins ds i s.least
     has_least i inside s e =
         let span : IsSpan ds labels (length ds) (get_or labels i 0) s = span_here spans all i (label_inside i inside) (Some s) e in
         has_from joins are i s.least inside span.least
 
-    known_here : (i : ℕ) → i < length ds → (o : Option Span) → span_at labels spans i ≡ o → IsKnown joins ds i (least_of o)
+    known_here : (i : ℕ) → i < length ds → (o : Option Extremes) → span_at labels spans i ≡ o → IsKnown joins ds i (least_of o)
     known_here i inside None e = λ v l. span_here spans all i (label_inside i inside) None e v (labelled_from joins are i v l)
     known_here i inside (Some s) e = has_least i inside s e
 
-    pub filled_verdict : (v : Verdict) → AreOne labels spans (length labels) → IsFilled labels spans v → IsVerdict joins ds v
+    pub filled_verdict : (v : Resolution) → AreOne labels spans (length labels) → IsFilled labels spans v → IsVerdict joins ds v
     filled_verdict (Conflict at s) one h = absurd h
     filled_verdict (Open at) one h =
         let inside : at < length ds = let n = are.same_length in let w = h.0 in omega (arith, w, n) in (

@@ -6,7 +6,7 @@ use Rattle.sci_forms.specs.declared.ports.Port.{Port}
 use Rattle.sci_forms.specs.declared.spec.Spec.{Spec}
 use Rattle.sci_net.specs.declared.Wire.{Wire}
 use Rattle.sci_net.specs.Parts.{Parts, IsBlock, IsInput, IsOutput, spec_of, no_spec}
-use Rattle.sci_infer.specs.declared.parts.Part.{Part}
+use Rattle.sci_infer.specs.declared.parts.PortPart.{PortPart}
 use Rattle.sci_infer.specs.declared.parts.Side.{Side}
 use Rattle.sci_infer.specs.declared.parts.Side.TheVariants.{Input, Output}
 use Rattle.sci_infer.specs.declared.parts.What.{What}
@@ -15,17 +15,17 @@ use Rattle.sci_infer.specs.Typing.{IsAt}
 use Rattle.sci_infer.specs.PortParts.{side_parts, block_parts, parts_from, parts_in}
 use Rattle.sci_infer.specs.Layout.{count, offset, side_start, start_of, IsOutputAt}
 
-pub at_cases : (xs ys : List Part) (i : ℕ) (p : Part) → IsAt (xs ++ ys) i p → IsAt xs i p ⊎ ((j : ℕ) × (i ≡ length xs + j) × IsAt ys j p)
+pub at_cases : (xs ys : List PortPart) (i : ℕ) (p : PortPart) → IsAt (xs ++ ys) i p → IsAt xs i p ⊎ ((j : ℕ) × (i ≡ length xs + j) × IsAt ys j p)
 at_cases [] ys i p h = inr (i, omega arith, h)
 at_cases (x ∷ xs) ys zero p h = inl h
 at_cases (x ∷ xs) ys (suc i) p h = ⊎_elim (λ l. inl l) (λ r. inr (r.0, (let e = r.1 in omega (arith, e)), r.2)) (at_cases xs ys i p h)
 
-at_left : (xs ys : List Part) (i : ℕ) (p : Part) → IsAt xs i p → IsAt (xs ++ ys) i p
+at_left : (xs ys : List PortPart) (i : ℕ) (p : PortPart) → IsAt xs i p → IsAt (xs ++ ys) i p
 at_left [] ys i p h = absurd (let w = slice_get_within [] i p h in omega (arith, w))
 at_left (x ∷ xs) ys zero p h = h
 at_left (x ∷ xs) ys (suc i) p h = at_left xs ys i p h
 
-at_right : (xs ys : List Part) (i j : ℕ) (p : Part) → i ≡ length xs + j → IsAt ys j p → IsAt (xs ++ ys) i p
+at_right : (xs ys : List PortPart) (i j : ℕ) (p : PortPart) → i ≡ length xs + j → IsAt ys j p → IsAt (xs ++ ys) i p
 at_right [] ys i j p e h = subst (λ k. IsAt ys k p) (let f : j ≡ i = omega (arith, e) in f) h
 at_right (x ∷ xs) ys zero j p e h = absurd (omega (arith, e))
 at_right (x ∷ xs) ys (suc i) j p e h = at_right xs ys i j p (omega (arith, e)) h
@@ -40,7 +40,7 @@ block_length b x =
     let l = side_length b Input 1 x.ins in let r = side_length b Output 1 x.outs in omega (arith, e, l, r)
 
 -- a part of one side
-pub record InSide (b : ℕ) (s : Side) (k n i : ℕ) (p : Part) : Type 0 where
+pub record InSide (b : ℕ) (s : Side) (k n i : ℕ) (p : PortPart) : Type 0 where
   pub place : ℕ
   pub within : place < n
   pub block : p.block ≡ b
@@ -48,18 +48,18 @@ pub record InSide (b : ℕ) (s : Side) (k n i : ℕ) (p : Part) : Type 0 where
   pub port : p.port ≡ k + place
   pub at : i ≡ 3 * place + offset p.what
 
-in_side_first : (b : ℕ) (s : Side) (k n i : ℕ) (x p : Part) → x ≡ p → x.block ≡ b → x.side ≡ s → x.port ≡ k → i ≡ offset x.what → InSide b s k (suc n) i p
+in_side_first : (b : ℕ) (s : Side) (k n i : ℕ) (x p : PortPart) → x ≡ p → x.block ≡ b → x.side ≡ s → x.port ≡ k → i ≡ offset x.what → InSide b s k (suc n) i p
 in_side_first b s k n i x p e xb xs xp xo =
     record {
       place = 0;
       within = omega arith;
-      block = ap (λ (q : Part). q.block) (sym e) ∙ xb;
-      side = ap (λ (q : Part). q.side) (sym e) ∙ xs;
-      port = (let f : p.port ≡ x.port = ap (λ (q : Part). q.port) (sym e) in omega (arith, f, xp));
-      at = (let f : offset x.what ≡ offset p.what = ap (λ (q : Part). offset q.what) e in omega (arith, f, xo));
+      block = ap (λ (q : PortPart). q.block) (sym e) ∙ xb;
+      side = ap (λ (q : PortPart). q.side) (sym e) ∙ xs;
+      port = (let f : p.port ≡ x.port = ap (λ (q : PortPart). q.port) (sym e) in omega (arith, f, xp));
+      at = (let f : offset x.what ≡ offset p.what = ap (λ (q : PortPart). offset q.what) e in omega (arith, f, xo));
     }
 
-side_placed : (b : ℕ) (s : Side) (k : ℕ) (ps : List Port) (i : ℕ) (p : Part) → IsAt (side_parts b s k ps) i p → InSide b s k (length ps) i p
+side_placed : (b : ℕ) (s : Side) (k : ℕ) (ps : List Port) (i : ℕ) (p : PortPart) → IsAt (side_parts b s k ps) i p → InSide b s k (length ps) i p
 side_placed b s k [] i p h = absurd (let w = slice_get_within [] i p h in omega (arith, w))
 side_placed b s k (q ∷ ps) zero p h = in_side_first b s k (length ps) 0 (record { block = b; side = s; port = k; what = DataType; declared = q.ty }) p (same_Some _ _ h) refl refl refl refl
 side_placed b s k (q ∷ ps) (suc zero) p h = in_side_first b s k (length ps) 1 (record { block = b; side = s; port = k; what = Rows; declared = q.rows }) p (same_Some _ _ h) refl refl refl refl
@@ -85,21 +85,21 @@ side_named b s k (q ∷ ps) (suc m) i o h e =
     )
 
 -- a part of a block
-pub record InBlock (b : ℕ) (x : Spec) (i : ℕ) (p : Part) : Type 0 where
+pub record InBlock (b : ℕ) (x : Spec) (i : ℕ) (p : PortPart) : Type 0 where
   pub place : ℕ
   pub block : p.block ≡ b
   pub port : p.port ≡ 1 + place
   pub within : place < count x p.side
   pub at : i ≡ side_start x p.side + (3 * place + offset p.what)
 
-in_side_block : (b : ℕ) (x : Spec) (s : Side) (n i j : ℕ) (p : Part) → count x s ≡ n → InSide b s 1 n i p → j ≡ side_start x s + i → InBlock b x j p
+in_side_block : (b : ℕ) (x : Spec) (s : Side) (n i j : ℕ) (p : PortPart) → count x s ≡ n → InSide b s 1 n i p → j ≡ side_start x s + i → InBlock b x j p
 in_side_block b x s n i j p full r e =
     let w = r.within in let a = r.at in
     let c : count x p.side ≡ count x s = ap (count x) r.side in
     let d : side_start x p.side ≡ side_start x s = ap (side_start x) r.side in
     record { place = r.place; block = r.block; port = r.port; within = omega (arith, w, c, full); at = omega (arith, a, d, e) }
 
-block_placed : (b : ℕ) (x : Spec) (i : ℕ) (p : Part) → IsAt (block_parts b x) i p → InBlock b x i p
+block_placed : (b : ℕ) (x : Spec) (i : ℕ) (p : PortPart) → IsAt (block_parts b x) i p → InBlock b x i p
 block_placed b x i p h =
     ⊎_elim (λ l. in_side_block b x Input (length x.ins) i i p refl (side_placed b Input 1 x.ins i p l) (omega arith))
     (λ r. in_side_block b x Output (length x.outs) r.0 i p refl (side_placed b Output 1 x.outs r.0 p r.2)
@@ -121,7 +121,7 @@ block_named b x Output m i o h e =
     )
 
 -- a part of a list of blocks
-pub record InAll (b : ℕ) (xs : List Spec) (i : ℕ) (p : Part) : Type 0 where
+pub record InAll (b : ℕ) (xs : List Spec) (i : ℕ) (p : PortPart) : Type 0 where
   pub number : ℕ
   pub place : ℕ
   pub block : p.block ≡ b + number
@@ -131,7 +131,7 @@ pub record InAll (b : ℕ) (xs : List Spec) (i : ℕ) (p : Part) : Type 0 where
   pub within : place < count here p.side
   pub at : i ≡ start_of xs number + (side_start here p.side + (3 * place + offset p.what))
 
-pub all_placed : (b : ℕ) (xs : List Spec) (i : ℕ) (p : Part) → IsAt (parts_from b xs) i p → InAll b xs i p
+pub all_placed : (b : ℕ) (xs : List Spec) (i : ℕ) (p : PortPart) → IsAt (parts_from b xs) i p → InAll b xs i p
 all_placed b [] i p h = absurd (let w = slice_get_within [] i p h in omega (arith, w))
 all_placed b (x ∷ xs) i p h =
     ⊎_elim
@@ -183,13 +183,13 @@ start_more xs i x h e = subst (λ k. start_of xs k ≡ start_of xs i + (3 * leng
         let z = start_zero ys in omega (arith, a, b, z)
     start_suc (y ∷ ys) (suc i) x h e = let r = start_suc ys i x (omega (arith, h)) e in omega (arith, r)
 
-pub rest_more : (b : ℕ) (ps whole : List Part) (xs : List Spec) (i : ℕ) (x : Spec) → i < length xs → x ≡ get_or xs i x → ps ++ parts_from b (drop i xs) ≡ whole →
+pub rest_more : (b : ℕ) (ps whole : List PortPart) (xs : List Spec) (i : ℕ) (x : Spec) → i < length xs → x ≡ get_or xs i x → ps ++ parts_from b (drop i xs) ≡ whole →
     (ps ++ block_parts b x) ++ parts_from (b + 1) (drop (i + 1) xs) ≡ whole
 rest_more b ps whole xs i x h e is =
     let more : drop i xs ≡ x ∷ drop (i + 1) xs = drop_more xs i x h ∙ ap (λ (y : Spec). y ∷ drop (i + 1) xs) (sym e) in
     append_assoc ps (block_parts b x) (parts_from (b + 1) (drop (i + 1) xs)) ∙ (sym (ap (λ ys. ps ++ parts_from b ys) more) ∙ is)
 
-pub rest_all : (b : ℕ) (ps : List Part) (xs : List Spec) (i : ℕ) → length xs ≤ i → ps ++ parts_from b (drop i xs) ≡ ps
+pub rest_all : (b : ℕ) (ps : List PortPart) (xs : List Spec) (i : ℕ) → length xs ≤ i → ps ++ parts_from b (drop i xs) ≡ ps
 rest_all b ps xs i h = ap (λ ys. ps ++ parts_from b ys) (drop_all i xs h) ∙ append-nil ps
 
 -- ---- in a net, whose blocks are counted from 1
@@ -200,13 +200,13 @@ spec_at n b m e h =
     subst (λ (c : ℕ). slice_get n.specs m ≡ Some (spec_of n c)) f (slice_get-get_or n.specs m no_spec h)
 
 -- what is known of the part at a place
-pub record Placed (n : Parts) (i : ℕ) (p : Part) : Type 0 where
+pub record Placed (n : Parts) (i : ℕ) (p : PortPart) : Type 0 where
   pub block : IsBlock n p.block
   pub least : 1 ≤ p.port
   pub most : p.port ≤ count (spec_of n p.block) p.side
   pub at : i ≡ start_of n.specs (p.block - 1) + (side_start (spec_of n p.block) p.side + (3 * (p.port - 1) + offset p.what))
 
-pub placed : (n : Parts) (i : ℕ) (p : Part) → IsAt (parts_in n) i p → Placed n i p
+pub placed : (n : Parts) (i : ℕ) (p : PortPart) → IsAt (parts_in n) i p → Placed n i p
 placed n i p h =
     let a = all_placed 1 n.specs i p h in
     let inside = slice_get_within n.specs a.number a.here a.is in
@@ -261,7 +261,7 @@ output_bound n w what is =
     slice_get_within (parts_in n) (start_of n.specs (w.block - 1) + (3 * length (spec_of n w.block).ins + (3 * (w.port - 1) + offset what))) _ a.at
 
 -- an input's part
-pub input_here : (n : Parts) (i : ℕ) (p : Part) → IsAt (parts_in n) i p → p.side ≡ Input → IsInput n p.block p.port
+pub input_here : (n : Parts) (i : ℕ) (p : PortPart) → IsAt (parts_in n) i p → p.side ≡ Input → IsInput n p.block p.port
 input_here n i p h s =
     let a = placed n i p h in
     record { block = a.block; least = a.least; most = subst (λ (t : Side). p.port ≤ count (spec_of n p.block) t) s a.most }

@@ -7,9 +7,9 @@ use Rattle.sci_infer.specs.Classes.{Tied, same, Joins, IsWithin}
 use Rattle.sci_infer.specs.declared.classes.Tie.{Tie}
 use Rattle.sci_infer.proofs.Trees.{Tied-trans, Tied-sym, Tied-equal, Tied-one}
 use Rattle.sci_infer.specs.Values.{declared_at, Has, AreAgreed, IsVerdict, IsKnown, AreKnown}
-use Rattle.sci_infer.specs.declared.values.Verdict.{Verdict}
-use Rattle.sci_infer.specs.declared.values.Verdict.TheVariants.{Conflict, Open, Values}
-use Rattle.sci_infer.specs.declared.parts.Part.{Part}
+use Rattle.sci_infer.specs.declared.values.Resolution.{Resolution}
+use Rattle.sci_infer.specs.declared.values.Resolution.TheVariants.{Conflict, Open, Values}
+use Rattle.sci_infer.specs.declared.parts.PortPart.{PortPart}
 use Rattle.sci_infer.specs.declared.parts.What.{What}
 use Rattle.sci_infer.specs.Answer.{no_part}
 use Rattle.sci_infer.specs.declared.parts.What.TheVariants.{DataType, Rows, Columns}
@@ -44,15 +44,15 @@ abbrev pub or_else : ℤ → Option ℤ → ℤ
 or_else x None = x
 or_else x (Some v) = v
 
-abbrev pub kind_at : List Part → ℕ → Option Bool
-kind_at parts i = option_map (λ (p : Part). is_type p.what) (slice_get parts i)
+abbrev pub kind_at : List PortPart → ℕ → Option Bool
+kind_at parts i = option_map (λ (p : PortPart). is_type p.what) (slice_get parts i)
 
-module _ (parts : List Part) (joins : ℕ → ℕ → Type 0) (well : AreDeclaredWell parts) (alike : (i j : ℕ) → joins i j → IsAlike parts i j) where
+module _ (parts : List PortPart) (joins : ℕ → ℕ → Type 0) (well : AreDeclaredWell parts) (alike : (i j : ℕ) → joins i j → IsAlike parts i j) where
   long : length (declared_of parts) ≡ length parts
-  long = length-map parts (λ (p : Part). p.declared)
+  long = length-map parts (λ (p : PortPart). p.declared)
 
-  declared_here : (i : ℕ) (p : Part) → IsAt parts i p → declared_at (declared_of parts) i ≡ p.declared
-  declared_here i p e = get_or-map (λ (q : Part). q.declared) parts i p (pos 0) (slice_get_within parts i p e) ∙ ap (λ (q : Part). q.declared) (get_or_from_slice_get parts i p p e)
+  declared_here : (i : ℕ) (p : PortPart) → IsAt parts i p → declared_at (declared_of parts) i ≡ p.declared
+  declared_here i p e = get_or-map (λ (q : PortPart). q.declared) parts i p (pos 0) (slice_get_within parts i p e) ∙ ap (λ (q : PortPart). q.declared) (get_or_from_slice_get parts i p p e)
 
   there : (i : ℕ) → i < length (declared_of parts) → IsAt parts i (get_or parts i no_part)
   there i h = slice_get-get_or parts i no_part (let l = long in omega (arith, h, l))
@@ -60,7 +60,7 @@ module _ (parts : List Part) (joins : ℕ → ℕ → Type 0) (well : AreDeclare
   -- a fitting typing gives the declared number of a class
   fits_has : (t : ℕ → ℤ) → Fits parts joins t → (i : ℕ) (v : ℤ) → Has joins (declared_of parts) i v → t i ≡ v
   fits_has t fits i v h =
-      let p : Part = get_or parts h.at no_part in
+      let p : PortPart = get_or parts h.at no_part in
       let e : IsAt parts h.at p = there h.at h.within in
       let is : p.declared ≡ v = sym (declared_here h.at p e) ∙ h.declares in
       Tied-equal joins t fits.agree h.tied ∙ (fits.kept h.at p e (subst (λ x. pos 0 <ℤ x) (sym is) h.positive) ∙ is)
@@ -68,14 +68,14 @@ module _ (parts : List Part) (joins : ℕ → ℕ → Type 0) (well : AreDeclare
   same_kind_at : {i j : ℕ} → Tied joins i j → kind_at parts i ≡ kind_at parts j
   same_kind_at d =
       Tied-equal joins (kind_at parts) (λ a b s. let k = alike a b s in
-      ap (option_map (λ (p : Part). is_type p.what)) k.at_left ∙ (ap Some k.same_kind ∙ sym (ap (option_map (λ (p : Part). is_type p.what)) k.at_right))) d
+      ap (option_map (λ (p : PortPart). is_type p.what)) k.at_left ∙ (ap Some k.same_kind ∙ sym (ap (option_map (λ (p : PortPart). is_type p.what)) k.at_right))) d
 
-  has_allowed : (i : ℕ) (p : Part) (v : ℤ) → IsAt parts i p → Has joins (declared_of parts) i v → IsAllowed p.what v
+  has_allowed : (i : ℕ) (p : PortPart) (v : ℤ) → IsAt parts i p → Has joins (declared_of parts) i v → IsAllowed p.what v
   has_allowed i p v e h =
-      let q : Part = get_or parts h.at no_part in
+      let q : PortPart = get_or parts h.at no_part in
       let f : IsAt parts h.at q = there h.at h.within in
       let is : q.declared ≡ v = sym (declared_here h.at q f) ∙ h.declares in
-      let g : Option Part → Option Bool = option_map (λ (r : Part). is_type r.what) in
+      let g : Option PortPart → Option Bool = option_map (λ (r : PortPart). is_type r.what) in
       let kind : is_type p.what ≡ is_type q.what = same_Some (is_type p.what) (is_type q.what) (sym (ap g e) ∙ (same_kind_at h.tied ∙ ap g f)) in
       allowed_alike q.what p.what v (sym kind) (subst (IsAllowed q.what) is (well h.at q f (subst (λ x. pos 0 <ℤ x) (sym is) h.positive)))
 
@@ -85,19 +85,19 @@ module _ (parts : List Part) (joins : ℕ → ℕ → Type 0) (well : AreDeclare
   has_back : (i j : ℕ) (v : ℤ) → joins i j → Has joins (declared_of parts) i v → Has joins (declared_of parts) j v
   has_back i j v s h = record { at = h.at; within = h.within; tied = Tied-trans joins (Tied-sym joins (Tied-one joins s)) h.tied; declares = h.declares; positive = h.positive }
 
-  has_own : (i : ℕ) (p : Part) → IsAt parts i p → pos 0 <ℤ p.declared → Has joins (declared_of parts) i p.declared
+  has_own : (i : ℕ) (p : PortPart) → IsAt parts i p → pos 0 <ℤ p.declared → Has joins (declared_of parts) i p.declared
   has_own i p e positive =
       record { at = i; within = let w = slice_get_within parts i p e in let l = long in omega (arith, w, l); tied = same; declares = declared_here i p e; positive = positive }
 
-  inside : (i : ℕ) (p : Part) → IsAt parts i p → i < length (declared_of parts)
+  inside : (i : ℕ) (p : PortPart) → IsAt parts i p → i < length (declared_of parts)
   inside i p e = let w = slice_get_within parts i p e in let l = long in omega (arith, w, l)
 
   module _ (agreed : AreAgreed joins (declared_of parts) (length (declared_of parts))) (x : ℤ) (ok : (a : What) → IsAllowed a x) where
-    allowed_one : (i : ℕ) (p : Part) → IsAt parts i p → (o : Option ℤ) → IsKnown joins (declared_of parts) i o → IsAllowed p.what (or_else x o)
+    allowed_one : (i : ℕ) (p : PortPart) → IsAt parts i p → (o : Option ℤ) → IsKnown joins (declared_of parts) i o → IsAllowed p.what (or_else x o)
     allowed_one i p e None k = ok p.what
     allowed_one i p e (Some v) k = has_allowed i p v e k
 
-    kept_one : (i : ℕ) (p : Part) → IsAt parts i p → pos 0 <ℤ p.declared → (o : Option ℤ) → IsKnown joins (declared_of parts) i o → or_else x o ≡ p.declared
+    kept_one : (i : ℕ) (p : PortPart) → IsAt parts i p → pos 0 <ℤ p.declared → (o : Option ℤ) → IsKnown joins (declared_of parts) i o → or_else x o ≡ p.declared
     kept_one i p e positive None k = absurd (k p.declared (has_own i p e positive))
     kept_one i p e positive (Some v) k = agreed i (inside i p e) v p.declared k (has_own i p e positive)
 
@@ -120,7 +120,7 @@ module _ (parts : List Part) (joins : ℕ → ℕ → Type 0) (well : AreDeclare
   differ_one i None k free e = three≢four e
   differ_one i (Some v) k free e = free v k
 
-  pub inferred : (v : Verdict) → IsVerdict joins (declared_of parts) v → Decides parts joins v
+  pub inferred : (v : Resolution) → IsVerdict joins (declared_of parts) v → Decides parts joins v
   inferred (Conflict at s) h = (
     (λ t fits. h.1.differ (sym (fits_has t fits at s.least h.1.least) ∙ fits_has t fits at s.greatest h.1.greatest)),
     (let w = h.0 in let l = long in omega (arith, w, l)),
@@ -147,11 +147,11 @@ module _ (parts : List Part) (joins : ℕ → ℕ → Type 0) (well : AreDeclare
     },
   )
 
-pub ties_within : (parts : List Part) (ties : List Tie) → ((i j : ℕ) → Joins ties i j → IsAlike parts i j) → (k : ℕ) (d : Tie) → k < length ties → IsWithin (length (declared_of parts)) (get_or ties k d)
+pub ties_within : (parts : List PortPart) (ties : List Tie) → ((i j : ℕ) → Joins ties i j → IsAlike parts i j) → (k : ℕ) (d : Tie) → k < length ties → IsWithin (length (declared_of parts)) (get_or ties k d)
 ties_within parts ties alike k d h =
     let tie : Tie = get_or ties k d in
     let a = alike tie.left tie.right (k, h, get_or_default ties k tie d h) in
-    let l = length-map parts (λ (p : Part). p.declared) in
+    let l = length-map parts (λ (p : PortPart). p.declared) in
     let wl = slice_get_within parts tie.left a.left a.at_left in
     let wr = slice_get_within parts tie.right a.right a.at_right in
     record { left = omega (arith, wl, l); right = omega (arith, wr, l) }

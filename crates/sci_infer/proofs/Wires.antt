@@ -7,18 +7,18 @@ use Rattle.sci_infer.specs.Classes.{Joins}
 use Rattle.sci_infer.specs.declared.classes.Tie.{Tie}
 use Rattle.sci_net.specs.declared.Wire.{Wire}
 use Rattle.sci_net.specs.Parts.{Parts, wire_of}
-use Rattle.sci_infer.specs.declared.parts.Part.{Part}
-use Rattle.sci_infer.specs.declared.parts.Layout.{Layout}
+use Rattle.sci_infer.specs.declared.parts.PortPart.{PortPart}
+use Rattle.sci_infer.specs.declared.parts.PartLayout.{PartLayout}
 use Rattle.sci_infer.specs.declared.parts.Side.TheVariants.{Input, Output}
 use Rattle.sci_infer.specs.Typing.{IsAt}
 use Rattle.sci_infer.specs.PortParts.{parts_in, AreWired}
 use Rattle.sci_infer.specs.Layout.{IsLayout, IsOutputAt}
 use Rattle.sci_infer.specs.Ties.{IsWireTie, HasNoWireTie, WiresTied}
 
-pub part_at : (n : Parts) (l : Layout) (i : ℕ) (p : Part) → IsLayout n l → i < length l.parts.items → p ≡ get_or l.parts.items i p → IsAt (parts_in n) i p
-part_at n l i p ok inside is = subst (λ (ps : List Part). slice_get ps i ≡ Some p) ok.parts (slice_get_read l.parts.items (length l.parts.items) i p refl inside is)
+pub part_at : (n : Parts) (l : PartLayout) (i : ℕ) (p : PortPart) → IsLayout n l → i < length l.parts.items → p ≡ get_or l.parts.items i p → IsAt (parts_in n) i p
+part_at n l i p ok inside is = subst (λ (ps : List PortPart). slice_get ps i ≡ Some p) ok.parts (slice_get_read l.parts.items (length l.parts.items) i p refl inside is)
 
-pub wire_tie_is : (n : Parts) (i : ℕ) (p : Part) (w : Wire) (place : ℕ) → IsAt (parts_in n) i p → p.side ≡ Input → w ≡ wire_of n p.block p.port → IsOutputAt n w p.what place →
+pub wire_tie_is : (n : Parts) (i : ℕ) (p : PortPart) (w : Wire) (place : ℕ) → IsAt (parts_in n) i p → p.side ≡ Input → w ≡ wire_of n p.block p.port → IsOutputAt n w p.what place →
     IsWireTie n i (record { left = i; right = place })
 wire_tie_is n i p w place at side wired o =
     record {
@@ -36,14 +36,14 @@ wire_tie_is n i p w place at side wired o =
       only = λ j h.
           let same : h.input ≡ p = same_Some h.input p (sym h.at_input ∙ at) in
           let end : record { block = h.output.block; port = h.output.port } ≡ w =
-          sym h.wired ∙ (ap (λ (q : Part). wire_of n q.block q.port) same ∙ sym wired) in
-          o.only j h.output h.at_output (ap (λ (v : Wire). v.block) end) h.is_output (ap (λ (v : Wire). v.port) end) (sym h.same_part ∙ ap (λ (q : Part). q.what) same);
+          sym h.wired ∙ (ap (λ (q : PortPart). wire_of n q.block q.port) same ∙ sym wired) in
+          o.only j h.output h.at_output (ap (λ (v : Wire). v.block) end) h.is_output (ap (λ (v : Wire). v.port) end) (sym h.same_part ∙ ap (λ (q : PortPart). q.what) same);
     }
 
-pub no_wire_tie : (n : Parts) (i : ℕ) (p : Part) → IsAt (parts_in n) i p → p.side ≡ Output → HasNoWireTie n i
+pub no_wire_tie : (n : Parts) (i : ℕ) (p : PortPart) → IsAt (parts_in n) i p → p.side ≡ Output → HasNoWireTie n i
 no_wire_tie n i p at side j h =
     let same : h.input ≡ p = same_Some h.input p (sym h.at_input ∙ at) in
-    let clash : Input ≡ Output = sym h.is_input ∙ (ap (λ (q : Part). q.side) same ∙ side) in cc
+    let clash : Input ≡ Output = sym h.is_input ∙ (ap (λ (q : PortPart). q.side) same ∙ side) in cc
 
 pub wires_none : (n : Parts) (ties : List Tie) → WiresTied n 0 ties ties
 wires_none n ties = record { kept = λ i j h. h; sound = λ i j h. inl h; complete = λ i j h w. absurd (omega (arith, h)) }

@@ -1,12 +1,12 @@
 -- One answer is right.
 use Rattle.std.specs.Prelude.{◌≡◌, Result}
 use Rattle.sci_base.specs.Plain.{Violation}
-use Rattle.sci_infer.specs.declared.values.Verdict.{Verdict}
-use Rattle.sci_infer.specs.declared.values.Verdict.TheVariants.{Conflict, Open, Values}
+use Rattle.sci_infer.specs.declared.values.Resolution.{Resolution}
+use Rattle.sci_infer.specs.declared.values.Resolution.TheVariants.{Conflict, Open, Values}
 use Rattle.sci_net.specs.Parts.{Parts}
 use Rattle.sci_infer.specs.Answer.{IsAnswer}
 
-abbrev pub IsSameVerdict : Verdict → Verdict → Type 0
+abbrev pub IsSameVerdict : Resolution → Resolution → Type 0
 IsSameVerdict (Conflict i s) (Conflict j r) = (i ≡ j) × (s.least ≡ r.least) × (s.greatest ≡ r.greatest)
 IsSameVerdict (Conflict i s) (Open j) = ⊥
 IsSameVerdict (Conflict i s) (Values ws) = ⊥

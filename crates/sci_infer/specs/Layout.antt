@@ -3,8 +3,8 @@ use Rattle.std.specs.Prelude.{◌≡◌, ℕ, zero, suc, ℤ, ◌+◌, ◌*◌, 
 use Rattle.sci_forms.specs.declared.spec.Spec.{Spec}
 use Rattle.sci_net.specs.declared.Wire.{Wire}
 use Rattle.sci_net.specs.Parts.{Parts}
-use Rattle.sci_infer.specs.declared.parts.Layout.{Layout}
-use Rattle.sci_infer.specs.declared.parts.Part.{Part}
+use Rattle.sci_infer.specs.declared.parts.PartLayout.{PartLayout}
+use Rattle.sci_infer.specs.declared.parts.PortPart.{PortPart}
 use Rattle.sci_infer.specs.declared.parts.Side.{Side}
 use Rattle.sci_infer.specs.declared.parts.Side.TheVariants.{Input, Output}
 use Rattle.sci_infer.specs.declared.parts.What.{What}
@@ -31,7 +31,7 @@ start_of [] b = 0
 start_of (s ∷ ss) zero = 0
 start_of (s ∷ ss) (suc b) = (3 * length s.ins + 3 * length s.outs) + start_of ss b
 
-pub record IsLayout (n : Parts) (l : Layout) : Type 0 where
+pub record IsLayout (n : Parts) (l : PartLayout) : Type 0 where
   pub parts : l.parts.items ≡ parts_in n
   pub enough : length l.starts.items ≡ length n.specs
   pub starts : (b : ℕ) → b < length n.specs → slice_index l.starts.items b ≡ start_of n.specs b
@@ -40,4 +40,4 @@ pub record IsLayout (n : Parts) (l : Layout) : Type 0 where
 pub record IsOutputAt (n : Parts) (w : Wire) (what : What) (place : ℕ) : Type 0 where
   pub declared : ℤ
   pub at : IsAt (parts_in n) place (record { block = w.block; side = Output; port = w.port; what = what; declared = declared })
-  pub only : (j : ℕ) (p : Part) → IsAt (parts_in n) j p → p.block ≡ w.block → p.side ≡ Output → p.port ≡ w.port → p.what ≡ what → j ≡ place
+  pub only : (j : ℕ) (p : PortPart) → IsAt (parts_in n) j p → p.block ≡ w.block → p.side ≡ Output → p.port ≡ w.port → p.what ≡ what → j ≡ place

@@ -18,7 +18,7 @@ mod typed;
 mod typing;
 pub mod values;
 
-use crate::values::Verdict;
+use crate::values::Resolution;
 use broken::net_broken;
 use parts::lay_out;
 use refusals::{blame, conflict, open};
@@ -57,9 +57,9 @@ pub fn infer(alloc: Global, flat: Flat) -> Result<Net, Stop>
 {
     let layout = lay_out(alloc, &flat)?;
     match verdict(alloc, &flat, &layout)? {
-        Verdict::Conflict(at, span) => Err(conflict(alloc, &flat, layout.parts[at], span)),
-        Verdict::Open(at) => Err(open(alloc, &flat, layout.parts[at])),
-        Verdict::Values(values) => finish(alloc, flat, values.as_slice()),
+        Resolution::Conflict(at, span) => Err(conflict(alloc, &flat, layout.parts[at], span)),
+        Resolution::Open(at) => Err(open(alloc, &flat, layout.parts[at])),
+        Resolution::Values(values) => finish(alloc, flat, values.as_slice()),
     }
 }
 

@@ -28,7 +28,7 @@ pub enum What {
 /// A part of a port, and the number that its block declares for it: a number above 0 is fixed, and any other is unknown. Block and
 /// port are counted from 1.
 #[derive(Clone, Copy, Drop)]
-pub struct Part {
+pub struct PortPart {
     pub block: u32,
     pub side: Side,
     pub port: u32,
@@ -38,8 +38,8 @@ pub struct Part {
 
 /// The parts of all ports in order, and where each block's parts start.
 #[derive(Drop)]
-pub struct Layout {
-    pub parts: Vec<Part>,
+pub struct PartLayout {
+    pub parts: Vec<PortPart>,
     pub starts: Vec<usize>,
 }
 
@@ -68,7 +68,7 @@ impl What {
 
 /// The three parts of a port.
 fn push_port(
-    parts: &mut Vec<Part>,
+    parts: &mut Vec<PortPart>,
     block: u32,
     side: Side,
     port: u32,
@@ -76,21 +76,21 @@ fn push_port(
 ) -> Result<(), NoMemory>
     ensures { OnOk result (parts.new.items ≡ parts.old.items ++ port_parts block side port declared) }
 {
-    parts.push(Part {
+    parts.push(PortPart {
         block,
         side,
         port,
         what: What::DataType,
         declared: declared.ty,
     })?;
-    parts.push(Part {
+    parts.push(PortPart {
         block,
         side,
         port,
         what: What::Rows,
         declared: declared.rows,
     })?;
-    parts.push(Part {
+    parts.push(PortPart {
         block,
         side,
         port,
@@ -101,7 +101,12 @@ fn push_port(
 }
 
 /// The parts of one side of a block.
-fn push_side(parts: &mut Vec<Part>, block: u32, side: Side, ports: &Ports) -> Result<(), NoMemory>
+fn push_side(
+    parts: &mut Vec<PortPart>,
+    block: u32,
+    side: Side,
+    ports: &Ports,
+) -> Result<(), NoMemory>
     requires { length ports.now ≤ PORTS }
     ensures { OnOk result (parts.new.items ≡ parts.old.items ++ side_parts block side 1 ports.now) }
 {
@@ -112,7 +117,7 @@ fn push_side(parts: &mut Vec<Part>, block: u32, side: Side, ports: &Ports) -> Re
 }
 
 /// The parts of a block.
-fn push_block(parts: &mut Vec<Part>, number: u32, spec: &Spec) -> Result<(), NoMemory>
+fn push_block(parts: &mut Vec<PortPart>, number: u32, spec: &Spec) -> Result<(), NoMemory>
     requires ins { length spec.now.ins ≤ PORTS }
     requires outs { length spec.now.outs ≤ PORTS }
     ensures { OnOk result (parts.new.items ≡ parts.old.items ++ block_parts number spec.now) }
@@ -123,7 +128,7 @@ fn push_block(parts: &mut Vec<Part>, number: u32, spec: &Spec) -> Result<(), NoM
 }
 
 /// The parts of a flat net's ports, and where each block's start.
-pub fn lay_out(alloc: Global, flat: &Flat) -> Result<Layout, NoMemory>
+pub fn lay_out(alloc: Global, flat: &Flat) -> Result<PartLayout, NoMemory>
     ensures { IfOk result (λ l. IsLayout flat.now l) }
 {
     flat.well_formed();
@@ -133,5 +138,5 @@ pub fn lay_out(alloc: Global, flat: &Flat) -> Result<Layout, NoMemory>
         starts.push(parts.len())?;
         push_block(&mut parts, at + 1, flat.spec(at + 1))?;
     }
-    Ok(Layout { parts, starts })
+    Ok(PartLayout { parts, starts })
 }

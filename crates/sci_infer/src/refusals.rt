@@ -4,8 +4,8 @@ ghost use Rattle.sci_base.specs.Stops.{IsViolation};
 ghost use Rattle.sci_infer.specs.Broken.{violation};
 ghost use Rattle.sci_infer.specs.Answer.{side_number, conflict_of, open_of};
 
-use crate::parts::{Part, Side, What};
-use crate::values::Span;
+use crate::parts::{PortPart, Side, What};
+use crate::values::Extremes;
 use sci_base::{Rule, Stop};
 use sci_forms::Broken;
 use sci_net::{Flat, Wiring};
@@ -21,7 +21,7 @@ fn side_number(side: Side) -> i64
 }
 
 /// The refusal of a part with two declared numbers: it shows side and port, of a size the part, and the numbers.
-pub fn conflict(alloc: Global, flat: &Flat, part: Part, span: Span) -> Stop
+pub fn conflict(alloc: Global, flat: &Flat, part: PortPart, span: Extremes) -> Stop
     requires least { 1 ≤ part.block }
     requires most { part.block ≤ length flat.now.specs }
     ensures { IsViolation (conflict_of flat.now part span) result }
@@ -29,7 +29,7 @@ pub fn conflict(alloc: Global, flat: &Flat, part: Part, span: Span) -> Stop
     let path = flat.path(part.block).path.as_slice();
     let side = side_number(part.side);
     let port = i64::from(part.port);
-    let Span { least, greatest } = span;
+    let Extremes { least, greatest } = span;
     match part.what {
         What::DataType => Stop::by(
             alloc,
@@ -53,7 +53,7 @@ pub fn conflict(alloc: Global, flat: &Flat, part: Part, span: Span) -> Stop
 }
 
 /// The refusal of a part that nothing decides: it shows side and port, and of a size the part.
-pub fn open(alloc: Global, flat: &Flat, part: Part) -> Stop
+pub fn open(alloc: Global, flat: &Flat, part: PortPart) -> Stop
     requires least { 1 ≤ part.block }
     requires most { part.block ≤ length flat.now.specs }
     ensures { IsViolation (open_of flat.now part) result }

@@ -1,17 +1,17 @@
 // The ties of parts: along wires, and by equal negative numbers of one block.
 ghost use Rattle.std.specs.Prelude.{◌≡◌, ◌<◌, ◌≤◌, ◌<ℤ◌, ◌↔◌, pos, length, IsTrue, IfSome, IfNone, OnOk};
-ghost use Rattle.sci_net.specs.Parts.{IsOutput};
+ghost use Rattle.sci_net.specs.Parts.{Parts, IsOutput};
 ghost use Rattle.sci_infer.specs.PortParts.{parts_in};
 ghost use Rattle.sci_infer.specs.Layout.{IsLayout, IsOutputAt};
 ghost use Rattle.sci_infer.specs.Ties.{IsLike, IsWireTie, HasNoWireTie, WiresTied, IsFirstLike, BeginsAt, IsSharedTie, HasNoSharedTie, SharedTied};
 
 use crate::classes::Tie;
-use crate::parts::{Layout, Part, Side, What};
+use crate::parts::{PartLayout, PortPart, Side, What};
 use sci_base::NoMemory;
 use sci_net::{Flat, Wire};
 
 /// Where a part of an output stands.
-fn output_place(flat: &Flat, layout: &Layout, wire: Wire, what: What) -> usize
+fn output_place(flat: &Flat, layout: &PartLayout, wire: Wire, what: What) -> usize
     requires layout { IsLayout flat.now layout.now }
     requires wire { IsOutput flat.now wire.block wire.port }
     ensures { IsOutputAt flat.now wire what result }
@@ -23,7 +23,7 @@ fn output_place(flat: &Flat, layout: &Layout, wire: Wire, what: What) -> usize
 }
 
 /// The tie of the part at a place to the output that feeds it, if it is an input's.
-fn wire_tie(flat: &Flat, layout: &Layout, at: usize) -> Option<Tie>
+fn wire_tie(flat: &Flat, layout: &PartLayout, at: usize) -> Option<Tie>
     requires layout { IsLayout flat.now layout.now }
     requires within { at < length layout.now.parts.items }
     ensures some { IfSome result (λ t. IsWireTie flat.now at t) }
@@ -42,7 +42,7 @@ fn wire_tie(flat: &Flat, layout: &Layout, at: usize) -> Option<Tie>
 }
 
 /// The ties along wires.
-pub fn tie_wires(flat: &Flat, layout: &Layout, ties: &mut Vec<Tie>) -> Result<(), NoMemory>
+pub fn tie_wires(flat: &Flat, layout: &PartLayout, ties: &mut Vec<Tie>) -> Result<(), NoMemory>
     requires layout { IsLayout flat.now layout.now }
     ensures { OnOk result (WiresTied flat.now (length (parts_in flat.now)) ties.old.items ties.new.items) }
 {
@@ -55,7 +55,7 @@ pub fn tie_wires(flat: &Flat, layout: &Layout, ties: &mut Vec<Tie>) -> Result<()
 }
 
 /// Whether two parts have one number in one block, both of types or both of sizes.
-fn is_like(left: &Part, right: &Part) -> bool
+fn is_like(left: &PortPart, right: &PortPart) -> bool
     ensures { IsTrue result ↔ IsLike left.now right.now }
 {
     left.block == right.block
@@ -64,7 +64,7 @@ fn is_like(left: &Part, right: &Part) -> bool
 }
 
 /// The first part, not before `start`, that is like the one at a place.
-fn first_like(parts: &[Part], start: usize, at: usize) -> usize
+fn first_like(parts: &[PortPart], start: usize, at: usize) -> usize
     requires within { at < length parts.now }
     requires start { start ≤ at }
     requires begins { BeginsAt parts.now start at }
@@ -79,18 +79,18 @@ fn first_like(parts: &[Part], start: usize, at: usize) -> usize
 }
 
 /// Whether the block leaves a number open that other parts of it may share.
-fn is_negative(part: &Part) -> bool
+fn is_negative(part: &PortPart) -> bool
     ensures { IsTrue result ↔ (part.now.declared <ℤ pos 0) }
 {
     part.declared < 0
 }
 
 /// The tie of the part at a place to the first of its block with its negative number.
-fn shared_tie(_flat: &Flat, layout: &Layout, at: usize) -> Option<Tie>
-    requires layout { IsLayout _flat.now layout.now }
+fn shared_tie(layout: &PartLayout, at: usize) -> Option<Tie>
+    requires layout { (n : Parts) × IsLayout n layout.now }
     requires within { at < length layout.now.parts.items }
-    ensures some { IfSome result (λ t. IsSharedTie _flat.now at t) }
-    ensures none { IfNone result (HasNoSharedTie _flat.now at) }
+    ensures some { IfSome result (λ t. IsSharedTie layout.now.parts.items at t) }
+    ensures none { IfNone result (HasNoSharedTie layout.now.parts.items at) }
 {
     let part = layout.parts[at];
     if is_negative(&part) {
@@ -103,12 +103,12 @@ fn shared_tie(_flat: &Flat, layout: &Layout, at: usize) -> Option<Tie>
 }
 
 /// The ties by negative numbers.
-pub fn tie_shared(flat: &Flat, layout: &Layout, ties: &mut Vec<Tie>) -> Result<(), NoMemory>
-    requires { IsLayout flat.now layout.now }
-    ensures { OnOk result (SharedTied flat.now (length (parts_in flat.now)) ties.old.items ties.new.items) }
+pub fn tie_shared(layout: &PartLayout, ties: &mut Vec<Tie>) -> Result<(), NoMemory>
+    requires { (n : Parts) × IsLayout n layout.now }
+    ensures { OnOk result (SharedTied layout.now.parts.items (length layout.now.parts.items) ties.old.items ties.new.items) }
 {
     for at in 0..layout.parts.len() {
-        if let Some(tie) = shared_tie(flat, layout, at) {
+        if let Some(tie) = shared_tie(layout, at) {
             ties.push(tie)?;
         }
     }

@@ -10,16 +10,16 @@ use std::alloc::Global;
 
 /// The least and the greatest of some numbers.
 #[derive(Clone, Copy, Debug, Drop)]
-pub struct Span {
+pub struct Extremes {
     pub least: i64,
     pub greatest: i64,
 }
 
 /// What the declared numbers say.
 #[derive(Drop)]
-pub enum Verdict {
+pub enum Resolution {
     /// The class of this number has two declared ones.
-    Conflict(usize, Span),
+    Conflict(usize, Extremes),
     /// The class of this number has no declared one.
     Open(usize),
     /// The values.
@@ -35,17 +35,17 @@ fn is_declared(declared: &[i64], at: usize) -> bool
 }
 
 /// A span with one more number.
-fn widen(span: Option<Span>, declared: &[i64], at: usize) -> Span
+fn widen(span: Option<Extremes>, declared: &[i64], at: usize) -> Extremes
     requires { at < length declared.now }
     ensures { result ≡ widened span (declared_at declared.now at) }
 {
     let v = declared[at];
     match span {
-        None => Span {
+        None => Extremes {
             least: v,
             greatest: v,
         },
-        Some(s) => Span {
+        Some(s) => Extremes {
             least: s.least.min(v),
             greatest: s.greatest.max(v),
         },
@@ -53,7 +53,11 @@ fn widen(span: Option<Span>, declared: &[i64], at: usize) -> Span
 }
 
 /// The spans of the labels' declared numbers.
-fn spans(alloc: Global, declared: &[i64], labels: &[usize]) -> Result<Vec<Option<Span>>, NoMemory>
+fn spans(
+    alloc: Global,
+    declared: &[i64],
+    labels: &[usize],
+) -> Result<Vec<Option<Extremes>>, NoMemory>
     requires length { length labels.now ≡ length declared.now }
     requires labels { (i : ℕ) → i < length labels.now → slice_index labels.now i < length labels.now }
     ensures length { IfOk result (λ v. length v.items ≡ length labels.now) }
@@ -70,14 +74,14 @@ fn spans(alloc: Global, declared: &[i64], labels: &[usize]) -> Result<Vec<Option
 }
 
 /// Whether a span has one number.
-fn is_one(span: &Span) -> bool
+fn is_one(span: &Extremes) -> bool
     ensures { IsTrue result ↔ (span.now.least ≡ span.now.greatest) }
 {
     span.least == span.greatest
 }
 
 /// The first thing whose label has two declared numbers.
-fn first_split(labels: &[usize], spans: &[Option<Span>]) -> Option<(usize, Span)>
+fn first_split(labels: &[usize], spans: &[Option<Extremes>]) -> Option<(usize, Extremes)>
     requires { (i : ℕ) → i < length labels.now → slice_index labels.now i < length spans.now }
     ensures some { IfSome result (λ r. IsSplitAt labels.now spans.now r.0 r.1) }
     ensures none { IfNone result (AreOne labels.now spans.now (length labels.now)) }
@@ -93,29 +97,29 @@ fn first_split(labels: &[usize], spans: &[Option<Span>]) -> Option<(usize, Span)
 }
 
 /// The values of the labels, or the first thing whose label has none.
-fn fill(alloc: Global, labels: &[usize], spans: &[Option<Span>]) -> Result<Verdict, NoMemory>
+fn fill(alloc: Global, labels: &[usize], spans: &[Option<Extremes>]) -> Result<Resolution, NoMemory>
     requires { (i : ℕ) → i < length labels.now → slice_index labels.now i < length spans.now }
     ensures { IfOk result (λ v. IsFilled labels.now spans.now v) }
 {
     let mut values = Vec::new(alloc);
     for i in 0..labels.len() {
         match spans[labels[i]] {
-            None => return Ok(Verdict::Open(i)),
+            None => return Ok(Resolution::Open(i)),
             Some(span) => values.push(span.least)?,
         }
     }
-    Ok(Verdict::Values(values))
+    Ok(Resolution::Values(values))
 }
 
 /// What the declared numbers say of the classes that ties make.
-pub fn judge(alloc: Global, declared: &[i64], ties: &[Tie]) -> Result<Verdict, NoMemory>
+pub fn judge(alloc: Global, declared: &[i64], ties: &[Tie]) -> Result<Resolution, NoMemory>
     requires { All (IsWithin (length declared.now)) ties.now }
     ensures { IfOk result (λ v. IsVerdict (Joins ties.now) declared.now v) }
 {
     let labels = classes(alloc, declared.len(), ties)?;
     let spans = spans(alloc, declared, labels.as_slice())?;
     match first_split(labels.as_slice(), spans.as_slice()) {
-        Some((at, span)) => Ok(Verdict::Conflict(at, span)),
+        Some((at, span)) => Ok(Resolution::Conflict(at, span)),
         None => fill(alloc, labels.as_slice(), spans.as_slice()),
     }
 }

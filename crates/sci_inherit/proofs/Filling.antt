@@ -11,7 +11,7 @@ use Rattle.sci_loop.specs.Lists.{plain, list_at, Adds}
 use Rattle.sci_loop.proofs.Adding.{none-there, adds-one}
 use Rattle.sci_net.specs.declared.Feed.{Feed}
 use Rattle.sci_net.specs.Parts.{Parts, IsBlock, spec_of}
-use Rattle.sci_inherit.specs.Links.{Upto, plain_rows, row_at, HasRow, HaveRows, AreEmptyRows, Fills}
+use Rattle.sci_inherit.specs.Followers.{Upto, plain_rows, row_at, HasRow, HaveRows, AreEmptyRows, Fills}
 use Rattle.sci_inherit.proofs.Giving.{upto_more}
 
 module _ {X : Type 0} where

@@ -17,7 +17,7 @@ use Rattle.sci_net.specs.Parts.{Parts, IsBlock, IsActivationOutput, spec_of, Are
 use Rattle.sci_net.specs.Net.{IsNet}
 use Rattle.sci_reaction.specs.Active.{Inherited, seeded, passed, Reaches}
 use Rattle.sci_inherit.proofs.Ordered.{precedes_yes}
-use Rattle.sci_inherit.specs.Links.{AreHeirs}
+use Rattle.sci_inherit.specs.Followers.{AreHeirs}
 use Rattle.sci_inherit.specs.Gather.{Goes, Pushes, Gathered, OfBlocks, OfPorts}
 
 -- ---- one output is put into the lists

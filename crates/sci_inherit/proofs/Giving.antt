@@ -6,7 +6,7 @@ use Rattle.std.proofs.lemmas.Bool.{cases_eq}
 use Rattle.std.proofs.lemmas.List.{length-map}
 use Rattle.sci_loop.specs.Lists.{plain, list_at, Adds}
 use Rattle.sci_loop.proofs.Adding.{adds-none, adds-same, adds-both, adds-one}
-use Rattle.sci_inherit.specs.Links.{Upto}
+use Rattle.sci_inherit.specs.Followers.{Upto}
 
 -- one step more
 pub upto_more : {P X : Type 0} (gives : ℕ → P → X → Type 0) (k : ℕ) (p : P) (x : X) → Upto gives (k + 1) p x ↔ (Upto gives k p x ⊎ gives k p x)

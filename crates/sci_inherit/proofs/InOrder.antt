@@ -8,7 +8,7 @@ use Rattle.std.proofs.lemmas.List.Quantifiers.{all_pairs_push}
 use Rattle.sci_net.specs.declared.Feed.{Feed}
 use Rattle.sci_net.specs.Parts.{AreRising, precedes}
 use Rattle.sci_inherit.specs.declared.Fed.{Fed}
-use Rattle.sci_inherit.specs.Links.{row_at, comes, AreInOrder, ComeBefore, Appends, Fills, FeedGets}
+use Rattle.sci_inherit.specs.Followers.{row_at, comes, AreInOrder, ComeBefore, Appends, Fills, FeedGets}
 use Rattle.sci_inherit.proofs.Ordered.{told, lt_yes, eq_yes, or_left, or_right, precedes_not_itself}
 
 -- ---- the order

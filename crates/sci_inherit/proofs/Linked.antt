@@ -12,7 +12,7 @@ use Rattle.sci_net.specs.Parts.{Parts, IsBlock, IsActivationInput, numbered, spe
 use Rattle.sci_net.specs.Net.{IsNet}
 use Rattle.sci_reaction.specs.Links.{Supplies}
 use Rattle.sci_inherit.specs.declared.Fed.{Fed}
-use Rattle.sci_inherit.specs.Links.{Upto, IsHeir, InputGives, HeirGiven, AreHeirs, HasRow, HaveRows, AreEmptyRows, Fills, RowGets, FeedGets, BlockFed, AreFilled, AreRows, FeedsSome, IsTarget, SenderGets, TargetGiven, AreTargets}
+use Rattle.sci_inherit.specs.Followers.{Upto, IsHeir, InputGives, HeirGiven, AreHeirs, HasRow, HaveRows, AreEmptyRows, Fills, RowGets, FeedGets, BlockFed, AreFilled, AreRows, FeedsSome, IsTarget, SenderGets, TargetGiven, AreTargets}
 use Rattle.sci_inherit.proofs.Giving.{upto_more}
 use Rattle.sci_inherit.proofs.Filling.{fills_both, have_rows_same, have_rows}
 

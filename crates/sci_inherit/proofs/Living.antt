@@ -20,7 +20,7 @@ use Rattle.sci_reaction.proofs.Spreading.{Spread-least, from_guard}
 use Rattle.sci_inherit.specs.declared.gather.Senders.{Senders}
 use Rattle.sci_inherit.specs.declared.gather.Senders.TheVariants.{Each, Synchronous}
 use Rattle.sci_inherit.specs.declared.Fed.{Fed}
-use Rattle.sci_inherit.specs.Links.{row_at, AreFedBy, AreRows, AreTargets}
+use Rattle.sci_inherit.specs.Followers.{row_at, AreFedBy, AreRows, AreTargets}
 use Rattle.sci_inherit.specs.Live.{IsLive, FedFrom, SetOffUpto, AreWanted, IsWanted, WantedTo}
 use Rattle.sci_inherit.specs.Gather.{IsSender}
 use Rattle.sci_inherit.proofs.Gathering.{reaches_block}

@@ -1,24 +1,27 @@
 -- What sources and blocks activate: from what they feed, and by a walk along heirs.
-use Rattle.std.proofs.Common.{◌≡◌, ◌<◌, ◌≤◌, ◌-◌, ◌↔◌, ◌∙◌, ℕ, List, ◌∷◌, [], ◌++◌, inl, inr, ⊎_elim, sym, ap, subst, arith, length, get_or, map, Vec}
+use Rattle.std.proofs.Common.{◌≡◌, ◌<◌, ◌≤◌, ◌-◌, ◌↔◌, ◌∙◌, ℕ, false, List, ◌∷◌, [], ◌++◌, inl, inr, ⊎_elim, sym, ap, subst, arith, length, get_or, map, Vec}
 use Rattle.std.specs.Prelude.{Contains, nat_eq}
 use Rattle.std.specs.List.{IsDistinct}
 use Rattle.std.specs.declared.alloc.Global.{Global}
 use Rattle.std.proofs.lemmas.Bool.{cases_eq, cases_lt}
-use Rattle.std.proofs.lemmas.List.{map-append, get_or-map, length-map, length-append, get_or_append_left}
+use Rattle.std.proofs.lemmas.List.{map-append, get_or-map, get_or_default, length-map, length-append, get_or_append_left}
 use Rattle.std.proofs.Math.Seq.{get_or-append_seam}
 use Rattle.std.proofs.lemmas.List.Elements.{Contains-append_left, Contains-push, Contains-push_cases, Contains-get_or}
 use Rattle.sci_loop.specs.Lists.{plain, list_at}
 use Rattle.sci_loop.specs.Reached.{IsReached}
+use Rattle.sci_forms.specs.Form.{is_sync}
 use Rattle.sci_net.specs.declared.Feed.{Feed}
 use Rattle.sci_net.specs.declared.Source.{Source}
 use Rattle.sci_net.specs.declared.Source.TheVariants.{Start, Port}
-use Rattle.sci_net.specs.Parts.{Parts, IsBlock}
+use Rattle.sci_net.specs.Parts.{Parts, IsBlock, IsActivationOutput, spec_of}
+use Rattle.sci_net.specs.Sources.{sources_of, source_of}
 use Rattle.sci_net.specs.Net.{IsNet}
 use Rattle.sci_reaction.specs.Links.{Feeds, IsConstant, SetOff}
 use Rattle.sci_reaction.specs.Active.{Inherited, seeded, passed, Reaches, IsAlways, IsSync}
 use Rattle.sci_reaction.specs.Depends.{Conditions}
+use Rattle.sci_reaction.proofs.Sources.{sources_are}
 use Rattle.sci_inherit.specs.declared.Fed.{Fed}
-use Rattle.sci_inherit.specs.Links.{AreHeirs, AreFedBy, FeedsSome}
+use Rattle.sci_inherit.specs.Followers.{AreHeirs, AreFedBy, FeedsSome}
 use Rattle.sci_inherit.specs.Gather.{AreEach, AreSetOff, AreAlways, AreFeeding, AreConstants, IsFed, AreOnward}
 use Rattle.sci_inherit.proofs.Linked.{input_inside}
 use Rattle.sci_inherit.proofs.Gathering.{walked_is, reaches_output}
@@ -46,6 +49,16 @@ each_pushed {X} is k old new v e count here before i h = ⊎_elim
 
     long : length (plain old) ≡ length old
     long = length-map old (λ (w : Vec X Global). w.items)
+
+-- ---- the source at a place
+
+-- an activation output
+pub output_at : (n : Parts) (k : ℕ) (q : Feed) → k < length (sources_of n) → Port q ≡ source_of n k → IsActivationOutput n q.block q.port × (is_sync (spec_of n q.block).kind ≡ false)
+output_at n k q h e = (sources_are n (Port q)).0 (k, h, get_or_default (sources_of n) k (Port q) Start h ∙ sym e)
+
+-- start feeds none
+pub start_feeds : (n : Parts) → AreFeeding n Start []
+start_feeds n f = ((λ has. nothing f has), λ none. absurd none)
 
 -- ---- the blocks of activation inputs
 

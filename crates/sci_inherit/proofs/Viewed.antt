@@ -17,7 +17,7 @@ use Rattle.sci_reaction.specs.Depends.{Conditions}
 use Rattle.sci_inherit.specs.declared.Fed.{Fed}
 use Rattle.sci_inherit.specs.declared.gather.Senders.TheVariants.{Each, Synchronous}
 use Rattle.sci_loop.specs.Walk.{IsMarked}
-use Rattle.sci_inherit.specs.Links.{AreInOrder}
+use Rattle.sci_inherit.specs.Followers.{AreInOrder}
 use Rattle.sci_inherit.specs.Live.{IsLive, AreWanted}
 use Rattle.sci_inherit.specs.Gather.{AreEach, AreFeeding, AreAlways, AreOnward, IsSender, Gathered, OfBlocks}
 use Rattle.sci_inherit.specs.Origins.{AreOrigins}

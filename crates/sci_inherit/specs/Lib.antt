@@ -1,5 +1,5 @@
 pub mod Origins
-pub mod Links
+pub mod Followers
 pub mod Live
 pub mod Gather
 pub mod ByBlock

@@ -5,7 +5,7 @@ use Rattle.sci_net.specs.declared.Source.{Source}
 use Rattle.sci_net.specs.Parts.{Parts, IsBlock}
 use Rattle.sci_reaction.specs.Links.{IsConstant, IsSource}
 use Rattle.sci_reaction.specs.Active.{IsSync, Possible}
-use Rattle.sci_inherit.specs.Links.{FeedsSome}
+use Rattle.sci_inherit.specs.Followers.{FeedsSome}
 
 -- some source may activate b
 pub record IsLive (n : Parts) (b : ℕ) : Type 0 where

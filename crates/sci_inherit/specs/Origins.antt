@@ -9,7 +9,7 @@ use Rattle.sci_reaction.specs.Links.{SourceFeeds}
 use Rattle.sci_reaction.specs.Active.{Reaches, IsAlways, IsSync}
 use Rattle.sci_reaction.specs.Depends.{Conditions}
 use Rattle.sci_inherit.specs.declared.Fed.{Fed}
-use Rattle.sci_inherit.specs.Links.{AreInOrder}
+use Rattle.sci_inherit.specs.Followers.{AreInOrder}
 use Rattle.sci_inherit.specs.Live.{IsLive}
 
 -- By source, in the net's order: the blocks that it activates whatever the values are, and the activation inputs that it feeds. By block,

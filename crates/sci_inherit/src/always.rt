@@ -1,15 +1,15 @@
 // The lists by source: the activation inputs that it feeds, and the blocks that it activates whatever the values are.
-ghost use Rattle.std.specs.Prelude.{◌≡◌, ℕ, ◌≤◌, ◌+◌, ◌-◌, ◌↔◌, length, map, Contains, IfOk, OnOk, IsTrue, vec_len};
+ghost use Rattle.std.specs.Prelude.{◌≡◌, ℕ, ◌<◌, ◌≤◌, ◌+◌, ◌-◌, ◌↔◌, length, map, Contains, IfOk, OnOk, IsTrue, vec_len};
 ghost use Rattle.sci_loop.specs.Lists.{plain};
 ghost use Rattle.sci_net.specs.Sources.{sources_of, source_of};
-ghost use Rattle.sci_reaction.specs.Links.{IsConstant, IsSource};
+ghost use Rattle.sci_reaction.specs.Links.{IsConstant};
 ghost use Rattle.sci_reaction.specs.Active.{IsAlways};
-ghost use Rattle.sci_inherit.specs.Links.{AreLinks, AreFedRows, AreInOrder};
+ghost use Rattle.sci_inherit.specs.Followers.{AreFollowers, AreFedRows, AreInOrder};
 ghost use Rattle.sci_inherit.specs.Live.{HaveSources};
 ghost use Rattle.sci_inherit.specs.Gather.{AreEach, AreFeeding, AreSetOff, AreAlways, AreConstants};
 
 use crate::Fed;
-use crate::links::Links;
+use crate::followers::Followers;
 use crate::rows::FedRows;
 use sci_base::NoMemory;
 use sci_loop::walk::Walk;
@@ -63,17 +63,17 @@ pub fn blocks_of(alloc: Global, fed: &[Fed]) -> Result<Vec<u32>, NoMemory>
     Ok(blocks)
 }
 
-// The activation inputs that a source feeds.
-fn fed_by<'a>(_net: &Net, rows: &'a FedRows, source: Source) -> &'a [Fed]
-    requires rows { AreFedRows _net.now rows.now }
-    requires wanted { HaveSources _net.now rows.now.wanted.items }
-    requires source { IsSource _net.now source }
-    ensures feeding { AreFeeding _net.now source result.now }
+// The activation inputs that the source at this place feeds.
+fn fed_by<'a>(net: &Net, rows: &'a FedRows, at: u32) -> &'a [Fed]
+    requires rows { AreFedRows net.now rows.now }
+    requires wanted { HaveSources net.now rows.now.wanted.items }
+    requires source { at < length (sources_of net.now) }
+    ensures feeding { AreFeeding net.now (source_of net.now at) result.now }
     ensures in_order { AreInOrder result.now }
 {
-    match source {
+    match net.source(at) {
         Source::Start => &[],
-        Source::Port(feed) => rows.fed[feed.block as usize][feed.port as usize].as_slice(),
+        Source::Port(feed) => rows.of_output(feed),
     }
 }
 
@@ -87,7 +87,7 @@ pub fn feeding(alloc: Global, net: &Net, rows: &FedRows) -> Result<Vec<Vec<Fed>>
 {
     let mut feeding = Vec::new(alloc);
     for at in 0..net.source_count() {
-        let fed = fed_by(net, rows, net.source(at));
+        let fed = fed_by(net, rows, at);
         feeding.push(Vec::from_slice(alloc, fed)?)?;
     }
     Ok(feeding)
@@ -109,12 +109,12 @@ fn set_off(alloc: Global, net: &Net, source: Source, fed: &[Fed]) -> Result<Vec<
 pub fn find_always(
     alloc: Global,
     net: &Net,
-    links: &Links,
+    links: &Followers,
     walk: &mut Walk,
     source: Source,
     fed: &[Fed],
 ) -> Result<(), NoMemory>
-    requires links { AreLinks net.now links.now }
+    requires links { AreFollowers net.now links.now }
     requires walk { walk.old.count ≡ length net.now.specs + 1 }
     requires fed { AreFeeding net.now source fed.now }
     ensures always { OnOk result ((b : ℕ) → Contains walk.new.found b ↔ IsAlways net.now source b) }
@@ -129,12 +129,12 @@ pub fn find_always(
 fn always_of(
     alloc: Global,
     net: &Net,
-    links: &Links,
+    links: &Followers,
     walk: &mut Walk,
     source: Source,
     fed: &[Fed],
 ) -> Result<Vec<u32>, NoMemory>
-    requires links { AreLinks net.now links.now }
+    requires links { AreFollowers net.now links.now }
     requires walk { walk.old.count ≡ length net.now.specs + 1 }
     requires fed { AreFeeding net.now source fed.now }
     ensures always { IfOk result (λ v. AreAlways net.now source v.items) }
@@ -148,11 +148,11 @@ fn always_of(
 pub fn always(
     alloc: Global,
     net: &Net,
-    links: &Links,
+    links: &Followers,
     walk: &mut Walk,
     feeding: &[Vec<Fed>],
 ) -> Result<Vec<Vec<u32>>, NoMemory>
-    requires links { AreLinks net.now links.now }
+    requires links { AreFollowers net.now links.now }
     requires walk { walk.old.count ≡ length net.now.specs + 1 }
     requires feeding { AreEach (λ k fs. AreFeeding net.now (source_of net.now k) fs) (plain feeding.now) }
     requires len { length feeding.now ≡ length (sources_of net.now) }

@@ -1,12 +1,12 @@
 // What activates each block, by block: the activation outputs that reach it, and start.
 ghost use Rattle.std.specs.Prelude.{◌≡◌, ◌≤◌, ◌+◌, [], false, length, IfOk};
 ghost use Rattle.sci_net.specs.Parts.{numbered};
-ghost use Rattle.sci_inherit.specs.Links.{AreLinks};
+ghost use Rattle.sci_inherit.specs.Followers.{AreFollowers};
 ghost use Rattle.sci_inherit.specs.ByBlock.{AreByBlock, AreMarksOf, AreAtStart};
 
 use crate::always::find_always;
+use crate::followers::Followers;
 use crate::gather::{Senders, reaching};
-use crate::links::Links;
 use crate::rows::FedRows;
 use sci_base::NoMemory;
 use sci_loop::walk::Walk;
@@ -66,8 +66,13 @@ fn marks(alloc: Global, net: &Net, walk: &Walk) -> Result<Vec<bool>, NoMemory>
 }
 
 // By block, whether start activates it.
-fn at_start(alloc: Global, net: &Net, links: &Links, walk: &mut Walk) -> Result<Vec<bool>, NoMemory>
-    requires links { AreLinks net.now links.now }
+fn at_start(
+    alloc: Global,
+    net: &Net,
+    links: &Followers,
+    walk: &mut Walk,
+) -> Result<Vec<bool>, NoMemory>
+    requires links { AreFollowers net.now links.now }
     requires walk { walk.old.count ≡ length net.now.specs + 1 }
     ensures { IfOk result (λ v. AreAtStart net.now v.items) }
 {
@@ -80,7 +85,7 @@ pub fn made(alloc: Global, net: &Net) -> Result<ReachByBlock, NoMemory>
     ensures { IfOk result (λ r. AreByBlock net.now r) }
 {
     net.well_formed();
-    let links = Links::of(alloc, net)?;
+    let links = Followers::of(alloc, net)?;
     let all = vec![in alloc; true; net.len() as usize + 1]?;
     let rows = FedRows::of(alloc, net, all)?;
     let mut walk = Walk::new(alloc, net.len() as usize + 1)?;

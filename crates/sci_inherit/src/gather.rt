@@ -2,13 +2,15 @@
 ghost use Rattle.std.specs.Prelude.{◌≡◌, ℕ, ◌≤◌, ◌+◌, ◌-◌, ◌↔◌, length, All, Contains, IfOk, OnOk, IsTrue, vec_len, nat_eq};
 ghost use Rattle.std.specs.List.{IsDistinct};
 ghost use Rattle.sci_loop.specs.Lists.{plain};
+ghost use Rattle.sci_loop.specs.Walk.{IsMarked};
 ghost use Rattle.sci_reaction.specs.Active.{Reaches, IsSync};
-ghost use Rattle.sci_inherit.specs.Links.{AreFedBy, AreLinks, AreFedRows};
+ghost use Rattle.sci_inherit.specs.declared.gather.Senders.{Senders};
+ghost use Rattle.sci_inherit.specs.Followers.{AreFedBy, AreFollowers, AreFedRows};
 ghost use Rattle.sci_inherit.specs.Gather.{AreEach, Pushes, IsSender, Gathered, OfBlocks, AreOnward};
 
 use crate::Fed;
 use crate::always::blocks_of;
-use crate::links::Links;
+use crate::followers::Followers;
 use crate::rows::FedRows;
 use sci_base::NoMemory;
 use sci_loop::walk::{Walk, empty_lists, push_at};
@@ -42,12 +44,12 @@ fn gather_output(
     alloc: Global,
     reaching: &mut Vec<Vec<Feed>>,
     net: &Net,
-    links: &Links,
+    links: &Followers,
     walk: &mut Walk,
     feed: Feed,
     fed: &[Fed],
 ) -> Result<(), NoMemory>
-    requires links { AreLinks net.now links.now }
+    requires links { AreFollowers net.now links.now }
     requires walk { walk.old.count ≡ length net.now.specs + 1 }
     requires fed { AreFedBy net.now feed fed.now }
     requires len { vec_len reaching.old ≡ length net.now.specs }
@@ -61,25 +63,26 @@ fn gather_output(
     push_to_all(reaching, walk.found(), feed)
 }
 
-// Gathers the activation outputs of a block that is to send them.
+// Gathers the activation outputs of a block whose rows are filled.
 fn gather_ports(
     alloc: Global,
     reaching: &mut Vec<Vec<Feed>>,
     net: &Net,
-    links: &Links,
+    links: &Followers,
     rows: &FedRows,
     walk: &mut Walk,
-    _senders: Senders,
     block: u32,
 ) -> Result<(), NoMemory>
     requires least { 1 ≤ block }
     requires most { block ≤ length net.now.specs }
-    requires sender { IsSender net.now rows.now.wanted.items _senders block }
-    requires links { AreLinks net.now links.now }
+    requires wanted { IsMarked rows.now.wanted.items block }
+    requires links { AreFollowers net.now links.now }
     requires rows { AreFedRows net.now rows.now }
     requires walk { walk.old.count ≡ length net.now.specs + 1 }
-    requires gathered { Gathered net.now (OfBlocks (IsSender net.now rows.now.wanted.items _senders) (block - 1)) (plain reaching.old.items) }
-    ensures gathered { OnOk result (Gathered net.now (OfBlocks (IsSender net.now rows.now.wanted.items _senders) block) (plain reaching.new.items)) }
+    requires len { vec_len reaching.old ≡ length net.now.specs }
+    ensures gathered { OnOk result ((s : Senders) → IsSender net.now rows.now.wanted.items s block
+        → Gathered net.now (OfBlocks (IsSender net.now rows.now.wanted.items s) (block - 1)) (plain reaching.old.items)
+        → Gathered net.now (OfBlocks (IsSender net.now rows.now.wanted.items s) block) (plain reaching.new.items)) }
     ensures count { walk.new.count ≡ walk.old.count }
 {
     net.well_formed();
@@ -120,7 +123,7 @@ fn gather_block(
     alloc: Global,
     reaching: &mut Vec<Vec<Feed>>,
     net: &Net,
-    links: &Links,
+    links: &Followers,
     rows: &FedRows,
     walk: &mut Walk,
     senders: Senders,
@@ -128,7 +131,7 @@ fn gather_block(
 ) -> Result<(), NoMemory>
     requires least { 1 ≤ block }
     requires most { block ≤ length net.now.specs }
-    requires links { AreLinks net.now links.now }
+    requires links { AreFollowers net.now links.now }
     requires rows { AreFedRows net.now rows.now }
     requires walk { walk.old.count ≡ length net.now.specs + 1 }
     requires gathered { Gathered net.now (OfBlocks (IsSender net.now rows.now.wanted.items senders) (block - 1)) (plain reaching.old.items) }
@@ -136,7 +139,7 @@ fn gather_block(
     ensures count { walk.new.count ≡ walk.old.count }
 {
     if is_sender(net, rows, senders, block) {
-        gather_ports(alloc, reaching, net, links, rows, walk, senders, block)
+        gather_ports(alloc, reaching, net, links, rows, walk, block)
     } else {
         Ok(())
     }
@@ -146,12 +149,12 @@ fn gather_block(
 pub fn reaching(
     alloc: Global,
     net: &Net,
-    links: &Links,
+    links: &Followers,
     rows: &FedRows,
     walk: &mut Walk,
     senders: Senders,
 ) -> Result<Vec<Vec<Feed>>, NoMemory>
-    requires links { AreLinks net.now links.now }
+    requires links { AreFollowers net.now links.now }
     requires rows { AreFedRows net.now rows.now }
     requires walk { walk.old.count ≡ length net.now.specs + 1 }
     ensures gathered { IfOk result (λ v. Gathered net.now (OfBlocks (IsSender net.now rows.now.wanted.items senders) (length net.now.specs)) (plain v.items)) }
@@ -178,14 +181,14 @@ pub fn reaching(
 fn onward_of_sync(
     alloc: Global,
     net: &Net,
-    links: &Links,
+    links: &Followers,
     walk: &mut Walk,
     block: u32,
 ) -> Result<Vec<u32>, NoMemory>
     requires least { 1 ≤ block }
     requires most { block ≤ length net.now.specs }
     requires sync { IsSync net.now block }
-    requires links { AreLinks net.now links.now }
+    requires links { AreFollowers net.now links.now }
     requires walk { walk.old.count ≡ length net.now.specs + 1 }
     ensures onward { IfOk result (λ v. AreOnward net.now block v.items) }
     ensures count { walk.new.count ≡ walk.old.count }
@@ -199,13 +202,13 @@ fn onward_of_sync(
 fn onward_of(
     alloc: Global,
     net: &Net,
-    links: &Links,
+    links: &Followers,
     walk: &mut Walk,
     block: u32,
 ) -> Result<Vec<u32>, NoMemory>
     requires least { 1 ≤ block }
     requires most { block ≤ length net.now.specs }
-    requires links { AreLinks net.now links.now }
+    requires links { AreFollowers net.now links.now }
     requires walk { walk.old.count ≡ length net.now.specs + 1 }
     ensures onward { IfOk result (λ v. AreOnward net.now block v.items) }
     ensures count { walk.new.count ≡ walk.old.count }
@@ -221,10 +224,10 @@ fn onward_of(
 pub fn onward(
     alloc: Global,
     net: &Net,
-    links: &Links,
+    links: &Followers,
     walk: &mut Walk,
 ) -> Result<Vec<Vec<u32>>, NoMemory>
-    requires links { AreLinks net.now links.now }
+    requires links { AreFollowers net.now links.now }
     requires walk { walk.old.count ≡ length net.now.specs + 1 }
     ensures onward { IfOk result (λ v. AreEach (AreOnward net.now) (plain v.items)) }
     ensures len { IfOk result (λ v. vec_len v ≡ length net.now.specs + 1) }

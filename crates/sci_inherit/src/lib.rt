@@ -7,16 +7,16 @@ ghost use Rattle.sci_inherit.specs.Origins.{AreOrigins};
 
 mod always;
 mod by_block;
+mod followers;
 mod gather;
-mod links;
 mod live;
 mod reach;
 mod rows;
 
 use always::{always, feeding};
 pub use by_block::ReachByBlock;
+use followers::Followers;
 use gather::{Senders, onward, reaching};
-use links::Links;
 use live::{find_live, wanted};
 pub use reach::{Reach, contains};
 use rows::FedRows;
@@ -37,7 +37,7 @@ fn made(alloc: Global, net: &Net) -> Result<Reach, NoMemory>
     ensures { IfOk result (λ o. AreOrigins net.now o) }
 {
     net.well_formed();
-    let links = Links::of(alloc, net)?;
+    let links = Followers::of(alloc, net)?;
     let mut walk = Walk::new(alloc, net.len() as usize + 1)?;
     let onward = onward(alloc, net, &links, &mut walk)?;
     find_live(alloc, net, &links, &onward, &mut walk)?;

@@ -1,22 +1,22 @@
 // The blocks that some source may activate.
 ghost use Rattle.std.specs.Prelude.{◌≡◌, ℕ, ◌≤◌, ◌+◌, ◌⊎◌, ◌↔◌, length, Contains, IfOk, OnOk};
 ghost use Rattle.sci_loop.specs.Lists.{plain};
-ghost use Rattle.sci_inherit.specs.Links.{AreLinks};
+ghost use Rattle.sci_inherit.specs.Followers.{AreFollowers};
 ghost use Rattle.sci_inherit.specs.Live.{FedFrom, SetOffUpto, AreLive, IsWanted, AreWanted};
 ghost use Rattle.sci_inherit.specs.Gather.{AreEach, AreOnward};
 
 use crate::always::constants;
-use crate::links::Links;
+use crate::followers::Followers;
 use sci_base::NoMemory;
 use sci_loop::walk::Walk;
 use sci_net::Net;
 use std::alloc::Global;
 
 // Finds besides the blocks that the activation outputs of a block feed, if they are sources.
-fn add_targets(net: &Net, links: &Links, walk: &mut Walk, block: u32) -> Result<(), NoMemory>
+fn add_targets(net: &Net, links: &Followers, walk: &mut Walk, block: u32) -> Result<(), NoMemory>
     requires least { 1 ≤ block }
     requires most { block ≤ length net.now.specs }
-    requires links { AreLinks net.now links.now }
+    requires links { AreFollowers net.now links.now }
     requires walk { walk.old.count ≡ length net.now.specs + 1 }
     ensures found { OnOk result ((b : ℕ) → Contains walk.new.found b ↔ (Contains walk.old.found b ⊎ FedFrom net.now block b)) }
     ensures count { walk.new.count ≡ walk.old.count }
@@ -29,8 +29,13 @@ fn add_targets(net: &Net, links: &Links, walk: &mut Walk, block: u32) -> Result<
 }
 
 // Finds the blocks that some source sets off.
-fn find_set_off(alloc: Global, net: &Net, links: &Links, walk: &mut Walk) -> Result<(), NoMemory>
-    requires links { AreLinks net.now links.now }
+fn find_set_off(
+    alloc: Global,
+    net: &Net,
+    links: &Followers,
+    walk: &mut Walk,
+) -> Result<(), NoMemory>
+    requires links { AreFollowers net.now links.now }
     requires walk { walk.old.count ≡ length net.now.specs + 1 }
     ensures found { OnOk result ((b : ℕ) → Contains walk.new.found b ↔ SetOffUpto net.now (length net.now.specs) b) }
     ensures count { walk.new.count ≡ walk.old.count }
@@ -48,11 +53,11 @@ fn find_set_off(alloc: Global, net: &Net, links: &Links, walk: &mut Walk) -> Res
 pub fn find_live(
     alloc: Global,
     net: &Net,
-    links: &Links,
+    links: &Followers,
     onward: &[Vec<u32>],
     walk: &mut Walk,
 ) -> Result<(), NoMemory>
-    requires links { AreLinks net.now links.now }
+    requires links { AreFollowers net.now links.now }
     requires onward { AreEach (AreOnward net.now) (plain onward.now) }
     requires onward_long { length onward.now ≡ length net.now.specs + 1 }
     requires walk { walk.old.count ≡ length net.now.specs + 1 }

@@ -2,8 +2,8 @@
 ghost use Rattle.std.specs.Prelude.{◌≡◌, ◌≤◌, ◌+◌, ◌-◌, [], ◌∷◌, length, All, Contains, IfOk, OnOk};
 ghost use Rattle.sci_net.specs.Parts.{AreRising};
 ghost use Rattle.sci_net.specs.declared.Feed.{Feed};
-ghost use Rattle.sci_inherit.specs.Links.{row_at, AreInOrder, ComeBefore, Appends, plain_rows, HasRow, HaveRows, AreEmptyRows, Fills, RowGets, FeedGets};
-ghost use Rattle.sci_inherit.specs.Links.{BlockFed, AreRows};
+ghost use Rattle.sci_inherit.specs.Followers.{row_at, AreInOrder, ComeBefore, Appends, plain_rows, HasRow, HaveRows, AreEmptyRows, Fills, RowGets, FeedGets};
+ghost use Rattle.sci_inherit.specs.Followers.{BlockFed, AreRows};
 
 use crate::Fed;
 use sci_base::NoMemory;
@@ -118,7 +118,7 @@ fn rows(alloc: Global, net: &Net, wanted: &[bool]) -> Result<Vec<Vec<Vec<Fed>>>,
 }
 
 impl FedRows {
-    ghost use Rattle.sci_inherit.specs.Links.{AreFedRows};
+    ghost use Rattle.sci_inherit.specs.Followers.{AreFedRows};
 
     /// Those of a net, for the blocks that are wanted.
     pub fn of(alloc: Global, net: &Net, wanted: Vec<bool>) -> Result<FedRows, NoMemory>
@@ -128,5 +128,13 @@ impl FedRows {
     {
         let fed = rows(alloc, net, &wanted)?;
         Ok(FedRows { wanted, fed })
+    }
+
+    /// The activation inputs that an activation output feeds, if the rows of its block are filled; none otherwise.
+    pub fn of_output(&self, feed: Feed) -> &[Fed]
+        requires { HasRow (plain_rows self.now.fed.items) feed }
+        ensures { result.now ≡ row_at (plain_rows self.now.fed.items) feed }
+    {
+        self.fed[feed.block as usize][feed.port as usize].as_slice()
     }
 }

@@ -10,7 +10,7 @@ ghost use Rattle.sci_json.specs.Field.{holds, absent, field, formed, wholes, as_
 ghost use Rattle.sci_json.specs.Field.{PartStops, TruthsStop};
 
 use crate::document::{Items, Value};
-use sci_base::{Dep, Part};
+use sci_base::{Dep, DirectFeedthrough};
 use std::alloc::Global;
 
 pub mod document;
@@ -185,14 +185,14 @@ fn entries<'t, 'a>(found: &Value<'t, 'a>) -> Option<(Value<'t, 'a>, bool)>
     Some((first, second.as_bool()?))
 }
 
-fn part_of(alloc: Global, first: &Value<'_, '_>) -> Result<Part, FieldStop>
+fn part_of(alloc: Global, first: &Value<'_, '_>) -> Result<DirectFeedthrough, FieldStop>
     ensures ok { IfOk result (λ p. as_feedthrough (view first.now) ≡ Some (feedthrough_of p)) }
     ensures stop { IfErr result (λ e. PartStops (as_feedthrough (view first.now)) e) }
 {
     match first.items() {
-        Some(items) => Ok(Part::Each(truths(alloc, items)?)),
+        Some(items) => Ok(DirectFeedthrough::Each(truths(alloc, items)?)),
         None => match first.as_bool() {
-            Some(truth) => Ok(Part::All(truth)),
+            Some(truth) => Ok(DirectFeedthrough::All(truth)),
             None => Err(FieldStop::Wrong),
         },
     }

@@ -15,7 +15,7 @@ use Rattle.sci_run.specs.Run.{State, Over, Fires, comes_next, in_time}
 use Rattle.sci_store.specs.Blocks.{AreBlocksByNumber}
 use Rattle.sci_store.specs.Chosen.{active_of_kinds}
 use Rattle.sci_store.specs.Frame.{Fixed}
-use Rattle.sci_store.specs.Rows.{Row, IsReadyRow}
+use Rattle.sci_store.specs.Rows.{ReadyRow, IsReadyRow}
 use Rattle.sci_store.specs.Store.{Standing, ShowsValues}
 use Rattle.sci_store.specs.Written.{AreAmong}
 use Rattle.sci_store.proofs.Covering.{row_blocks}
@@ -25,7 +25,7 @@ use Rattle.sci_judge.proofs.Members.{filter_from, filter_to, not_same}
 
 -- ---- a block that ends the run
 
-module _ (f : Fixed) (r : Row) (ready : IsReadyRow f r) where
+module _ (f : Fixed) (r : ReadyRow) (ready : IsReadyRow f r) where
   abbrev ends : ℕ → Bool
   ends b = is_halt (spec_of f.net b).kind
 

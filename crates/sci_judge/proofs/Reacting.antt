@@ -34,11 +34,12 @@ use Rattle.sci_places.specs.Flat.{values_at}
 use Rattle.sci_bank.specs.Bank.{Meaning}
 use Rattle.sci_store.specs.Frame.{Fixed, IsFrame, AreSeated}
 use Rattle.sci_store.specs.Blocks.{AreBlocksByNumber}
-use Rattle.sci_store.specs.Rows.{Row, IsRowOf, IsReadyRow}
+use Rattle.sci_store.specs.Rows.{ReadyRow, IsRowOf, IsReadyRow}
 use Rattle.sci_store.specs.Runs.{MayStep}
 use Rattle.sci_store.specs.Store.{Standing, ShowsMemory, ShowsValues}
 use Rattle.sci_store.specs.Passed.{IsValued, IsPassed, IsStepped, AreAlikeCounts}
-use Rattle.sci_store.specs.Written.{AreAmong, IsHeader, IsPlain}
+use Rattle.sci_store.specs.Written.{AreAmong, IsPlain}
+use Rattle.sci_lines.specs.Lines.{IsHeader}
 use Rattle.sci_store.specs.Delays.{delays_in}
 use Rattle.sci_store.proofs.Covering.{row_blocks}
 use Rattle.sci_store.proofs.Reacting.{outcome_here, AreKept, range_alike, masks_alike, sensed_alike, range_here, masks_here, sensed_here, states_here}
@@ -134,7 +135,7 @@ shows_marked f s t banks pending st marked shows = record {
 }
 
 -- a block that is active is one of the row's
-pub among_row : (f : Fixed) (source : Source) (row : Row) → IsRowOf f source row → (i : Columns) (st : State) (s t : Standing) (banks mid : List Meaning)
+pub among_row : (f : Fixed) (source : Source) (row : ReadyRow) → IsRowOf f source row → (i : Columns) (st : State) (s t : Standing) (banks mid : List Meaning)
     (v : IsValued f i source st.memory s t banks mid) → AreAmong f.net v.active row.blocks
 among_row f source row is i st s t banks mid v b block on =
     (is.row.blocks_are.same b).1 ((is.entries.exactly b).1 (possible f.net source _ ((v.active_are b block).0 on)))

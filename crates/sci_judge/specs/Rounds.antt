@@ -1,16 +1,16 @@
 -- The possible blocks of a source, round by round: what is done, what is ready, and on how many blocks that aren't done the others depend.
-use Rattle.std.specs.Prelude.{◌≡◌, ℕ, ◌+◌, ◌<◌, ◌↔◌, ◌++◌, ◌∷◌, [], List, if◌then◌else◌, not, map, length, take, slice_index, slice_index_or, Contains, nat_eq}
+use Rattle.std.specs.Prelude.{◌≡◌, ℕ, ◌+◌, ◌<◌, ◌↔◌, ◌++◌, ◌∷◌, [], List, if◌then◌else◌, not, map, length, take, slice_index, slice_index_or, All, Contains, nat_eq}
 use Rattle.std.specs.List.{IsDistinct, count_by}
 use Rattle.std.specs.Set.{is_member}
 use Rattle.sci_loop.specs.declared.table.DepTable.{DepTable}
-use Rattle.sci_loop.specs.Table.{Needs}
+use Rattle.sci_loop.specs.Table.{Needs, IsTable}
 use Rattle.sci_loop.specs.Lists.{plain, list_at}
 use Rattle.sci_net.specs.declared.Source.{Source}
 use Rattle.sci_net.specs.Parts.{Parts}
 use Rattle.sci_reaction.specs.Active.{Possible}
 use Rattle.sci_reaction.specs.Depends.{Precedes}
 use Rattle.sci_rounds.specs.Rounds.{IsReady}
-use Rattle.sci_judge.specs.declared.rounds.Rank.{Rank}
+use Rattle.sci_judge.specs.declared.rounds.BlockRound.{BlockRound}
 
 -- ---- the possible blocks in order
 
@@ -21,8 +21,8 @@ pub record AreByRounds (n : Parts) (s : Source) (blocks : List ℕ) : Type 0 whe
   pub earlier : (k c : ℕ) → k < length blocks → Possible n s c → Precedes n s c (slice_index blocks k) → Contains (take k blocks) c
 
 -- the blocks of ranks
-abbrev pub ranked : List Rank → List ℕ
-ranked rs = map (λ (r : Rank). r.block) rs
+abbrev pub ranked : List BlockRound → List ℕ
+ranked rs = map (λ (r : BlockRound). r.block) rs
 
 -- ---- counts of what is open
 
@@ -65,3 +65,10 @@ pub record IsStage (t : DepTable) (done ready counts : List ℕ) : Type 0 where
   pub members : (b : ℕ) → Contains (done ++ ready) b → Contains t.members.items b
   pub ready_are : (b : ℕ) → Contains t.members.items b → Contains (done ++ ready) b ↔ (count_at counts b ≡ 0)
   pub once : IsDistinct nat_eq (done ++ ready)
+
+-- The same, with the lists by number of the members that depend on a block, and with a count for each member.
+pub record IsStageOf (t : DepTable) (lists : List (List ℕ)) (done ready counts : List ℕ) : Type 0 where
+  pub table : IsTable t
+  pub below : All (λ b. b < length counts) t.members.items
+  pub waiting : AreWaiting t (length counts) lists
+  pub stage : IsStage t done ready counts

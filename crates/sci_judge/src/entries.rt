@@ -11,7 +11,7 @@ ghost use Rattle.sci_rounds.specs.Rounds.{TellsActivation};
 ghost use Rattle.sci_judge.specs.Entries.{HasBitsTo, AreBranches, AreAlways};
 ghost use Rattle.sci_reaction.specs.Kept.{guards_of, entry_of};
 
-use crate::rounds::Rank;
+use crate::rounds::BlockRound;
 use sci_base::NoMemory;
 use sci_base::bits::set_bit;
 use sci_inherit::{Reach, contains};
@@ -95,7 +95,7 @@ pub fn entry_for(
     source: u32,
     possible: &Walk,
     always: &Walk,
-    rank: Rank,
+    rank: BlockRound,
 ) -> Result<Entry, NoMemory>
     requires reach { AreOrigins net.now reach.now }
     requires source { source < length (sources_of net.now) }

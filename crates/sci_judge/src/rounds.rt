@@ -4,12 +4,13 @@ ghost use Rattle.std.specs.Prelude.{vec_len, IfOk, OnOk, nat_eq};
 ghost use Rattle.std.specs.List.{IsDistinct};
 ghost use Rattle.std.specs.List.Sorted.{IsStrictlyIncreasing};
 ghost use Rattle.std.specs.Set.{is_member};
+ghost use Rattle.sci_loop.specs.declared.table.DepTable.{DepTable};
 ghost use Rattle.sci_loop.specs.Table.{IsTable};
 ghost use Rattle.sci_loop.specs.Lists.{plain, list_at};
-ghost use Rattle.sci_net.specs.Sources.{source_of};
+ghost use Rattle.sci_net.specs.declared.Source.{Source};
 ghost use Rattle.sci_reaction.specs.Depends.{IsLoopFree, HasDepth};
 ghost use Rattle.sci_dep.specs.Tables.{IsTableOf};
-ghost use Rattle.sci_judge.specs.Rounds.{ranked, AreCounts, AreWaiting, IsPutTo, IsReleased, IsStage, AreByRounds};
+ghost use Rattle.sci_judge.specs.Rounds.{ranked, AreCounts, AreWaiting, IsPutTo, IsReleased, IsStage, IsStageOf, AreByRounds};
 
 use sci_base::NoMemory;
 use sci_loop::DepTable;
@@ -19,7 +20,7 @@ use std::alloc::Global;
 
 /// A block and its round, counted from 1: how many blocks the longest chain of dependencies has that ends at it.
 #[derive(Clone, Copy, Drop)]
-pub struct Rank {
+pub struct BlockRound {
     pub block: u32,
     pub depth: usize,
 }
@@ -102,26 +103,24 @@ fn release(waiting: &[u32], counts: &mut [usize], ready: &mut Vec<u32>) -> Resul
     Ok(())
 }
 
-// Does a round: these blocks are done, behind those that were done before. The blocks that are ready now, those of the next round.
+// Does a round of some table: these blocks are done, behind those that were done before. The blocks that are ready now, those of the next
+// round.
 fn round(
     alloc: Global,
-    _table: &DepTable,
     waiting: &[Vec<u32>],
     round: &[u32],
     depth: usize,
     counts: &mut [usize],
-    done: &mut Vec<Rank>,
+    done: &mut Vec<BlockRound>,
 ) -> Result<Vec<u32>, NoMemory>
-    requires table { IsTable _table.now }
-    requires below { All (λ b. b < length counts.old) _table.now.members.items }
-    requires waiting { AreWaiting _table.now (length counts.old) (plain waiting.now) }
-    requires stage { IsStage _table.now (ranked done.old.items) round.now counts.old }
+    requires { (t : DepTable) × IsStageOf t (plain waiting.now) (ranked done.old.items) round.now counts.old }
     ensures done { IfOk result (λ _. done.new.items ≡ done.old.items ++ map (λ b. record { block = b; depth = depth }) round.now) }
-    ensures stage { IfOk result (λ next. IsStage _table.now (ranked done.new.items) next.items counts.new) }
+    ensures stage { IfOk result (λ next. (t : DepTable) → IsStageOf t (plain waiting.now) (ranked done.old.items) round.now counts.old
+        → IsStage t (ranked done.new.items) next.items counts.new) }
 {
     let mut next = Vec::new(alloc);
     for block in round {
-        done.push(Rank {
+        done.push(BlockRound {
             block: *block,
             depth,
         })?;
@@ -130,18 +129,14 @@ fn round(
     Ok(next)
 }
 
-/// The possible blocks of the source at this place, whose table this is, round by round, and each round by number: a round has the blocks that
-/// aren't done and depend on blocks alone that were done when it began. Want of memory is the only error.
-pub fn by_rounds(
-    alloc: Global,
-    net: &Net,
-    _source: u32,
-    table: &DepTable,
-) -> Result<Vec<Rank>, NoMemory>
-    requires table { IsTableOf net.now (source_of net.now _source) table.now }
-    requires free { IsLoopFree net.now (source_of net.now _source) }
-    ensures rounds { IfOk result (λ v. AreByRounds net.now (source_of net.now _source) (ranked v.items)) }
-    ensures depths { IfOk result (λ v. All (λ r. HasDepth net.now (source_of net.now _source) r.block r.depth) v.items) }
+/// The members of a table, round by round, and each round by number: a round has the members that aren't done and depend on members alone that
+/// were done when it began. They are the possible blocks of each source that has this table and no loop. Want of memory is the only error.
+pub fn by_rounds(alloc: Global, net: &Net, table: &DepTable) -> Result<Vec<BlockRound>, NoMemory>
+    requires table { IsTable table.now }
+    requires below { All (λ b. b < length net.now.specs + 1) table.now.members.items }
+    ensures rounds { IfOk result (λ v. (s : Source) → IsTableOf net.now s table.now → IsLoopFree net.now s → AreByRounds net.now s (ranked v.items)) }
+    ensures depths { IfOk result (λ v. (s : Source) → IsTableOf net.now s table.now → IsLoopFree net.now s
+        → All (λ r. HasDepth net.now s r.block r.depth) v.items) }
 {
     net.well_formed();
     let count = net.len() as usize + 1;
@@ -153,15 +148,7 @@ pub fn by_rounds(
     while !ready.is_empty() {
         ready.sort_unstable();
         depth += 1;
-        ready = round(
-            alloc,
-            table,
-            &waiting,
-            &ready,
-            depth,
-            &mut counts,
-            &mut done,
-        )?;
+        ready = round(alloc, &waiting, &ready, depth, &mut counts, &mut done)?;
     }
     Ok(done)
 }

@@ -14,7 +14,7 @@ ghost use Rattle.sci_judge.specs.Rounds.{ranked};
 ghost use Rattle.sci_judge.specs.Rows.{IsPlanOf, ArePlans, IsOfFound};
 
 use crate::entries::entry_for;
-use crate::rounds::{Rank, by_rounds};
+use crate::rounds::{BlockRound, by_rounds};
 use sci_base::NoMemory;
 use sci_dep::{Waits, depends, possible, waits};
 use sci_inherit::{Reach, origins};
@@ -22,14 +22,14 @@ use sci_kept::Kept;
 use sci_loop::walk::Walk;
 use sci_net::{Net, Source};
 use sci_reaction::Entry;
-use sci_store::Row;
+use sci_store::ReadyRow;
 use std::alloc::Global;
 
 /// What a source may do in a reaction.
 #[derive(Drop)]
 pub struct SourcePlan {
     /// Its possible blocks.
-    pub row: Row,
+    pub row: ReadyRow,
     /// The sources that they are, by place, where they have delays.
     pub sources: Vec<u32>,
 }
@@ -42,7 +42,7 @@ fn entries(
     source: u32,
     possible: &Walk,
     always: &Walk,
-    ranks: &[Rank],
+    ranks: &[BlockRound],
 ) -> Result<Vec<Entry>, NoMemory>
     requires reach { AreOrigins net.now reach.now }
     requires source { source < length (sources_of net.now) }
@@ -111,8 +111,8 @@ fn plan_for(
     kept.well_formed();
     let net = kept.net();
     possible(net, reach, source, found)?;
-    let table = depends(alloc, net, waits, source, found)?;
-    let order = by_rounds(alloc, net, source, &table)?;
+    let table = depends(alloc, net, waits, found)?;
+    let order = by_rounds(alloc, net, &table)?;
     always.take(reach.always(source))?;
     let entries = entries(alloc, net, reach, source, found, always, &order)?;
     let sources = delayed(alloc, net, found)?;

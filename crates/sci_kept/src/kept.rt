@@ -29,7 +29,8 @@ ghost use Rattle.sci_store.specs.Rows.{IsRowFor, IsRowOf, IsReadyRow, HasBegun, 
 ghost use Rattle.sci_store.specs.Runs.{MayStep};
 ghost use Rattle.sci_store.specs.Seating.{IsSeating, IsSeatingBy, begun};
 ghost use Rattle.sci_store.specs.Store.{IsStore, AreIdle, ShowsMemory};
-ghost use Rattle.sci_store.specs.Written.{IsPlain, IsHeader, tallied};
+ghost use Rattle.sci_store.specs.Written.{IsPlain, tallied};
+ghost use Rattle.sci_lines.specs.Lines.{IsHeader};
 ghost use Rattle.sci_kept.specs.Kept.{IsFirst, IsUntold};
 ghost use Rattle.sci_store.specs.Reaction.{Passes, IfSeen, Steps, TellsHalt};
 
@@ -37,9 +38,10 @@ use sci_bank::Bank;
 use sci_bank::library::Library;
 use sci_base::{NoMemory, Obs, StopWord};
 use sci_io::{Failed, Sink};
+use sci_lines::Lines;
 use sci_net::Net;
 use sci_reaction::Entry;
-use sci_store::{Frame, Lines, Row, Seat, Store, Tally};
+use sci_store::{Frame, ReadyRow, Seat, Store, Tally};
 use sci_trace::inputs::Inputs;
 use std::alloc::Global;
 use std::marker::Model;
@@ -145,12 +147,12 @@ impl Kept {
     }
 
     /// The row of these entries, one for each of their blocks.
-    pub fn row_of(&self, alloc: Global, entries: Vec<Entry>) -> Result<Row, NoMemory>
+    pub fn row_of(&self, alloc: Global, entries: Vec<Entry>) -> Result<ReadyRow, NoMemory>
         requires blocks { All (λ e. IsBlock self.now.fixed.net e.block) entries.items }
         requires once { IsDistinct nat_eq (blocks_of (entries_of entries.items)) }
         ensures { IfOk result (λ r. IsRowFor self.now.fixed entries.items r) }
     {
-        Row::of(alloc, &self.frame, entries)
+        ReadyRow::of(alloc, &self.frame, entries)
     }
 
     /// What is observed of a source that fires at a date, in ticks, by the source's place among those of the net.
@@ -177,7 +179,7 @@ impl Kept {
 
     /// Marks the blocks of a row that its source activates whatever the values are, on the same activation inputs; no block is marked before.
     #[inline(always)]
-    pub fn begin_row(&mut self, row: &Row)
+    pub fn begin_row(&mut self, row: &ReadyRow)
         requires idle { AreIdle self.old.fixed self.old.store }
         requires row { IsReadyRow self.old.fixed row.now }
         ensures begun { HasBegun self.old.fixed row.now self.new.store }
@@ -189,7 +191,7 @@ impl Kept {
 
     /// Takes back what a reaction marked of the blocks of a row that guards may leave idle, so that the same row is passed again.
     #[inline(always)]
-    pub fn begin_again(&mut self, row: &Row)
+    pub fn begin_again(&mut self, row: &ReadyRow)
         requires row { IsReadyRow self.old.fixed row.now }
         requires passed { KeepsBegun self.old.fixed row.now self.old.store }
         ensures begun { HasBegun self.old.fixed row.now self.new.store }
@@ -205,7 +207,7 @@ impl Kept {
         &mut self,
         lib: &mut Library<B>,
         inputs: &Inputs,
-        row: &Row,
+        row: &ReadyRow,
     ) -> Option<(u32, StopWord)>
         requires seated { AreSeated self.old.fixed lib.old }
         requires begun { HasBegun self.old.fixed row.now self.old.store }
@@ -241,7 +243,7 @@ impl Kept {
     #[inline(always)]
     pub fn write_reaction<S: Sink>(
         &mut self,
-        row: &Row,
+        row: &ReadyRow,
         header: &Obs,
         out: &mut S,
     ) -> Result<(), Failed>
@@ -276,7 +278,7 @@ impl Kept {
 
     /// The active blocks of a row step their states, and sensors go on in their columns.
     #[inline(always)]
-    pub fn update_all<B: Bank>(&mut self, lib: &mut Library<B>, inputs: &Inputs, row: &Row)
+    pub fn update_all<B: Bank>(&mut self, lib: &mut Library<B>, inputs: &Inputs, row: &ReadyRow)
         requires seated { AreSeated self.old.fixed lib.old }
         requires row { IsReadyRow self.old.fixed row.now }
         requires begun { KeepsBegun self.old.fixed row.now self.old.store }

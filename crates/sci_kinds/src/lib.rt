@@ -1,10 +1,9 @@
 //! What each kind of block means: the values of its outputs, its next state, its delays and branches, as one table, and the laws
-//! that the table keeps. With it come the kinds' forms and specs, and the check of a block.
+//! that the table keeps. With it come the kinds' forms and specs.
 #![tactic(auto)]
 
 ghost use Rattle.sci_kinds.specs.Laws.{FreeInputLaw, FedInputsLaw, LaidInputsLaw, RangeLaw, FirstHeldLaw, DelayLaw, BranchLaw};
 
-pub use sci_check::check_spec;
 pub use sci_forms::{Broken, Counts, Detail, Kind, Port, Ports, Role, Spec};
 
 /// What one element of an output is.

@@ -5,10 +5,10 @@ use Rattle.std.proofs.lemmas.List.{get_or_append_left, get_or_push, length-appen
 use Rattle.std.proofs.lemmas.Bool.{cases_lt}
 use Rattle.std.proofs.lemmas.Bool.Decides.{nat_tests}
 use Rattle.sci_forms.specs.declared.Kind.{Kind}
-use Rattle.sci_forms.specs.Names.{kind_at}
+use Rattle.sci_forms.specs.Numbers.{kind_at}
 use Rattle.sci_bank.specs.Bank.{Meaning, no_bank}
 use Rattle.sci_bank.specs.Library.{next_of, AreInOrder, IsFull}
-use Rattle.sci_forms.specs.Names.{kinds}
+use Rattle.sci_forms.specs.Numbers.{kinds}
 use Rattle.sci_library.specs.Banks.{fresh, AreFresh, IsBegun}
 
 -- no banks

@@ -4,7 +4,7 @@ use Rattle.sci_forms.specs.declared.Kind.{Kind}
 use Rattle.sci_forms.specs.declared.Kind.TheVariants as kind
 use Rattle.sci_bank.specs.Bank.{Meaning, no_bank}
 use Rattle.sci_bank.specs.Library.{AreInOrder}
-use Rattle.sci_forms.specs.Names.{kinds}
+use Rattle.sci_forms.specs.Numbers.{kinds}
 use Rattle.sci_library.specs.declared.any_bank.AnyBank.{AnyBank}
 use Rattle.sci_library.specs.declared.any_bank.AnyBank.TheVariants as bank
 

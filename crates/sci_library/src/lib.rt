@@ -22,7 +22,7 @@ pub fn next_kind(count: usize) -> Option<Kind>
     ensures { result ≡ next_of count }
 {
     if count < usize::from(KINDS) {
-        Kind::at((count + 1) as u8)
+        sci_names::kind_at((count + 1) as u8)
     } else {
         None
     }

@@ -89,31 +89,31 @@ module _ (needs : ℕ → ℕ → Type 0) (size : ℕ) (below : (c b : ℕ) → 
   no_loop_grounded c h = met size c [] (omega arith) (h, tt) (IsDistinct-cons eqb c [] tt IsDistinct-nil) tt
 
 -- k + 1 needs lead from a to b
-abbrev Walk : (ℕ → ℕ → Type 0) → ℕ → ℕ → ℕ → Type 0
-Walk needs a b zero = needs a b
-Walk needs a b (suc k) = (m : ℕ) × needs a m × Walk needs m b k
+abbrev LeadsIn : (ℕ → ℕ → Type 0) → ℕ → ℕ → ℕ → Type 0
+LeadsIn needs a b zero = needs a b
+LeadsIn needs a b (suc k) = (m : ℕ) × needs a m × LeadsIn needs m b k
 
-Walk-then : (needs : ℕ → ℕ → Type 0) (k a b c : ℕ) → Walk needs a b k → needs b c → Walk needs a c (suc k)
-Walk-then needs zero a b c w h = (b, w, h)
-Walk-then needs (suc k) a b c w h = (w.0, w.1, Walk-then needs k w.0 b c w.2 h)
+LeadsIn-then : (needs : ℕ → ℕ → Type 0) (k a b c : ℕ) → LeadsIn needs a b k → needs b c → LeadsIn needs a c (suc k)
+LeadsIn-then needs zero a b c w h = (b, w, h)
+LeadsIn-then needs (suc k) a b c w h = (w.0, w.1, LeadsIn-then needs k w.0 b c w.2 h)
 
-Walk-chained : (needs : ℕ → ℕ → Type 0) (before : ℕ) (xs : List ℕ) (first : ℕ) → Chained needs before xs first → Walk needs first before (length xs)
-Walk-chained needs before [] first h = h
-Walk-chained needs before (x ∷ xs) first h = Walk-then needs (length xs) first x before (Walk-chained needs x xs first h.1) h.0
+LeadsIn-chained : (needs : ℕ → ℕ → Type 0) (before : ℕ) (xs : List ℕ) (first : ℕ) → Chained needs before xs first → LeadsIn needs first before (length xs)
+LeadsIn-chained needs before [] first h = h
+LeadsIn-chained needs before (x ∷ xs) first h = LeadsIn-then needs (length xs) first x before (LeadsIn-chained needs x xs first h.1) h.0
 
 -- the same round, begun one need later
-turned : (needs : ℕ → ℕ → Type 0) (k c : ℕ) → Walk needs c c k → (b : ℕ) × needs c b × Walk needs b b k
+turned : (needs : ℕ → ℕ → Type 0) (k c : ℕ) → LeadsIn needs c c k → (b : ℕ) × needs c b × LeadsIn needs b b k
 turned needs zero c w = (c, w, w)
-turned needs (suc k) c w = (w.0, w.1, Walk-then needs k w.0 c w.0 w.2 w.1)
+turned needs (suc k) c w = (w.0, w.1, LeadsIn-then needs k w.0 c w.0 w.2 w.1)
 
-no_round : (needs : ℕ → ℕ → Type 0) (k : ℕ) {c : ℕ} → Grounded needs c → Walk needs c c k → ⊥
+no_round : (needs : ℕ → ℕ → Type 0) (k : ℕ) {c : ℕ} → Grounded needs c → LeadsIn needs c c k → ⊥
 no_round needs k (grounded c below) w = let t = turned needs k c w in no_round needs k (below t.0 t.1) t.2
 
 -- where each number that needs another is grounded, there is no loop
 pub grounded_no_loop : (needs : ℕ → ℕ → Type 0) → ((c b : ℕ) → needs c b → Grounded needs c) → HasNoLoop needs
 grounded_no_loop needs all [] h = h
 grounded_no_loop needs all (x ∷ xs) h =
-    let w = Walk-chained needs x xs x h.1 in let t = turned needs (length xs) x w in no_round needs (length xs) (all x t.0 t.1) w
+    let w = LeadsIn-chained needs x xs x h.1 in let t = turned needs (length xs) x w in no_round needs (length xs) (all x t.0 t.1) w
 
 -- the part of a path up to its element k closes where `last` needs that element
 pub closes_at : (needs : ℕ → ℕ → Type 0) (last c : ℕ) (xs : List ℕ) (k : ℕ) → k ≤ length xs → Path needs c xs → needs last (get_or (c ∷ xs) k 0) → Chained needs c (take k xs) last

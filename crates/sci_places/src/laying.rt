@@ -9,7 +9,7 @@ ghost use Rattle.sci_span.specs.Values.{spans_length};
 use sci_base::NoMemory;
 use sci_forms::Ports;
 use sci_net::{Net, Wire};
-use sci_span::{Inputs, Place, Span};
+use sci_span::{InputSpans, Place, Span};
 use std::alloc::Global;
 
 /// How many elements the first `k` of some ports have.
@@ -92,6 +92,6 @@ pub fn block_place(
             start: starts[block as usize - 1],
             len: outs_length(net, block),
         },
-        ins: Inputs::of(alloc, ins)?,
+        ins: InputSpans::of(alloc, ins)?,
     })
 }

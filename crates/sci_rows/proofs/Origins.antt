@@ -11,7 +11,7 @@ use Rattle.sci_forms.specs.declared.broken.Broken.{Broken}
 use Rattle.sci_forms.specs.declared.ports.Port.{Port}
 use Rattle.sci_forms.specs.declared.spec.Spec.{Spec}
 use Rattle.sci_forms.specs.Ports.{port_at, no_port}
-use Rattle.sci_forms.specs.Names.{name_of, by_name}
+use Rattle.sci_names.specs.Names.{name_of, by_name}
 use Rattle.sci_forms.specs.Forms.{or_else, unless, first_not, given, all_to, within, between, counts_of, fed, params_len_ok, param_ok, state_len_ok, state_ok, firing_ok}
 use Rattle.sci_forms.specs.Form.{has_delay, has_state}
 use Rattle.sci_forms.specs.Typed.{feed_ok, counted, formed_of, known_of, known_in, known_out, is_known, types_broken_of, sizes_broken_of}

@@ -2,7 +2,7 @@
 use Rattle.std.specs.Prelude.{◌≡◌, ℕ, List, true, Ok}
 use Rattle.sci_base.specs.Plain.{Fields}
 use Rattle.sci_forms.specs.declared.spec.Spec.{Spec}
-use Rattle.sci_forms.specs.Names.{name_of}
+use Rattle.sci_names.specs.Names.{name_of}
 use Rattle.sci_forms.specs.Typed.{typed}
 use Rattle.sci_check.specs.Check.{checked}
 

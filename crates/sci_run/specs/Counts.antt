@@ -2,7 +2,7 @@
 use Rattle.std.specs.Prelude.{ℕ, ◌+◌, ◌==◌, Bool, true, List, [], ◌∷◌, if◌then◌else◌}
 use Rattle.sci_forms.specs.declared.Kind.{Kind}
 use Rattle.sci_forms.specs.declared.spec.Spec.{Spec}
-use Rattle.sci_forms.specs.Names.{number_of}
+use Rattle.sci_forms.specs.Numbers.{number_of}
 use Rattle.sci_net.specs.Parts.{Parts}
 use Rattle.sci_run.specs.Run.{State}
 

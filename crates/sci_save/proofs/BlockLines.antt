@@ -28,8 +28,8 @@ use Rattle.sci_trace.specs.Lines.{numbers}
 use Rattle.sci_text.specs.Lines.{has_lf, with_lf}
 use Rattle.sci_text.proofs.Clear.{both_clear, decimal_clear}
 use Rattle.sci_save.specs.declared.bounds.Bounds.{Bounds}
-use Rattle.sci_save.specs.declared.bounds.Part.{Part}
-use Rattle.sci_save.specs.declared.bounds.Part.TheVariants.{State, Held, Cursor}
+use Rattle.sci_save.specs.declared.bounds.BlockLine.{BlockLine}
+use Rattle.sci_save.specs.declared.bounds.BlockLine.TheVariants.{State, Held, Cursor}
 use Rattle.sci_save.specs.Bounds.{from_to, of_type, AreWithin, AreByBlock, state_bound_of, port_bounds, AreShort, word_of, bounds_of}
 use Rattle.sci_save.specs.Text.{row_text, rows_text}
 use Rattle.sci_save.specs.Numbers.{behind, start_text}
@@ -127,7 +127,7 @@ cursor_fine i s true h =
     (record { small = record { low = omega arith; high = omega arith }; spans = omega (arith, ints) }, tt)
 cursor_fine i s false h = tt
 
-pub part_fine : (part : Part) (i : Columns) (s : Spec) → AreShort i → typed s ≡ true → AreFine (bounds_of part i s)
+pub part_fine : (part : BlockLine) (i : Columns) (s : Spec) → AreShort i → typed s ≡ true → AreFine (bounds_of part i s)
 part_fine State i s h t = fine_replicate (state_len_of s.kind s) (state_bound_of s.kind s) (state_bound_fine s.kind s (asks s t))
 part_fine Held i s h t = ports_fine s.outs
 part_fine Cursor i s h t = cursor_fine i s (is_sensor s.kind) h
@@ -230,11 +230,11 @@ pub row_read : (word : List ℕ) (b : ℕ) (rs : List Bounds) → has_lf word �
 row_read word b [] c h f = no_row word b
 row_read word b (r ∷ rs) c h f = other_text (row_text word b) (row_is word b r rs) (line_read (start_text word b) (r ∷ rs) (start_clear word b c h) f)
 
-abbrev pub FineByBlock : Part → Columns → List Spec → Type 0
+abbrev pub FineByBlock : BlockLine → Columns → List Spec → Type 0
 FineByBlock part i [] = Unit {0}
 FineByBlock part i (s ∷ ss) = AreFine (bounds_of part i s) × FineByBlock part i ss
 
-word_clear : (part : Part) → has_lf (word_of part) ≡ false
+word_clear : (part : BlockLine) → has_lf (word_of part) ≡ false
 word_clear State = refl
 word_clear Held = refl
 word_clear Cursor = refl
@@ -257,7 +257,7 @@ abbrev take_front : List (List ℤ) → List ℤ × List (List ℤ)
 take_front [] = ([], [])
 take_front (x ∷ xs) = (x, xs)
 
-fronts_same : (part : Part) (i : Columns) (b : ℕ) (s : Spec) (ss : List Spec) →
+fronts_same : (part : BlockLine) (i : Columns) (b : ℕ) (s : Spec) (ss : List Spec) →
     AreSame put_front take_front (both_text (row_text (word_of part) b) (λ a. rows_text (word_of part) (b + 1))) (both_fit (AreWithin (bounds_of part i s)) (λ a. AreByBlock (bounds_of part i) ss))
     (rows_text (word_of part) b) (AreByBlock (bounds_of part i) (s ∷ ss))
 fronts_same part i b s ss = record { forth = λ x f. f; back = back; again = again; text_is = λ x f. refl }
@@ -270,7 +270,7 @@ fronts_same part i b s ss = record { forth = λ x f. f; back = back; again = aga
     again [] f = absurd f
     again (x ∷ xs) f = refl
 
-no_rows : (part : Part) (i : Columns) (b : ℕ) → IsReader (rows_text (word_of part) b) (AreByBlock (bounds_of part i) []) (rows_at part i b [])
+no_rows : (part : BlockLine) (i : Columns) (b : ℕ) → IsReader (rows_text (word_of part) b) (AreByBlock (bounds_of part i) []) (rows_at part i b [])
 unfolding rows_at
 no_rows part i b = record {
   takes = λ bytes x e.
@@ -295,7 +295,7 @@ no_rows part i b = record {
     never : (bytes : List ℕ) (count : ℕ) → rows_at part i b [] bytes ≡ Err count → ⊥
     never bytes count e = cc
 
-pub rows_read : (part : Part) (i : Columns) (b : ℕ) (ss : List Spec) → b + length ss < 2 ^ 64 → FineByBlock part i ss → IsReader (rows_text (word_of part) b) (AreByBlock (bounds_of part i) ss) (rows_at part i b ss)
+pub rows_read : (part : BlockLine) (i : Columns) (b : ℕ) (ss : List Spec) → b + length ss < 2 ^ 64 → FineByBlock part i ss → IsReader (rows_text (word_of part) b) (AreByBlock (bounds_of part i) ss) (rows_at part i b ss)
 unfolding rows_at
 rows_read part i b [] h f = no_rows part i b
 rows_read part i b (s ∷ ss) h f =

@@ -6,7 +6,7 @@ use Rattle.sci_forms.specs.declared.spec.Spec.{Spec}
 use Rattle.sci_net.specs.Parts.{Parts}
 use Rattle.sci_reaction.specs.Memory.{Columns}
 use Rattle.sci_text.specs.Reading.{after}
-use Rattle.sci_save.specs.declared.bounds.Part.{Part}
+use Rattle.sci_save.specs.declared.bounds.BlockLine.{BlockLine}
 use Rattle.sci_save.specs.declared.stop.LineStop.{LineStop}
 use Rattle.sci_save.specs.declared.stop.LineStop.TheVariants as stops
 use Rattle.sci_save.specs.Bounds.{word_of, bounds_of}
@@ -21,12 +21,12 @@ front_row : (front : List (List ℤ)) (row : List ℤ) (read : Read (List (List 
 front_row front row (Ok x) = ap (λ (l : List (List ℤ)). Ok (l, x.1)) (simp append_assoc)
 front_row front row (Err left) = refl
 
-rows_next : (part : Part) (i : Columns) (b : ℕ) (ss : List Spec) (k : ℕ) (s : Spec) (bytes : List ℕ) → k < length ss
+rows_next : (part : BlockLine) (i : Columns) (b : ℕ) (ss : List Spec) (k : ℕ) (s : Spec) (bytes : List ℕ) → k < length ss
     → rows_at part i b (drop k ss) bytes ≡ (row_at (word_of part) b (bounds_of part i (get_or ss k s)) bytes >>= λ x. rows_at part i (b + 1) (drop (k + 1) ss) x.1 >>= λ xs. Ok (x.0 ∷ xs.0, xs.1))
 unfolding rows_at
 rows_next part i b ss k s bytes h = ap (λ (l : List Spec). rows_at part i b l bytes) (drop_more ss k s h)
 
-pub rows_go_on : (front : List (List ℤ)) (part : Part) (i : Columns) (b : ℕ) (ss : List Spec) (k : ℕ) (s : Spec) (bytes : List ℕ) (row : List ℤ) (behind : List ℕ) (total : Read (List (List ℤ))) → k < length ss
+pub rows_go_on : (front : List (List ℤ)) (part : BlockLine) (i : Columns) (b : ℕ) (ss : List Spec) (k : ℕ) (s : Spec) (bytes : List ℕ) (row : List ℤ) (behind : List ℕ) (total : Read (List (List ℤ))) → k < length ss
     → row_at (word_of part) b (bounds_of part i (get_or ss k s)) bytes ≡ Ok (row, behind) → front_rows front (rows_at part i b (drop k ss) bytes) ≡ total
     → front_rows (front ++ row ∷ []) (rows_at part i (b + 1) (drop (k + 1) ss) behind) ≡ total
 rows_go_on front part i b ss k s bytes row behind total h e so_far =
@@ -34,18 +34,18 @@ rows_go_on front part i b ss k s bytes row behind total h e so_far =
     ∙ ap (λ (o : Read (List ℤ)). front_rows front (o >>= λ x. rows_at part i (b + 1) (drop (k + 1) ss) x.1 >>= λ xs. Ok (x.0 ∷ xs.0, xs.1))) (sym e)
     ∙ ap (front_rows front) (sym (rows_next part i b ss k s bytes h)) ∙ so_far
 
-pub rows_break : (e : LineStop) (front : List (List ℤ)) (part : Part) (i : Columns) (b : ℕ) (ss : List Spec) (k : ℕ) (s : Spec) (bytes : List ℕ) (total : Read (List (List ℤ))) → k < length ss
+pub rows_break : (e : LineStop) (front : List (List ℤ)) (part : BlockLine) (i : Columns) (b : ℕ) (ss : List Spec) (k : ℕ) (s : Spec) (bytes : List ℕ) (total : Read (List (List ℤ))) → k < length ss
     → Fails e (row_at (word_of part) b (bounds_of part i (get_or ss k s)) bytes) → front_rows front (rows_at part i b (drop k ss) bytes) ≡ total → Fails e total
 rows_break stops.Memory front part i b ss k s bytes total h f so_far = tt
 rows_break (stops.Broken left) front part i b ss k s bytes total h f so_far =
     sym so_far ∙ ap (front_rows front) (rows_next part i b ss k s bytes h)
     ∙ ap (λ (o : Read (List ℤ)). front_rows front (o >>= λ x. rows_at part i (b + 1) (drop (k + 1) ss) x.1 >>= λ xs. Ok (x.0 ∷ xs.0, xs.1))) f
 
-rows_last : (part : Part) (i : Columns) (b : ℕ) (ss : List Spec) (k : ℕ) (bytes : List ℕ) → length ss ≤ k → rows_at part i b (drop k ss) bytes ≡ Ok ([], bytes)
+rows_last : (part : BlockLine) (i : Columns) (b : ℕ) (ss : List Spec) (k : ℕ) (bytes : List ℕ) → length ss ≤ k → rows_at part i b (drop k ss) bytes ≡ Ok ([], bytes)
 unfolding rows_at
 rows_last part i b ss k bytes h = ap (λ (l : List Spec). rows_at part i b l bytes) (drop_all k ss h)
 
-pub rows_end : (front : List (List ℤ)) (part : Part) (i : Columns) (b : ℕ) (ss : List Spec) (k : ℕ) (bytes : List ℕ) (total : Read (List (List ℤ))) → length ss ≤ k
+pub rows_end : (front : List (List ℤ)) (part : BlockLine) (i : Columns) (b : ℕ) (ss : List Spec) (k : ℕ) (bytes : List ℕ) (total : Read (List (List ℤ))) → length ss ≤ k
     → front_rows front (rows_at part i b (drop k ss) bytes) ≡ total → total ≡ Ok (front, bytes)
 rows_end front part i b ss k bytes total h so_far =
     sym so_far ∙ ap (front_rows front) (rows_last part i b ss k bytes h) ∙ ap (λ (l : List (List ℤ)). Ok (l, bytes)) (append-nil front)

@@ -25,8 +25,8 @@ use Rattle.sci_net.proofs.TypedSpecs.{all_typed, sources_few}
 use Rattle.sci_reaction.specs.Memory.{Columns}
 use Rattle.sci_trace.specs.Lines.{numbers}
 use Rattle.sci_save.specs.declared.bounds.Bounds.{Bounds}
-use Rattle.sci_save.specs.declared.bounds.Part.{Part}
-use Rattle.sci_save.specs.declared.bounds.Part.TheVariants.{State, Held, Cursor}
+use Rattle.sci_save.specs.declared.bounds.BlockLine.{BlockLine}
+use Rattle.sci_save.specs.declared.bounds.BlockLine.TheVariants.{State, Held, Cursor}
 use Rattle.sci_save.specs.Saved.{Saved}
 use Rattle.sci_save.specs.Bounds.{from_to, AreWithin, AreByBlock, state_bound_of, AreShort, word_of, bounds_of}
 use Rattle.sci_save.specs.Text.{row_text, rows_text, cursor_rows, port_numbers, event_text, events_text, head_text, lines_text, blocks_text, saved_text}
@@ -73,7 +73,7 @@ counted : (Spec → List Bounds) → List Spec → ℕ
 counted f [] = 0
 counted f (s ∷ ss) = length (f s) + counted f ss
 
-rows_short : (part : Part) (i : Columns) (b : ℕ) (ss : List Spec) (rows : List (List ℤ)) → length (word_of part) ≤ 6 → b + length ss < 2 ^ 63 → AreShort i → All (λ (s : Spec). typed s ≡ true) ss
+rows_short : (part : BlockLine) (i : Columns) (b : ℕ) (ss : List Spec) (rows : List (List ℤ)) → length (word_of part) ≤ 6 → b + length ss < 2 ^ 63 → AreShort i → All (λ (s : Spec). typed s ≡ true) ss
     → AreByBlock (bounds_of part i) ss rows → length (rows_text (word_of part) b rows) ≤ 21 * counted (bounds_of part i) ss + 28 * length ss
 unfolding counted
 rows_short part i b [] [] few l short t a = omega arith

@@ -8,7 +8,7 @@ use mir.Syntax.{w64}
 use Rattle.sci_base.specs.Lists.{at}
 use Rattle.sci_net.specs.Parts.{Parts}
 use Rattle.sci_reaction.specs.Memory.{Columns}
-use Rattle.sci_save.specs.declared.bounds.Part.TheVariants.{State, Held, Cursor}
+use Rattle.sci_save.specs.declared.bounds.BlockLine.TheVariants.{State, Held, Cursor}
 use Rattle.sci_save.specs.declared.stop.LineStop.{LineStop}
 use Rattle.sci_save.specs.declared.stop.LineStop.TheVariants as stops
 use Rattle.sci_save.specs.Saved.{Saved}

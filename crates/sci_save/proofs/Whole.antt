@@ -11,8 +11,8 @@ use Rattle.sci_net.specs.Net.{IsNet}
 use Rattle.sci_net.proofs.TypedSpecs.{all_typed}
 use Rattle.sci_reaction.specs.Memory.{Columns}
 use Rattle.sci_trace.specs.Lines.{numbers}
-use Rattle.sci_save.specs.declared.bounds.Part.{Part}
-use Rattle.sci_save.specs.declared.bounds.Part.TheVariants.{State, Held, Cursor}
+use Rattle.sci_save.specs.declared.bounds.BlockLine.{BlockLine}
+use Rattle.sci_save.specs.declared.bounds.BlockLine.TheVariants.{State, Held, Cursor}
 use Rattle.sci_save.specs.Saved.{Saved}
 use Rattle.sci_save.specs.Bounds.{from_to, AreWithin, AreByBlock, cursor_bounds, AreShort, bounds_of}
 use Rattle.sci_save.specs.Text.{cursor_rows, rows_text, saved_text}
@@ -265,14 +265,14 @@ module _ (n : Parts) (i : Columns) where
       ∙ ap (λ (ns : List ℤ). (codes "save 1\nat" ++ numbers ns) ++ (a ++ (b ++ (c ++ d)))) (sym t.are)
       ∙ ap (λ (v : List ℤ). line_text (codes "save 1") v ++ (line_text (codes "at") x.1.0 ++ (a ++ (b ++ (c ++ d))))) (sym (nothing_within x.0 f.0))
 
-  fine_by_block : (part : Part) (ss : List Spec) → AreShort i → ((k : ℕ) (d : Spec) → k < length ss → typed (get_or ss k d) ≡ true) → FineByBlock part i ss
+  fine_by_block : (part : BlockLine) (ss : List Spec) → AreShort i → ((k : ℕ) (d : Spec) → k < length ss → typed (get_or ss k d) ≡ true) → FineByBlock part i ss
   fine_by_block part [] h t = tt
   fine_by_block part (s ∷ ss) h t = (part_fine part i s h (t 0 s (omega arith)), fine_by_block part ss h (λ k d l. t (suc k) d (omega arith)))
 
   pub saved_read : IsNet n → AreShort i → IsReader (saved_text n) (IsValid n i) (saved_at n i)
   saved_read net h =
       let small : 1 + length n.specs < 2 ^ 64 = let few = net.wired.few in omega arith in
-      let fine = λ (part : Part). fine_by_block part n.specs h (all_typed n net) in
+      let fine = λ (part : BlockLine). fine_by_block part n.specs h (all_typed n net) in
       let r4 = λ (stands : List ℤ) (w : AreWithin at_bounds stands).
       both_read (rows_text (codes "cursor") 1) (AreByBlock (bounds_of Cursor i) n.specs) (rows_at Cursor i 1 n.specs) (λ c. ended_text n) (λ c. ArePending n (unsigned_abs (at stands 1))) (λ c. pending_at n (unsigned_abs (at stands 1)))
       (rows_read Cursor i 1 n.specs small (fine Cursor)) (λ c g. pending_read n net (unsigned_abs (at stands 1)) (two 1000000 4611686018427387904 stands w).second) in

@@ -15,8 +15,8 @@ use Rattle.sci_net.specs.Parts.{numbered, column_of}
 use Rattle.sci_forms.specs.Form.{is_sensor}
 use Rattle.sci_reaction.specs.Memory.{Columns}
 use Rattle.sci_save.specs.declared.bounds.Bounds.{Bounds}
-use Rattle.sci_save.specs.declared.bounds.Part.{Part}
-use Rattle.sci_save.specs.declared.bounds.Part.TheVariants.{State, Held, Cursor}
+use Rattle.sci_save.specs.declared.bounds.BlockLine.{BlockLine}
+use Rattle.sci_save.specs.declared.bounds.BlockLine.TheVariants.{State, Held, Cursor}
 
 -- the numbers from the least to the greatest
 abbrev pub from_to : ℤ → ℤ → Bounds
@@ -81,12 +81,12 @@ abbrev pub AreShort : Columns → Type 0
 AreShort i = (k : ℕ) → length (numbered [] i k) < 2 ^ 63
 
 -- the word and the bounds of a block's line
-abbrev pub word_of : Part → List ℕ
+abbrev pub word_of : BlockLine → List ℕ
 word_of State = codes "state"
 word_of Held = codes "held"
 word_of Cursor = codes "cursor"
 
-abbrev pub bounds_of : Part → Columns → Spec → List Bounds
+abbrev pub bounds_of : BlockLine → Columns → Spec → List Bounds
 bounds_of State i s = state_bounds s
 bounds_of Held i s = held_bounds s
 bounds_of Cursor i s = cursor_bounds i s

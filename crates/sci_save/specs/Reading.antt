@@ -13,8 +13,8 @@ use Rattle.sci_save.specs.declared.bounds.Bounds.{Bounds}
 use Rattle.sci_save.specs.declared.stop.LineStop.{LineStop}
 use Rattle.sci_save.specs.declared.stop.LineStop.TheVariants as stops
 use Rattle.sci_save.specs.Saved.{Saved}
-use Rattle.sci_save.specs.declared.bounds.Part.{Part}
-use Rattle.sci_save.specs.declared.bounds.Part.TheVariants.{State, Held, Cursor}
+use Rattle.sci_save.specs.declared.bounds.BlockLine.{BlockLine}
+use Rattle.sci_save.specs.declared.bounds.BlockLine.TheVariants.{State, Held, Cursor}
 use Rattle.sci_save.specs.Bounds.{from_to, word_of, bounds_of}
 use Rattle.sci_save.specs.Numbers.{behind, start_text}
 
@@ -52,7 +52,7 @@ row_at word b [] bytes = Ok ([], bytes)
 row_at word b (r ∷ rs) bytes = line_at (start_text word b) (r ∷ rs) bytes
 
 -- of all blocks, counted from b on
-unfoldable pub rows_at : Part → Columns → ℕ → List Spec → List ℕ → Read (List (List ℤ))
+unfoldable pub rows_at : BlockLine → Columns → ℕ → List Spec → List ℕ → Read (List (List ℤ))
 rows_at part i b [] bytes = Ok ([], bytes)
 rows_at part i b (s ∷ ss) bytes = row_at (word_of part) b (bounds_of part i s) bytes >>= λ x. rows_at part i (b + 1) ss x.1 >>= λ xs. Ok (x.0 ∷ xs.0, xs.1)
 

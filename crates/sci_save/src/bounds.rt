@@ -38,21 +38,21 @@ impl Bounds {
 
 /// What a line about a block tells: its state, the values that its outputs hold, or how many values of its column a sensor has taken.
 #[derive(Clone, Copy, Drop)]
-pub enum Part {
+pub enum BlockLine {
     State,
     Held,
     Cursor,
 }
 
-impl Part {
+impl BlockLine {
     /// The word with which the line begins.
     pub fn word(self) -> &'static str
         ensures { result.now ≡ word_of self }
     {
         match self {
-            Part::State => "state",
-            Part::Held => "held",
-            Part::Cursor => "cursor",
+            BlockLine::State => "state",
+            BlockLine::Held => "held",
+            BlockLine::Cursor => "cursor",
         }
     }
 
@@ -67,9 +67,9 @@ impl Part {
         ensures { IfOk result (λ v. v.items ≡ bounds_of self (columns_view columns.now) spec.now) }
     {
         match self {
-            Part::State => state_bounds(alloc, spec),
-            Part::Held => held_bounds(alloc, spec),
-            Part::Cursor => cursor_bounds(alloc, spec, columns),
+            BlockLine::State => state_bounds(alloc, spec),
+            BlockLine::Held => held_bounds(alloc, spec),
+            BlockLine::Cursor => cursor_bounds(alloc, spec, columns),
         }
     }
 }

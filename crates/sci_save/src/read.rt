@@ -6,7 +6,7 @@ ghost use Rattle.sci_save.specs.Blame.{Spells, IsBlamed};
 ghost use Rattle.sci_save.specs.Reading.{Gives, saved_at};
 ghost use Rattle.sci_save.specs.Answers.{Answers, Accepts, Blames};
 
-use crate::bounds::{Bounds, Part};
+use crate::bounds::{BlockLine, Bounds};
 use crate::events::pending;
 use crate::line::line;
 use crate::rows::{firsts, rows};
@@ -40,9 +40,9 @@ fn saved<'a>(
 {
     let (_, rest) = line(alloc, b"save 1", &[], bytes)?;
     let (stands, rest) = line(alloc, b"at", &STANDS, rest)?;
-    let (states, rest) = rows(alloc, Part::State, net, columns, rest)?;
-    let (held, rest) = rows(alloc, Part::Held, net, columns, rest)?;
-    let (cursors, rest) = rows(alloc, Part::Cursor, net, columns, rest)?;
+    let (states, rest) = rows(alloc, BlockLine::State, net, columns, rest)?;
+    let (held, rest) = rows(alloc, BlockLine::Held, net, columns, rest)?;
+    let (cursors, rest) = rows(alloc, BlockLine::Cursor, net, columns, rest)?;
     let now = stands[1].unsigned_abs();
     let (pending, rest) = pending(alloc, net, now, rest)?;
     let image = Image {

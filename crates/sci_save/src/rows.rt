@@ -6,7 +6,7 @@ ghost use Rattle.sci_trace.specs.Columns.{columns_view};
 ghost use Rattle.sci_save.specs.Bounds.{word_of, bounds_of};
 ghost use Rattle.sci_save.specs.Reading.{Gives, row_at, rows_at, firsts_of};
 
-use crate::bounds::Part;
+use crate::bounds::BlockLine;
 use crate::line::{after_start, numbers};
 use crate::stop::LineStop;
 use sci_base::NoMemory;
@@ -17,7 +17,7 @@ use std::alloc::Global;
 /// The numbers of a block, which has no line where it has none.
 fn row<'a>(
     alloc: Global,
-    part: Part,
+    part: BlockLine,
     block: u32,
     spec: &Spec,
     columns: &[Vec<i64>],
@@ -40,7 +40,7 @@ fn row<'a>(
 /// The numbers of all blocks.
 pub fn rows<'a>(
     alloc: Global,
-    part: Part,
+    part: BlockLine,
     net: &Net,
     columns: &[Vec<i64>],
     bytes: &'a [u8],

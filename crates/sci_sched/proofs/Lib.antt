@@ -5,6 +5,7 @@ pub mod Deep
 pub mod Ranked
 pub mod MaskBits
 pub mod Steps
+pub mod Together
 pub mod Members
 pub mod Guarded
 pub mod Runs

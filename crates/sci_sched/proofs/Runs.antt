@@ -155,3 +155,7 @@ module _ (n : Parts) (conditions : List ℕ) (qs : List Feed) (b k : ℕ) (sorte
       (guards_past n conditions qs b at (length qs - at) gs (omega (arith, there))
       (λ i d low l has. let m = is.later i d (get_or qs i d).block low (omega (arith, l, there)) (subst (λ cs. Contains cs (get_or qs i d).block) (sym (take_all k conditions all)) has) in omega (arith, m))
       is.guards))
+
+-- of no condition there is none
+pub no_guards : (n : Parts) (qs : List Feed) (b : ℕ) → AreRising qs → AreGuards n [] qs b []
+no_guards n qs b rise = guards_end n [] qs b 0 (λ i j d less within. absurd (omega (arith, within))) rise 0 [] (omega arith) (guards_begin n [] qs b)

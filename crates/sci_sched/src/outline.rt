@@ -134,7 +134,7 @@ fn outline_of(
 {
     net.well_formed();
     possible(net, reach, at, walk)?;
-    let table = depends(alloc, net, waits, at, walk)?;
+    let table = depends(alloc, net, waits, walk)?;
     let DepthOrder { blocks, depths } = ordered(alloc, net, net.source(at), table, depths)?;
     let guards = guards_by(counts, &blocks);
     Ok(Outline {

@@ -1,18 +1,19 @@
 // The rows of a schedule.
-ghost use Rattle.std.specs.Prelude.{◌≡◌, ◌≤◌, ◌<◌, ◌+◌, ◌↔◌, ℕ, All, AllPairs, Contains, length, map, IfOk};
-ghost use Rattle.sci_net.specs.Parts.{IsBlock};
+ghost use Rattle.std.specs.Prelude.{◌≡◌, ◌≤◌, ◌<◌, ◌+◌, ◌↔◌, ℕ, [], All, AllPairs, Contains, length, map, IfOk};
+ghost use Rattle.sci_net.specs.Parts.{IsBlock, numbered};
 ghost use Rattle.sci_net.specs.Sources.{sources_of, source_of};
 ghost use Rattle.sci_reaction.specs.Schedule.{IsRow, IsSchedule};
 ghost use Rattle.sci_inherit.specs.Origins.{AreOrigins};
 ghost use Rattle.sci_sched.specs.Plain.{row_of, lists_of};
 ghost use Rattle.sci_sched.specs.Marks.{AreSized, AreClear};
 ghost use Rattle.sci_sched.specs.Outlines.{IsOutline, AreOutlines};
+ghost use Rattle.sci_sched.specs.Guards.{AreGuards};
 ghost use Rattle.sci_sched.specs.Rows.{IsMarkedEntry, AreEntries};
 
-use crate::Entry;
 use crate::marks::Marks;
 use crate::masks::guards;
 use crate::outline::Outline;
+use crate::{Entry, Guard};
 use sci_base::NoMemory;
 use sci_inherit::Reach;
 use sci_net::Net;
@@ -26,6 +27,28 @@ fn by_number(alloc: Global, blocks: &[u32]) -> Result<Vec<u32>, NoMemory>
     let mut sorted = blocks.to_vec(alloc)?;
     sorted.sort_unstable();
     Ok(sorted)
+}
+
+// The guards of a possible block of the source that is marked. Most blocks have none.
+fn guards_for(
+    alloc: Global,
+    net: &Net,
+    reach: &Reach,
+    conditions: &[u32],
+    block: u32,
+) -> Result<Vec<Guard>, NoMemory>
+    requires reach { AreOrigins net.now reach.now }
+    requires least { 1 ≤ block }
+    requires most { block ≤ length net.now.specs }
+    ensures { IfOk result (λ v. AreGuards net.now conditions.now (numbered [] reach.now.branches block) block v.items) }
+{
+    if conditions.is_empty() {
+        return Ok(Vec::new(alloc));
+    }
+    net.well_formed();
+    let sorted = by_number(alloc, conditions)?;
+    let guards = guards(alloc, net, &sorted, reach.branches(block), block)?;
+    Ok(guards)
 }
 
 // The entry of a possible block of the source that is marked.
@@ -45,9 +68,7 @@ fn entry_for(
     ensures depth { IfOk result (λ e. e.depth ≡ depth) }
     ensures entry { IfOk result (λ e. IsMarkedEntry net.now reach.now marks.now e) }
 {
-    net.well_formed();
-    let conditions = by_number(alloc, &marks.conditions[block as usize])?;
-    let guards = guards(alloc, net, &conditions, reach.branches(block), block)?;
+    let guards = guards_for(alloc, net, reach, &marks.conditions[block as usize], block)?;
     Ok(Entry {
         block,
         depth,

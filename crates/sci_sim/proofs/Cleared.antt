@@ -17,7 +17,7 @@ use Rattle.sci_run.specs.Run.{State, ReactionOutcome, IsOutcome}
 use Rattle.sci_store.specs.Marks.{mark_at, idle}
 use Rattle.sci_store.specs.Tally.{lines_after}
 use Rattle.sci_store.specs.Frame.{Fixed, IsFrame}
-use Rattle.sci_store.specs.Rows.{Row, IsRowOf, IsReadyRow, HasBegun, KeepsBegun}
+use Rattle.sci_store.specs.Rows.{ReadyRow, IsRowOf, IsReadyRow, HasBegun, KeepsBegun}
 use Rattle.sci_store.specs.Store.{Standing, AreIdle, ShowsValues}
 use Rattle.sci_store.specs.declared.marks.Mark.{Mark}
 use Rattle.sci_sim.specs.Rows.{row_in}
@@ -47,10 +47,10 @@ module _ (r v : Running) (t : Standing) (is : v ≡ r) (cleared : t ≡ record v
       subst (λ (x : Standing). ShowsFiring v.fixed x banks v.wheel.meaning v.wheel.puts v.offset v.now st) (sym cleared)
       (record { seated = s.seated; memory = record { held = s.memory.held; cursor = s.memory.cursor; state = s.memory.state }; in_range = s.in_range; pending = s.pending; counts = s.counts })
 
-  pub reacted_cleared : (source : ℕ) (row : Row) → row ≡ row_in r.rows source → (new : Standing) (later : List Meaning) (waiting : Waiting) (puts : ℕ) (o : ReactionOutcome) (stop : Option StopWord)
+  pub reacted_cleared : (source : ℕ) (row : ReadyRow) → row ≡ row_in r.rows source → (new : Standing) (later : List Meaning) (waiting : Waiting) (puts : ℕ) (o : ReactionOutcome) (stop : Option StopWord)
       → IsReacted v.fixed source row t new banks later waiting puts v.offset o stop → IsReacted r.fixed source (row_in r.rows source) r.store new banks later waiting puts r.offset o stop
   reacted_cleared source row kept new later waiting puts o stop h =
-      subst (λ (w : Row). IsReacted r.fixed source w r.store new banks later waiting puts r.offset o stop) kept
+      subst (λ (w : ReadyRow). IsReacted r.fixed source w r.store new banks later waiting puts r.offset o stop) kept
       (subst (λ (x : Running). IsReacted x.fixed source row x.store new banks later waiting puts x.offset o stop) is (record {
         stops = h.stops;
         leads = h.leads;
@@ -61,33 +61,33 @@ module _ (r v : Running) (t : Standing) (is : v ≡ r) (cleared : t ≡ record v
       }))
 
 -- whether a HALT_f was active, as the view tells it
-pub halted_in : (r v : Running) → v ≡ r → (source : ℕ) (row : Row) → row ≡ row_in v.rows source → IsReadyRow v.fixed row → (new : Standing) (after : State) (result : Bool)
+pub halted_in : (r v : Running) → v ≡ r → (source : ℕ) (row : ReadyRow) → row ≡ row_in v.rows source → IsReadyRow v.fixed row → (new : Standing) (after : State) (result : Bool)
     → AreMarksOf r.fixed source (row_in r.rows source) new after
     → ((s : Source) (y : Signals) (active : Activity) → ShowsValues v.fixed s new y active → AreAmong v.fixed.net (active_of_kinds v.fixed.net is_halt active) row.halts
     → result ≡ halts v.fixed.net active)
     → result ≡ halts r.fixed.net after.active
 halted_in r v is source row kept ready new after result marks h =
     let there = subst (λ (x : Running). AreMarksOf x.fixed source (row_in x.rows source) new after) (sym is) marks in
-    let here = subst (λ (w : Row). AreMarksOf v.fixed source w new after) (sym kept) there in
+    let here = subst (λ (w : ReadyRow). AreMarksOf v.fixed source w new after) (sym kept) there in
     subst (λ (x : Running). result ≡ halts x.fixed.net after.active) is
     (h (source_of v.fixed.net source) here.y after.active here.shown (halts_among v.fixed row ready after.active here.among))
 
 -- the row that was begun keeps what a reaction needs
-pub begun_keeps : (f : Fixed) → IsFrame f → (source : Source) (row : Row) (s : Standing) → IsRowOf f source row → HasBegun f row s → KeepsBegun f row s
+pub begun_keeps : (f : Fixed) → IsFrame f → (source : Source) (row : ReadyRow) (s : Standing) → IsRowOf f source row → HasBegun f row s → KeepsBegun f row s
 begun_keeps f frame source row s is h = record { whole = h.whole; others = λ b block out. h.others b block (λ whole. out (whole_in_row f frame source row is b whole)) }
 
 -- where a row was begun, or a reaction over it was, what is kept holds again
-pub ready_behind : (v : Running) (source : ℕ) (row : Row) (t : Standing) (w : Wheel) (halted : Bool) → IsReady v → v.row ≡ source → source < length v.rows → row ≡ row_in v.rows source
+pub ready_behind : (v : Running) (source : ℕ) (row : ReadyRow) (t : Standing) (w : Wheel) (halted : Bool) → IsReady v → v.row ≡ source → source < length v.rows → row ≡ row_in v.rows source
     → KeepsBegun v.fixed row t → IsReady (record v { store = t; wheel = w; halted = halted })
 ready_behind v source row t w halted h at within kept begun =
-    let here : KeepsBegun v.fixed (row_in v.rows v.row) t = subst (λ (k : ℕ). KeepsBegun v.fixed (row_in v.rows k) t) (sym at) (subst (λ (x : Row). KeepsBegun v.fixed x t) kept begun) in
+    let here : KeepsBegun v.fixed (row_in v.rows v.row) t = subst (λ (k : ℕ). KeepsBegun v.fixed (row_in v.rows k) t) (sym at) (subst (λ (x : ReadyRow). KeepsBegun v.fixed x t) kept begun) in
     record { frame = h.frame; rows = h.rows; row = h.row; begun = λ has. here; marked = here.others }
 
 -- the row of a source, where its blocks are marked
-pub ready_entered : (v : Running) (source : ℕ) (row : Row) (t : Standing) → IsReady v → source < length v.rows → row ≡ row_in v.rows source → KeepsBegun v.fixed row t
+pub ready_entered : (v : Running) (source : ℕ) (row : ReadyRow) (t : Standing) → IsReady v → source < length v.rows → row ≡ row_in v.rows source → KeepsBegun v.fixed row t
     → IsReady (record v { store = t; row = source; has_row = true })
 ready_entered v source row t h within kept begun =
-    let here : KeepsBegun v.fixed (row_in v.rows source) t = subst (λ (x : Row). KeepsBegun v.fixed x t) kept begun in
+    let here : KeepsBegun v.fixed (row_in v.rows source) t = subst (λ (x : ReadyRow). KeepsBegun v.fixed x t) kept begun in
     record { frame = h.frame; rows = h.rows; row = within; begun = λ has. here; marked = here.others }
 
 -- the same where the tables of what is kept are the same

@@ -11,7 +11,7 @@ use Rattle.sci_agenda.specs.Wheel.{Wheel}
 use Rattle.sci_store.specs.Frame.{Fixed}
 use Rattle.sci_store.specs.Store.{Standing}
 use Rattle.sci_store.specs.Passed.{IsValued}
-use Rattle.sci_store.specs.Rows.{Row, IsRowOf, IsReadyRow, HasBegun, KeepsBegun}
+use Rattle.sci_store.specs.Rows.{ReadyRow, IsRowOf, IsReadyRow, HasBegun, KeepsBegun}
 use Rattle.sci_store.specs.Runs.{MayStep}
 use Rattle.sci_store.proofs.Reacting.{range_here, masks_here, states_here, sensed_here}
 use Rattle.sci_sim.specs.Rows.{row_in}
@@ -21,7 +21,7 @@ use Rattle.sci_sim.proofs.Cleared.{shown_cleared, ready_behind, ready_on}
 use Rattle.sci_sim.proofs.Reacting.{source_within, row_read}
 
 -- a net v that stands as r, but that the row of a source is begun
-pub record IsEntered (r v : Running) (source : ℕ) (row : Row) : Type 0 where
+pub record IsEntered (r v : Running) (source : ℕ) (row : ReadyRow) : Type 0 where
   pub is : v ≡ record r { store = v.store; row = source; has_row = true }
   pub marks : v.store ≡ record r.store { marks = v.store.marks }
   pub ready : IsReady v
@@ -29,7 +29,7 @@ pub record IsEntered (r v : Running) (source : ℕ) (row : Row) : Type 0 where
   pub row_is : row ≡ row_in v.rows source
   pub begun : HasBegun v.fixed row v.store
 
-pub entered_by : (r e v : Running) (source : ℕ) (row : Row) → v ≡ e → e ≡ record r { store = e.store; row = source; has_row = true } → e.store ≡ record r.store { marks = e.store.marks }
+pub entered_by : (r e v : Running) (source : ℕ) (row : ReadyRow) → v ≡ e → e ≡ record r { store = e.store; row = source; has_row = true } → e.store ≡ record r.store { marks = e.store.marks }
     → HasBegun r.fixed (row_in r.rows source) e.store → source < length r.rows → IsReady v → row ≡ get_or v.rows source row → IsEntered r v source row
 entered_by r e v source row view rest marks begun inside ready read =
     let is : v ≡ record r { store = v.store; row = source; has_row = true } = subst (λ (x : Running). x ≡ record r { store = x.store; row = source; has_row = true }) (sym view) rest in
@@ -42,10 +42,10 @@ entered_by r e v source row view rest marks begun inside ready read =
       ready = ready;
       within = within;
       row_is = row_is;
-      begun = subst (λ (w : Row). HasBegun v.fixed w v.store) (sym row_is) (subst (λ (x : Running). HasBegun x.fixed (row_in x.rows source) v.store) (sym is) here);
+      begun = subst (λ (w : ReadyRow). HasBegun v.fixed w v.store) (sym row_is) (subst (λ (x : Running). HasBegun x.fixed (row_in x.rows source) v.store) (sym is) here);
     }
 
-module _ (r v : Running) (source : ℕ) (row : Row) (h : IsEntered r v source row) where
+module _ (r v : Running) (source : ℕ) (row : ReadyRow) (h : IsEntered r v source row) where
   -- as it stood, told by what is kept
   abbrev pub stood : Running
   stood = record v { store = r.store; row = r.row; has_row = r.has_row }

@@ -23,7 +23,7 @@ use Rattle.sci_rounds.specs.Rounds.{TellsActivation}
 use Rattle.sci_sched.specs.Answer.{IsPlan}
 use Rattle.sci_sched.specs.Plain.{lists_of}
 use Rattle.sci_store.specs.Frame.{Fixed}
-use Rattle.sci_store.specs.Rows.{Row, no_row, AreEntriesOf, IsRowOf}
+use Rattle.sci_store.specs.Rows.{ReadyRow, no_row, AreEntriesOf, IsRowOf}
 use Rattle.sci_sim.specs.Rows.{row_in, AreRowsOf}
 
 -- ---- the entries of a source
@@ -87,14 +87,14 @@ source_planned n plan is k l =
     let row : Vec Kept Global → List Entry = λ w. entries_of w.items in is.free k (omega (arith, l, length-map plan row, is.schedule.enough))
 
 -- the rows of the first k sources
-pub record AreMade (f : Fixed) (k : ℕ) (rows : List Row) : Type 0 where
+pub record AreMade (f : Fixed) (k : ℕ) (rows : List ReadyRow) : Type 0 where
   pub long : length rows ≡ k
   pub each : (j : ℕ) → j < k → IsRowOf f (source_of f.net j) (row_in rows j)
 
 pub made_none : (f : Fixed) → AreMade f 0 []
 made_none f = record { long = refl; each = λ j l. absurd (omega (arith, l)) }
 
-pub made_more : (f : Fixed) (k : ℕ) (rows : List Row) (row : Row) → IsRowOf f (source_of f.net k) row → AreMade f k rows → AreMade f (k + 1) (rows ++ row ∷ [])
+pub made_more : (f : Fixed) (k : ℕ) (rows : List ReadyRow) (row : ReadyRow) → IsRowOf f (source_of f.net k) row → AreMade f k rows → AreMade f (k + 1) (rows ++ row ∷ [])
 made_more f k rows row is h = record {
   long = length_push rows row ∙ ap (λ m. m + 1) h.long;
   each = λ j l. elim (cases_lt j k) [
@@ -106,7 +106,7 @@ made_more f k rows row is h = record {
   ];
 }
 
-pub made_all : (f : Fixed) (plan : List (Vec Kept Global)) → IsPlan f.net (lists_of plan) → (k : ℕ) (rows : List Row) → k ≡ length plan → AreMade f k rows → AreRowsOf f rows
+pub made_all : (f : Fixed) (plan : List (Vec Kept Global)) → IsPlan f.net (lists_of plan) → (k : ℕ) (rows : List ReadyRow) → k ≡ length plan → AreMade f k rows → AreRowsOf f rows
 made_all f plan is k rows e h =
     let row : Vec Kept Global → List Entry = λ w. entries_of w.items in
     record { enough = omega (arith, h.long, e, length-map plan row, is.schedule.enough); each = λ j l. h.each j (omega (arith, l, h.long)) }

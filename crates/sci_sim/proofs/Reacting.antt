@@ -21,9 +21,10 @@ use Rattle.sci_store.specs.Blocks.{AreBlocksByNumber}
 use Rattle.sci_store.specs.Frame.{Fixed, AreSeated}
 use Rattle.sci_store.specs.Store.{Standing, is_kind, active_of}
 use Rattle.sci_store.specs.Passed.{IsValued, IsStepped, AreAlikeCounts}
-use Rattle.sci_store.specs.Written.{AreAmong, IsHeader}
+use Rattle.sci_store.specs.Written.{AreAmong}
+use Rattle.sci_lines.specs.Lines.{IsHeader}
 use Rattle.sci_store.specs.Chosen.{active_of_kinds}
-use Rattle.sci_store.specs.Rows.{Row, no_row, IsRowOf, IsReadyRow}
+use Rattle.sci_store.specs.Rows.{ReadyRow, no_row, IsRowOf, IsReadyRow}
 use Rattle.sci_store.proofs.Reacting.{counts_more, activations_more}
 use Rattle.sci_store.proofs.Covering.{row_blocks}
 use Rattle.sci_sim.specs.Rows.{row_in, AreRowsOf}
@@ -33,18 +34,18 @@ use Rattle.sci_sim.proofs.Choosing.{chosen_by_number, chosen_among, chosen_kinds
 
 -- ---- rows
 
-pub source_within : (f : Fixed) (rows : List Row) (k : ℕ) → AreRowsOf f rows → k < length rows → k < length (sources_of f.net)
+pub source_within : (f : Fixed) (rows : List ReadyRow) (k : ℕ) → AreRowsOf f rows → k < length rows → k < length (sources_of f.net)
 source_within f rows k h l = omega (arith, h.enough, l)
 
 -- each row is that of its source
-pub row_ready : (f : Fixed) (rows : List Row) (k : ℕ) → AreRowsOf f rows → k < length rows → IsReadyRow f (row_in rows k)
+pub row_ready : (f : Fixed) (rows : List ReadyRow) (k : ℕ) → AreRowsOf f rows → k < length rows → IsReadyRow f (row_in rows k)
 row_ready f rows k h l = (source_of f.net k, h.each k l)
 
 -- the row that was read of a source
-pub row_read : (rows : List Row) (k : ℕ) (r : Row) → k < length rows → r ≡ get_or rows k r → r ≡ row_in rows k
+pub row_read : (rows : List ReadyRow) (k : ℕ) (r : ReadyRow) → k < length rows → r ≡ get_or rows k r → r ≡ row_in rows k
 row_read rows k r l read = read ∙ get_or_default rows k r no_row l
 
-module _ (f : Fixed) (r : Row) (ready : IsReadyRow f r) where
+module _ (f : Fixed) (r : ReadyRow) (ready : IsReadyRow f r) where
   -- its blocks with delays
   pub delays_by_number : AreBlocksByNumber f.net r.delays
   delays_by_number = subst (AreBlocksByNumber f.net) (sym ready.1.row.delays_are) (chosen_by_number f.net has_delay r.blocks (row_blocks f r ready))
@@ -63,7 +64,7 @@ module _ (f : Fixed) (r : Row) (ready : IsReadyRow f r) where
   halts_among active among = subst (AreAmong f.net (active_of_kinds f.net is_halt active)) (sym ready.1.row.halts_are) (chosen_among f.net is_halt r.blocks active among)
 
 -- a block that is active is one of them
-pub among_row : (f : Fixed) (source : Source) (row : Row) → IsRowOf f source row → (i : Columns) (st : State) (s t : Standing) (banks mid : List Meaning)
+pub among_row : (f : Fixed) (source : Source) (row : ReadyRow) → IsRowOf f source row → (i : Columns) (st : State) (s t : Standing) (banks mid : List Meaning)
     (v : IsValued f i source st.memory s t banks mid) → AreAmong f.net v.active row.blocks
 among_row f source row is i st s t banks mid v b block on =
     (is.row.blocks_are.same b).1 ((is.entries.exactly b).1 (possible f.net source _ ((v.active_are b block).0 on)))

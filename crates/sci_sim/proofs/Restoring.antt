@@ -9,7 +9,7 @@ use Rattle.sci_base.specs.Lists.{at}
 use Rattle.sci_forms.specs.declared.Kind.{Kind}
 use Rattle.sci_forms.specs.declared.Kind.TheVariants.{ModuloCount}
 use Rattle.sci_forms.specs.declared.spec.Spec.{Spec}
-use Rattle.sci_forms.specs.Names.{number_of}
+use Rattle.sci_forms.specs.Numbers.{number_of}
 use Rattle.sci_forms.specs.Typed.{typed}
 use Rattle.sci_forms.specs.Words.{param, state_len_of}
 use Rattle.sci_kinds.specs.Asks.{IsState}
@@ -37,7 +37,7 @@ use Rattle.sci_store.specs.declared.marks.Mark.{Mark}
 use Rattle.sci_store.specs.Frame.{Fixed, IsFrame}
 use Rattle.sci_store.specs.Seating.{IsSeatingBy, begun}
 use Rattle.sci_store.specs.Store.{Standing, IsStore, AreIdle, cursor_at, state_of}
-use Rattle.sci_store.specs.Rows.{Row}
+use Rattle.sci_store.specs.Rows.{ReadyRow}
 use Rattle.sci_kept.specs.Kept.{Kept, IsUntold}
 use Rattle.sci_sim.specs.Rows.{AreRowsOf}
 use Rattle.sci_sim.specs.Programming.{Keeps}
@@ -144,10 +144,10 @@ one_state_each n rows states w e = ap length e ∙ (sym (length-map states (λ (
 
 -- ---- the net there
 
-abbrev pub restored_at : Fixed → List Row → Standing → Wheel → (now fired : ℕ) → Running
+abbrev pub restored_at : Fixed → List ReadyRow → Standing → Wheel → (now fired : ℕ) → Running
 restored_at f rows s w now fired = record { fixed = f; rows = rows; store = s; wheel = w; offset = now; now = now; fired = fired; row = 0; has_row = false; started = true; halted = false }
 
-module _ (f : Fixed) (rows : List Row) (s : Standing) (w : Wheel) (m : Saved) (frame : IsFrame f) (idle : AreIdle f s) where
+module _ (f : Fixed) (rows : List ReadyRow) (s : Standing) (w : Wheel) (m : Saved) (frame : IsFrame f) (idle : AreIdle f s) where
   pub restored_ready : AreRowsOf f rows → IsReady (restored_at f rows s w m.now m.fired)
   restored_ready are = record {
     frame = frame;

@@ -2,7 +2,7 @@
 use Rattle.std.proofs.Common.{◌≡◌, ℕ, ◌+◌, ◌<◌, Bool, true, false, cond, List, [], ◌∷◌, length, refl, ap, sym, subst, arith, true≢false}
 use Rattle.std.specs.Prelude.{◌==◌}
 use Rattle.sci_forms.specs.declared.spec.Spec.{Spec}
-use Rattle.sci_forms.specs.Names.{number_of}
+use Rattle.sci_forms.specs.Numbers.{number_of}
 use Rattle.sci_net.specs.Parts.{Parts, IsBlock}
 use Rattle.sci_reaction.specs.Memory.{first_memory}
 use Rattle.sci_reaction.proofs.Next.{first_in_range}
@@ -15,7 +15,7 @@ use Rattle.sci_bank.specs.declared.instance.Instance.{Instance}
 use Rattle.sci_bank.specs.Bank.{Meaning}
 use Rattle.sci_bank.specs.Library.{AreInOrder, IsFull}
 use Rattle.sci_store.specs.declared.marks.Mark.{Mark}
-use Rattle.sci_store.specs.Rows.{Row}
+use Rattle.sci_store.specs.Rows.{ReadyRow}
 use Rattle.sci_sim.specs.Rows.{AreRowsOf}
 use Rattle.sci_store.specs.Frame.{Fixed, IsFrame}
 use Rattle.sci_store.specs.Seating.{IsSeating}
@@ -25,7 +25,7 @@ use Rattle.sci_sim.specs.Programming.{Keeps}
 use Rattle.sci_sim.specs.At.{Running, IsReady, IsAtStart}
 
 -- the first source is start
-pub first_row_within : (f : Fixed) (rows : List Row) → AreRowsOf f rows → 0 < length rows
+pub first_row_within : (f : Fixed) (rows : List ReadyRow) → AreRowsOf f rows → 0 < length rows
 first_row_within f rows h = omega (arith, h.enough)
 
 -- ---- the state before the run
@@ -42,10 +42,10 @@ pub no_halt : (b : ℕ) (ss : List Spec) → false ≡ halts_from b ss (λ c. fa
 no_halt b [] = refl
 no_halt b (s ∷ ss) = no_halt (b + 1) ss
 
-abbrev pub at_rest : Fixed → List Row → Standing → Wheel → Running
+abbrev pub at_rest : Fixed → List ReadyRow → Standing → Wheel → Running
 at_rest f rows s w = record { fixed = f; rows = rows; store = s; wheel = w; offset = 0; now = 0; fired = 0; row = 0; has_row = false; started = false; halted = false }
 
-module _ (f : Fixed) (rows : List Row) (s : Standing) (w : Wheel) (frame : IsFrame f) (idle : AreIdle f s) where
+module _ (f : Fixed) (rows : List ReadyRow) (s : Standing) (w : Wheel) (frame : IsFrame f) (idle : AreIdle f s) where
   pub ready_is : AreRowsOf f rows → IsReady (at_rest f rows s w)
   ready_is are = record {
     frame = frame;

@@ -9,7 +9,7 @@ use Rattle.std.proofs.lemmas.List.Sums.{sum_by-drop_more}
 use Rattle.sci_forms.specs.declared.Kind.{Kind}
 use Rattle.sci_forms.specs.declared.Kind.TheVariants.{Const}
 use Rattle.sci_forms.specs.declared.spec.Spec.{Spec}
-use Rattle.sci_forms.specs.Names.{number_of, all_kinds, kinds}
+use Rattle.sci_forms.specs.Numbers.{number_of, all_kinds, kinds}
 use Rattle.sci_net.specs.Parts.{Parts}
 use Rattle.sci_run.specs.Counts.{activations_from}
 use Rattle.sci_bank.specs.Bank.{Meaning, no_bank}

@@ -14,7 +14,7 @@ use Rattle.sci_bank.specs.Library.{bank_of}
 use Rattle.sci_store.specs.Marks.{mark_at, idle}
 use Rattle.sci_store.specs.Frame.{Fixed, IsFrame, AreSeated}
 use Rattle.sci_store.specs.Store.{Standing, AreIdle, ShowsMemory}
-use Rattle.sci_store.specs.Rows.{Row, KeepsBegun}
+use Rattle.sci_store.specs.Rows.{ReadyRow, KeepsBegun}
 use Rattle.sci_sim.specs.Rows.{AreRowsOf, row_in}
 use Rattle.sci_sim.specs.Programming.{Keeps}
 use Rattle.sci_store.specs.Written.{sum_of}
@@ -25,7 +25,7 @@ use Rattle.sci_store.specs.Tally.{lines_after}
 -- whether a HALT_f was active in the last reaction
 pub record Running : Type 0 where
   pub fixed : Fixed
-  pub rows : List Row
+  pub rows : List ReadyRow
   pub store : Standing
   pub wheel : Wheel
   pub offset : ℕ

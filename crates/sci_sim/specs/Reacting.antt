@@ -19,7 +19,7 @@ use Rattle.sci_bank.specs.Bank.{Meaning}
 use Rattle.sci_store.specs.Frame.{Fixed}
 use Rattle.sci_store.specs.Store.{Standing, ShowsValues, AreCountedWithin}
 use Rattle.sci_store.specs.Written.{AreAmong}
-use Rattle.sci_store.specs.Rows.{Row}
+use Rattle.sci_store.specs.Rows.{ReadyRow}
 use Rattle.sci_sim.specs.Rows.{row_in}
 use Rattle.sci_sim.specs.At.{Running, Shows, IsAt, AreTallied}
 
@@ -76,19 +76,19 @@ IsStopOf (StopsWith seen) None = ⊥
 IsStopOf (StopsWith seen) (Some word) = (h : Obs) × (b : ℕ) × (seen ≡ h ∷ Stop word (pos b) (pos 0) ∷ [])
 
 -- the marks are those of the reaction that led to this state, of the source at this place, whose row this is
-pub record AreMarksOf (f : Fixed) (source : ℕ) (row : Row) (s : Standing) (after : State) : Type 0 where
+pub record AreMarksOf (f : Fixed) (source : ℕ) (row : ReadyRow) (s : Standing) (after : State) : Type 0 where
   pub y : Signals
   pub shown : ShowsValues f (source_of f.net source) s y after.active
   pub among : AreAmong f.net after.active row.blocks
 
 -- a reaction with values leads to the state that is shown now; of one that stops, the banks have counted at most a call for each block that the
 -- source may activate
-abbrev pub LeadsTo : Fixed → (source : ℕ) → Row → Standing → (old banks : List Meaning) → Waiting → (puts offset : ℕ) → ReactionOutcome → Type 0
+abbrev pub LeadsTo : Fixed → (source : ℕ) → ReadyRow → Standing → (old banks : List Meaning) → Waiting → (puts offset : ℕ) → ReactionOutcome → Type 0
 LeadsTo f source row new old banks waiting puts offset (Leads seen after) = Shows f new banks waiting puts offset after × AreMarksOf f source row new after
 LeadsTo f source row new old banks waiting puts offset (StopsWith seen) = AreCountedWithin f.net (source_of f.net source) old banks
 
 -- behind a reaction; what was observed is counted
-pub record IsReacted (f : Fixed) (source : ℕ) (row : Row) (old new : Standing) (before banks : List Meaning) (waiting : Waiting) (puts offset : ℕ)
+pub record IsReacted (f : Fixed) (source : ℕ) (row : ReadyRow) (old new : Standing) (before banks : List Meaning) (waiting : Waiting) (puts offset : ℕ)
     (o : ReactionOutcome) (stop : Option StopWord) : Type 0 where
   pub stops : IsStopOf o stop
   pub leads : LeadsTo f source row new before banks waiting puts offset o

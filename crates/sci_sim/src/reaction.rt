@@ -13,7 +13,7 @@ use sci_agenda::agenda::Agenda;
 use sci_bank::Bank;
 use sci_bank::library::Library;
 use sci_kept::Kept;
-use sci_store::Row;
+use sci_store::ReadyRow;
 use sci_trace::inputs::Inputs;
 
 /// A reaction whose values are known and written: the active blocks of its row program their events and step their states.
@@ -22,7 +22,7 @@ pub fn finish<A: Agenda, B: Bank>(
     agenda: &mut A,
     lib: &mut Library<B>,
     inputs: &Inputs,
-    row: &Row,
+    row: &ReadyRow,
     date: u64,
 )
     requires seated { AreSeated kept.old.fixed lib.old }

@@ -29,7 +29,7 @@ use sci_io::{Failed, Sink};
 use sci_kept::Kept;
 use sci_net::Net;
 use sci_sched::Schedule;
-use sci_store::Row;
+use sci_store::ReadyRow;
 use sci_trace::inputs::Inputs;
 use std::alloc::Global;
 use std::marker::Model;
@@ -39,7 +39,7 @@ use std::marker::Model;
 pub struct Ready {
     pub(crate) kept: Kept,
     // one for each source of the net, in order
-    pub(crate) rows: Vec<Row>,
+    pub(crate) rows: Vec<ReadyRow>,
     // its dates are less by `offset`
     pub(crate) wheel: WheelAgenda,
     pub(crate) offset: u64,

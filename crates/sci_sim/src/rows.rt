@@ -7,11 +7,11 @@ ghost use Rattle.sci_sim.specs.Rows.{AreRowsOf};
 use sci_base::NoMemory;
 use sci_kept::Kept;
 use sci_sched::Schedule;
-use sci_store::Row;
+use sci_store::ReadyRow;
 use std::alloc::Global;
 
 /// The rows of a schedule, ready for its reactions.
-pub fn rows(alloc: Global, kept: &Kept, plan: Schedule) -> Result<Vec<Row>, NoMemory>
+pub fn rows(alloc: Global, kept: &Kept, plan: Schedule) -> Result<Vec<ReadyRow>, NoMemory>
     requires { IsPlan kept.now.fixed.net (rows_of plan) }
     ensures { IfOk result (λ v. AreRowsOf kept.now.fixed v.items) }
 {

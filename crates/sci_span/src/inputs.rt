@@ -11,13 +11,13 @@ use std::marker::Model;
 
 /// Where the outputs lie that feed the inputs of a block, in the order of its inputs.
 #[derive(Drop)]
-pub struct Inputs {
+pub struct InputSpans {
     spans: Vec<Span>,
     // their places, where each has one element, as most have
     singles: Option<Vec<usize>>,
 }
 
-impl Model for Inputs {
+impl Model for InputSpans {
     ghost use Rattle.std.specs.Prelude.{List};
     ghost use Rattle.sci_span.specs.declared.span.Span.{Span};
     ghost use Rattle.sci_span.specs.Singles.{ArePlacesOf};
@@ -56,13 +56,13 @@ fn copy_singles(values: &[i64], places: &[usize], ins: &mut [i64]) -> usize
     places.len()
 }
 
-impl Inputs {
+impl InputSpans {
     /// Those at these spans.
-    pub fn of(alloc: Global, spans: Vec<Span>) -> Result<Inputs, NoMemory>
+    pub fn of(alloc: Global, spans: Vec<Span>) -> Result<InputSpans, NoMemory>
         ensures { IfOk result (λ i. i ≡ spans.items) }
     {
         let singles = places_of(alloc, &spans)?;
-        Ok(Inputs { spans, singles })
+        Ok(InputSpans { spans, singles })
     }
 
     /// One span for each input.

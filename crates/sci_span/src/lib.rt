@@ -7,6 +7,6 @@ mod place;
 mod span;
 
 pub use entering::Entering;
-pub use inputs::Inputs;
+pub use inputs::InputSpans;
 pub use place::Place;
 pub use span::{Span, spans_length};

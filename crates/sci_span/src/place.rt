@@ -2,14 +2,14 @@
 ghost use Rattle.std.specs.Prelude.{IsTrue, ◌↔◌};
 ghost use Rattle.sci_span.specs.Values.{IsLone};
 
-use crate::inputs::Inputs;
+use crate::inputs::InputSpans;
 use crate::span::Span;
 
 /// Where the outputs of a block lie, and for each of its inputs the output that feeds it.
 #[derive(Drop)]
 pub struct Place {
     pub outs: Span,
-    pub ins: Inputs,
+    pub ins: InputSpans,
 }
 
 impl Place {

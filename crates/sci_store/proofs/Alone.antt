@@ -10,7 +10,7 @@ use Rattle.sci_forms.specs.Form.{is_sensor}
 use Rattle.sci_forms.specs.declared.spec.Spec.{Spec}
 use Rattle.sci_kinds.specs.Table.{Answer, Values, NoFit, NoQuotient, out}
 use Rattle.sci_kinds.proofs.Elements.{gathered_values}
-use Rattle.sci_forms.specs.Names.{number_of}
+use Rattle.sci_forms.specs.Numbers.{number_of}
 use Rattle.sci_forms.specs.Ports.{total}
 use Rattle.sci_net.specs.Parts.{IsBlock, spec_of}
 use Rattle.sci_reaction.specs.Memory.{Columns, next_value}

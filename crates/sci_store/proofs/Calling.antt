@@ -31,7 +31,7 @@ use Rattle.sci_store.specs.Entries.{HasMark, applies, mask_in, activation}
 use Rattle.sci_store.specs.Frame.{Fixed, IsFrame, seat_of}
 use Rattle.sci_store.specs.Store.{Standing, IsStore, cursor_at, state_of}
 use Rattle.sci_store.specs.Passed.{given, branch_of}
-use Rattle.sci_store.specs.Rows.{Row, IsRowOf, call_of, between, calls_in, call_on, run_calls}
+use Rattle.sci_store.specs.Rows.{ReadyRow, IsRowOf, call_of, between, calls_in, call_on, run_calls}
 use Rattle.sci_store.specs.Runs.{IsCallIn, AgreesBut, AreApart, AreOfKind}
 use Rattle.sci_store.proofs.Leveled.{kept, plain, by_depth, block_there, level, run_is, here_plain, calls_here, guarded_here, calls_of, run_calls_are}
 use Rattle.sci_store.proofs.EntryMasks.{sync_block, entry_mask}
@@ -96,7 +96,7 @@ all_apart f (e ∷ es) h =
     h.0 (subst (Contains (blocks_of (entries_of es))) (ap (λ (y : Call). y.block) x.2 ∙ sym same) (block_in (entries_of es) (entry_of x.0) (contains_map entry_of es x.0 x.1))))
     (all_apart f es h.1)
 
-module _ (f : Fixed) (frame : IsFrame f) (source : Source) (r : Row) (is : IsRowOf f source r) (run : Run) (there : Contains r.runs run) where
+module _ (f : Fixed) (frame : IsFrame f) (source : Source) (r : ReadyRow) (is : IsRowOf f source r) (run : Run) (there : Contains r.runs run) where
   abbrev es : List PlainEntry
   es = plain f source r is
 

@@ -20,7 +20,7 @@ use Rattle.sci_store.specs.Blocks.{AreBlocksByNumber}
 use Rattle.sci_store.specs.Marks.{mark_at}
 use Rattle.sci_store.specs.Frame.{Fixed, IsFrame}
 use Rattle.sci_store.specs.Store.{Standing, IsStore}
-use Rattle.sci_store.specs.Rows.{Row, is_guarded, guarded_blocks, call_of, between, IsRun, Join, IsRowFor, IsReadyRow, calls_in, IsMarked, KeepsBegun, IsShowOf, show_of, shows_from}
+use Rattle.sci_store.specs.Rows.{ReadyRow, is_guarded, guarded_blocks, call_of, between, IsRun, Join, IsRowFor, IsReadyRow, calls_in, IsMarked, KeepsBegun, IsShowOf, show_of, shows_from}
 use Rattle.sci_store.proofs.Membering.{guarded_has}
 use Rattle.sci_store.proofs.Writing.{seen_at, row_seen}
 use Rattle.sci_store.proofs.ShownPieces.{piece_seen, pieces_seen, pieces_from, block_show, block_piece}
@@ -56,7 +56,7 @@ entry_with (x ∷ xs) b h = ⊎_elim
 
 -- ---- blocks that are active whatever the values are
 
-module _ (f : Fixed) (es : List Entry) (r : Row) (row : IsRowFor f es r) where
+module _ (f : Fixed) (es : List Entry) (r : ReadyRow) (row : IsRowFor f es r) where
   -- a block that isn't guarded is marked
   pub whole_marked : (s : Standing) → KeepsBegun f r s → (e : Entry) → Contains es e → is_guarded e ≡ false → IsMarked s.marks (call_of f e)
   whole_marked s begun e has off =
@@ -84,7 +84,7 @@ module _ (f : Fixed) (es : List Entry) (r : Row) (row : IsRowFor f es r) where
       subst (λ (c : ℕ). (mark_at s.marks c).active ≡ true) e.2 (whole_marked s begun e.0 e.1 not_guarded).active
 
 -- the blocks of a row
-pub row_blocks : (f : Fixed) (r : Row) → IsReadyRow f r → AreBlocksByNumber f.net r.blocks
+pub row_blocks : (f : Fixed) (r : ReadyRow) → IsReadyRow f r → AreBlocksByNumber f.net r.blocks
 row_blocks f r ready = record {
   rising = ready.1.row.blocks_are.rising;
   blocks = λ b has. Spread-block f.net ready.0 _ ((ready.1.entries.exactly b).0 ((ready.1.row.blocks_are.same b).0 has));
@@ -96,7 +96,7 @@ same_flat g h (x ∷ xs) e =
     ap (λ (l : List Obs). l ++ flat_map g xs) (e x (0, omega arith, refl)) ∙ ap (λ (l : List Obs). h x ++ l) (same_flat g h xs (λ b c. e b (cons-Contains x xs b c)))
 
 -- the pieces of a row show the active ones of its blocks
-module _ (f : Fixed) (s : Standing) (r : Row) (frame : IsFrame f) (store : IsStore f s) (ready : IsReadyRow f r) (begun : KeepsBegun f r s) where
+module _ (f : Fixed) (s : Standing) (r : ReadyRow) (frame : IsFrame f) (store : IsStore f s) (ready : IsReadyRow f r) (begun : KeepsBegun f r s) where
   shown : (pieces_seen f s (shows_from f (guarded_blocks ready.1.made_of) [] r.blocks) ≡ flat_map (λ b. piece_seen f s (show_of f (guarded_blocks ready.1.made_of) b)) r.blocks)
       × All (IsShowOf s) (shows_from f (guarded_blocks ready.1.made_of) [] r.blocks)
   shown = pieces_from f s store.values (guarded_blocks ready.1.made_of) [] r.blocks (λ k d l. absurd (omega (arith, l)))

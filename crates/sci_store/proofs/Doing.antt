@@ -25,7 +25,7 @@ use Rattle.sci_store.specs.Marks.{mark_at}
 use Rattle.sci_store.specs.Frame.{Fixed, IsFrame, AreSeated}
 use Rattle.sci_store.specs.Store.{Standing, IsStore}
 use Rattle.sci_store.specs.Passed.{given, branch_of}
-use Rattle.sci_store.specs.Rows.{Row, IsRowOf, IsAlone, IsMarked, marked, calls_in, call_of, run_calls, chosen_calls, between}
+use Rattle.sci_store.specs.Rows.{ReadyRow, IsRowOf, IsAlone, IsMarked, marked, calls_in, call_of, run_calls, chosen_calls, between}
 use Rattle.sci_store.specs.Runs.{IsCallIn, AreApart, AreOfKind, HasValues, AreValued, IsRunDone, IsSoundBehind}
 use Rattle.sci_store.proofs.Few.{few_calls}
 use Rattle.sci_store.proofs.Leveled.{kept, run_is, run_calls_are, between_long}
@@ -36,7 +36,7 @@ use Rattle.sci_store.proofs.Running.{stop_told, run_done, seated_kept}
 
 -- ---- a run of a row
 
-module _ (f : Fixed) (frame : IsFrame f) (source : Source) (r : Row) (is : IsRowOf f source r) (run : Run) (there : Contains r.runs run) where
+module _ (f : Fixed) (frame : IsFrame f) (source : Source) (r : ReadyRow) (is : IsRowOf f source r) (run : Run) (there : Contains r.runs run) where
   -- where the run is guarded its calls are those that are chosen
   pub chosen_are : (marks : List Mark) → run.guarded ≡ true
       → chosen_calls marks (calls_in r run) (entries_of (between r.guarded run.entries (run.entries + (run.end - run.start)))) ≡ run_calls r run marks
@@ -214,7 +214,7 @@ module _ (f : Fixed) (frame : IsFrame f) (banks : List Meaning) (seated : AreSea
 
 -- ---- the calls of a run and their entries lie in the row
 
-module _ (f : Fixed) (frame : IsFrame f) (source : Source) (r : Row) (is : IsRowOf f source r) (run : Run) (there : Contains r.runs run) where
+module _ (f : Fixed) (frame : IsFrame f) (source : Source) (r : ReadyRow) (is : IsRowOf f source r) (run : Run) (there : Contains r.runs run) where
   pub run_order : run.start ≤ run.end
   run_order = let a = (run_is f source r is run there).some in omega (arith, a)
 

@@ -12,10 +12,11 @@ use Rattle.sci_run.specs.Observed.{blocks_seen}
 use Rattle.sci_store.specs.Tally.{lines_after}
 use Rattle.sci_store.specs.Frame.{Fixed, IsFrame}
 use Rattle.sci_store.specs.Store.{Standing, IsStore, ShowsValues}
-use Rattle.sci_store.specs.Written.{AreAmong, IsHeader, tallied, tallied_values}
-use Rattle.sci_store.specs.Paged.{paged}
-use Rattle.sci_store.specs.Rows.{Row, IsReadyRow, KeepsBegun, IsShowOf, shown_values}
-use Rattle.sci_store.proofs.Paging.{from_none, waits}
+use Rattle.sci_store.specs.Written.{AreAmong, tallied, tallied_values}
+use Rattle.sci_lines.specs.Lines.{IsHeader}
+use Rattle.sci_lines.specs.Paged.{paged}
+use Rattle.sci_store.specs.Rows.{ReadyRow, IsReadyRow, KeepsBegun, IsShowOf, shown_values}
+use Rattle.sci_lines.proofs.Paging.{from_none, waits}
 use Rattle.sci_store.proofs.Writing.{row_is_seen}
 use Rattle.sci_store.proofs.Covering.{row_blocks, row_shows, row_pieces}
 use Rattle.sci_store.proofs.ShownPieces.{pieces_seen}
@@ -49,13 +50,13 @@ module _ (f : Fixed) (s t : Standing) (lines : ℕ) (same : t ≡ record s { lin
   pub store_counted : IsStore f s → IsStore f t
   store_counted h = subst (IsStore f) (sym same) (record { values = h.values; cursors = h.cursors; marks = h.marks; room = h.room; chosen = h.chosen })
 
-  pub begun_counted : (r : Row) → KeepsBegun f r s → KeepsBegun f r t
+  pub begun_counted : (r : ReadyRow) → KeepsBegun f r s → KeepsBegun f r t
   begun_counted r h = begun_behind f r s t (ap (λ (u : Standing). u.marks) same) h
 
   pub values_counted : (source : Source) (y : Signals) (active : Activity) → ShowsValues f source s y active → ShowsValues f source t y active
   values_counted source y active h = subst (λ (u : Standing). ShowsValues f source u y active) (sym same) (record { values = h.values; active_are = h.active_are; masks = h.masks })
 
-  pub shows_counted : (r : Row) → All (IsShowOf s) r.shows → All (IsShowOf t) r.shows
+  pub shows_counted : (r : ReadyRow) → All (IsShowOf s) r.shows → All (IsShowOf t) r.shows
   shows_counted r h =
       subst (λ (u : Standing). All (IsShowOf u) r.shows) (sym same) (λ k d l. let is = h k d l in record { order = is.order; within = is.within; asked = is.asked })
 
@@ -63,7 +64,7 @@ module _ (f : Fixed) (s t : Standing) (lines : ℕ) (same : t ≡ record s { lin
   only_counted = ap (λ (u : Standing). record u { lines = t.lines; sum = t.sum }) same
 
 -- all is observed, where nobody reads it
-pub unseen_counted : (f : Fixed) (s t u : Standing) (r : Row) (o : Obs) → IsFrame f → IsStore f s → IsReadyRow f r → KeepsBegun f r s → IsHeader o
+pub unseen_counted : (f : Fixed) (s t u : Standing) (r : ReadyRow) (o : Obs) → IsFrame f → IsStore f s → IsReadyRow f r → KeepsBegun f r s → IsHeader o
     → t ≡ record s { lines = lines_after s.lines 1 } → u ≡ tallied_values t (shown_values t r.shows)
     → (source : Source) (y : Signals) (active : Activity) → ShowsValues f source s y active → AreAmong f.net active r.blocks → u ≡ tallied s (o ∷ blocks_seen 1 f.net.specs y active)
 unseen_counted f s t u r o frame store ready begun header same counted source y active shown among =

@@ -21,7 +21,7 @@ use Rattle.sci_store.specs.Marks.{mark_at, idle}
 use Rattle.sci_store.specs.Frame.{Fixed, IsFrame, AreSeated}
 use Rattle.sci_store.specs.Store.{Standing, IsStore, state_of, cursor_at, ShowsMemory}
 use Rattle.sci_store.specs.Passed.{IsPassed}
-use Rattle.sci_store.specs.Rows.{Row, IsRowOf, IsOfWhole, AreWholeMarked, HasBegun, KeepsBegun, Join, run_calls}
+use Rattle.sci_store.specs.Rows.{ReadyRow, IsRowOf, IsOfWhole, AreWholeMarked, HasBegun, KeepsBegun, Join, run_calls}
 use Rattle.sci_store.specs.Runs.{IsRunDone, IsSoundBehind, lesser}
 use Rattle.sci_store.proofs.Leveled.{by_depth, kept, plain}
 use Rattle.sci_store.proofs.Calling.{called_stands}
@@ -56,7 +56,7 @@ all_reached at end (r ∷ rs) (suc k) h l = all_reached r.end end rs k h.1 (omeg
 
 -- ---- between two runs
 
-pub record IsInPass (f : Fixed) (frame : IsFrame f) (i : Columns) (r : Row) (k : ℕ) (s t : Standing) (old banks : List Meaning) (stop : Option (ℕ × StopWord)) : Type 0 where
+pub record IsInPass (f : Fixed) (frame : IsFrame f) (i : Columns) (r : ReadyRow) (k : ℕ) (s t : Standing) (old banks : List Meaning) (stop : Option (ℕ × StopWord)) : Type 0 where
   pub store : IsStore f t
   pub seated : AreSeated f banks
   pub in_range : AreInRange f.net (values_at f.net t.values)
@@ -70,14 +70,14 @@ pub record IsInPass (f : Fixed) (frame : IsFrame f) (i : Columns) (r : Row) (k :
       → IsPassing f frame i source m free r is s t old banks (reached 0 r.runs k) stop
 
 -- a block of a whole run is one of the row
-pub whole_in_row : (f : Fixed) (frame : IsFrame f) (source : Source) (r : Row) → IsRowOf f source r → (b : ℕ) → IsOfWhole r b → Contains r.blocks b
+pub whole_in_row : (f : Fixed) (frame : IsFrame f) (source : Source) (r : ReadyRow) → IsRowOf f source r → (b : ℕ) → IsOfWhole r b → Contains r.blocks b
 whole_in_row f frame source r is b whole =
     let p = called_stands f frame source r is whole.run whole.there b whole.called in
     let by = by_depth f source r is in
     let es = plain f source r is in
     (is.row.blocks_are.same b).1 ((is.entries.exactly b).1 (subst (Possible f.net source) p.block_is ((by.exactly (block_in_row es p.place)).0 (block_at_place es p.place p.within))))
 
-pub pass_before : (f : Fixed) (frame : IsFrame f) (i : Columns) (r : Row) (s : Standing) (old : List Meaning) (source : Source) (is : IsRowOf f source r) (memory : Memory)
+pub pass_before : (f : Fixed) (frame : IsFrame f) (i : Columns) (r : ReadyRow) (s : Standing) (old : List Meaning) (source : Source) (is : IsRowOf f source r) (memory : Memory)
     → IsStore f s → AreSeated f old → HasBegun f r s → ShowsMemory f s old memory → IsMemory f.net memory → ((k : Kind) → (bank_of old k).outs ≤ 18446744073709551615)
     → IsInPass f frame i r 0 s s old old None
 pass_before f frame i r s old source is memory store seated begun shows in_range small = record {
@@ -102,7 +102,7 @@ none_both (Some x) (Some z) h = by_test (nat_lt x.0 z.0) h
     by_test true e = cc
     by_test false e = cc
 
-module _ (f : Fixed) (frame : IsFrame f) (i : Columns) (r : Row) (k : ℕ) (s t u : Standing) (old banks after : List Meaning) (stop found_stop : Option (ℕ × StopWord))
+module _ (f : Fixed) (frame : IsFrame f) (i : Columns) (r : ReadyRow) (k : ℕ) (s t u : Standing) (old banks after : List Meaning) (stop found_stop : Option (ℕ × StopWord))
     (inv : IsInPass f frame i r k s t old banks stop) (run : Run) (less : k < length r.runs) (read : run ≡ get_or r.runs k run) (begun : HasBegun f r s)
     (ran : IsRunDone f i run.kind (run_calls r run t.marks) t u banks after found_stop) where
   pub run_there : Contains r.runs run
@@ -186,11 +186,11 @@ module _ (f : Fixed) (frame : IsFrame f) (i : Columns) (r : Row) (k : ℕ) (s t 
         none_some st e = cc
 
 -- the run that is gone through, where these are those of the row
-pub run_read : (r : Row) (items : List Run) (k : ℕ) (d : Run) → items ≡ r.runs → k < length items → get_or items k d ≡ get_or r.runs k (get_or items k d)
+pub run_read : (r : ReadyRow) (items : List Run) (k : ℕ) (d : Run) → items ≡ r.runs → k < length items → get_or items k d ≡ get_or r.runs k (get_or items k d)
 run_read r items k d same l =
     ap (λ (xs : List Run). get_or xs k d) same ∙ get_or_default r.runs k d (get_or items k d) (subst (λ (xs : List Run). k < length xs) same l)
 
-pub pass_behind : (f : Fixed) (frame : IsFrame f) (i : Columns) (r : Row) (k : ℕ) (s t : Standing) (old banks : List Meaning) (stop : Option (ℕ × StopWord))
+pub pass_behind : (f : Fixed) (frame : IsFrame f) (i : Columns) (r : ReadyRow) (k : ℕ) (s t : Standing) (old banks : List Meaning) (stop : Option (ℕ × StopWord))
     → IsInPass f frame i r k s t old banks stop → length r.runs ≤ k → HasBegun f r s → (source : Source) (m : Memory) → IsLoopFree f.net source → IsRowOf f source r
     → ShowsMemory f s old m → IsMemory f.net m → IsPassed f i source m s t old banks None
 pass_behind f frame i r k s t old banks stop inv all begun source m free is shows memory =
@@ -200,6 +200,6 @@ pass_behind f frame i r k s t old banks stop inv all begun source m free is show
     passing_last f frame i source m free r is s t old banks stop
     (subst (λ x. IsPassing f frame i source m free r is s t old banks x stop) at (inv.found source m free is shows memory)) begun inv.in_range inv.cursors inv.states
 
-pub kept_last : (f : Fixed) (frame : IsFrame f) (i : Columns) (r : Row) (k : ℕ) (s t : Standing) (old banks : List Meaning) (stop : Option (ℕ × StopWord))
+pub kept_last : (f : Fixed) (frame : IsFrame f) (i : Columns) (r : ReadyRow) (k : ℕ) (s t : Standing) (old banks : List Meaning) (stop : Option (ℕ × StopWord))
     → IsInPass f frame i r k s t old banks stop → KeepsBegun f r t
 kept_last f frame i r k s t old banks stop inv = record { whole = inv.whole; others = inv.others }

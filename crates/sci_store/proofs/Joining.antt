@@ -5,17 +5,17 @@ use Rattle.std.specs.List.{filter}
 use Rattle.std.proofs.lemmas.Bool.{eqb-true, eq-eqb, ne_eqb, cases_eq, cases_lt}
 use Rattle.std.proofs.lemmas.List.{get_or-map, get_or-take, get_or-drop, get_or_default}
 use Rattle.std.proofs.lemmas.List.Filters.{length-filter_more}
-use Rattle.sci_forms.specs.Names.{number_of}
+use Rattle.sci_forms.specs.Numbers.{number_of}
 use Rattle.sci_reaction.specs.declared.entry.Entry.{Entry}
 use Rattle.sci_reaction.proofs.Lists.{and_both, or_left, or_right}
-use Rattle.sci_store.specs.declared.row.Rank.{Rank}
+use Rattle.sci_store.specs.declared.row.CallRank.{CallRank}
 use Rattle.sci_store.specs.declared.row.Run.{Run}
 use Rattle.sci_store.specs.Frame.{Fixed, seat_of}
 use Rattle.sci_store.specs.Rows.{is_guarded, IsAlone, IsRun, Join, between, depth_at}
 use Rattle.sci_store.specs.Ranks.{are_alike, IsRankOf, AreRanksOf}
 use Rattle.sci_store.proofs.KindNumbers.{same_kind}
 
-abbrev pub no_rank : Rank
+abbrev pub no_rank : CallRank
 no_rank = record { depth = 0; guarded = false; alone = false; kind = 0; block = 0; at = 0 }
 
 -- ---- pieces of a list
@@ -40,7 +40,7 @@ joined_more at mid (q ∷ qs) r h e = (h.0, joined_more q.end mid qs r h.1 e)
 
 -- ---- ranks of one run
 
-pub record IsAlike (r q : Rank) : Type 0 where
+pub record IsAlike (r q : CallRank) : Type 0 where
   pub depth : r.depth ≡ q.depth
   pub guarded : r.guarded ≡ q.guarded
   pub alone : r.alone ≡ q.alone
@@ -52,7 +52,7 @@ same_flags true true h = refl
 same_flags true false h = absurd (true≢false (sym h))
 same_flags false true h = absurd (true≢false (sym h))
 
-pub alike_by : (r q : Rank) → are_alike r q ≡ true → IsAlike r q
+pub alike_by : (r q : CallRank) → are_alike r q ≡ true → IsAlike r q
 alike_by r q h =
     let first = and_both (eqb r.depth q.depth) (beq r.guarded q.guarded && (beq r.alone q.alone && eqb r.kind q.kind)) h in
     let second = and_both (beq r.guarded q.guarded) (beq r.alone q.alone && eqb r.kind q.kind) first.1 in
@@ -64,18 +64,18 @@ alike_by r q h =
       kind = eqb-true r.kind q.kind third.1;
     }
 
-alike_itself : (r : Rank) → IsAlike r r
+alike_itself : (r : CallRank) → IsAlike r r
 alike_itself r = record { depth = refl; guarded = refl; alone = refl; kind = refl }
 
-alike_then : (r q p : Rank) → IsAlike r q → IsAlike q p → IsAlike r p
+alike_then : (r q p : CallRank) → IsAlike r q → IsAlike q p → IsAlike r p
 alike_then r q p h k = record { depth = h.depth ∙ k.depth; guarded = h.guarded ∙ k.guarded; alone = h.alone ∙ k.alone; kind = h.kind ∙ k.kind }
 
 -- each of the ranks from one place to before another is alike with the next
-abbrev pub AreAlikeTo : List Rank → ℕ → ℕ → Type 0
-AreAlikeTo order start at = (j : ℕ) (r : Rank) → start ≤ j → j < at → IsAlike (get_or order j r) (get_or order (j + 1) r)
+abbrev pub AreAlikeTo : List CallRank → ℕ → ℕ → Type 0
+AreAlikeTo order start at = (j : ℕ) (r : CallRank) → start ≤ j → j < at → IsAlike (get_or order j r) (get_or order (j + 1) r)
 
 -- and so with that at the end
-pub alike_to : (order : List Rank) (start at : ℕ) (r : Rank) (n j : ℕ) → AreAlikeTo order start at → start ≤ j → j + n ≡ at → IsAlike (get_or order j r) (get_or order at r)
+pub alike_to : (order : List CallRank) (start at : ℕ) (r : CallRank) (n j : ℕ) → AreAlikeTo order start at → start ≤ j → j + n ≡ at → IsAlike (get_or order j r) (get_or order at r)
 alike_to order start at r zero j h l e = let same : j ≡ at = omega (arith, e) in subst (λ (i : ℕ). IsAlike (get_or order j r) (get_or order i r)) same (alike_itself (get_or order j r))
 alike_to order start at r (suc n) j h l e =
     alike_then (get_or order j r) (get_or order (j + 1) r) (get_or order at r) (h j r l (omega (arith, e)))
@@ -84,14 +84,14 @@ alike_to order start at r (suc n) j h l e =
 -- ---- guarded ranks
 
 -- how many of the first k ranks are guarded
-abbrev pub guarded_count : List Rank → ℕ → ℕ
-guarded_count order k = length (filter (λ (r : Rank). r.guarded) (take k order))
+abbrev pub guarded_count : List CallRank → ℕ → ℕ
+guarded_count order k = length (filter (λ (r : CallRank). r.guarded) (take k order))
 
-flagged : (order : List Rank) (k : ℕ) (r : Rank) (t : Bool) → k < length order → (get_or order k r).guarded ≡ t → guarded_count order (k + 1) ≡ guarded_count order k + cond t 1 0
-flagged order k r t l e = length-filter_more (λ (q : Rank). q.guarded) order k r l ∙ ap (λ (b : Bool). guarded_count order k + cond b 1 0) e
+flagged : (order : List CallRank) (k : ℕ) (r : CallRank) (t : Bool) → k < length order → (get_or order k r).guarded ≡ t → guarded_count order (k + 1) ≡ guarded_count order k + cond t 1 0
+flagged order k r t l e = length-filter_more (λ (q : CallRank). q.guarded) order k r l ∙ ap (λ (b : Bool). guarded_count order k + cond b 1 0) e
 
 -- of ranks that are alike all are counted, or none
-pub count_alike : (order : List Rank) (start : ℕ) (r : Rank) (t : Bool) (n : ℕ) → start + n ≤ length order
+pub count_alike : (order : List CallRank) (start : ℕ) (r : CallRank) (t : Bool) (n : ℕ) → start + n ≤ length order
     → ((j : ℕ) → start ≤ j → j < start + n → (get_or order j r).guarded ≡ t) → guarded_count order (start + n) ≡ guarded_count order start + cond t n 0
 count_alike order start r true zero l h = let e : start + 0 ≡ start = omega arith in ap (guarded_count order) e ∙ omega arith
 count_alike order start r false zero l h = let e : start + 0 ≡ start = omega arith in ap (guarded_count order) e ∙ omega arith
@@ -106,20 +106,20 @@ count_alike order start r false (suc n) l h =
     let step = flagged order (start + n) r false (omega (arith, l)) (h (start + n) (omega arith) (omega arith)) in
     ap (guarded_count order) e ∙ (step ∙ (ap (λ (k : ℕ). k + 0) before ∙ omega arith))
 
-one_if : (t : Bool) (r : Rank) (rs : List Rank) (k : ℕ) → length rs ≤ k → length (cond t (r ∷ rs) rs) ≤ suc k
+one_if : (t : Bool) (r : CallRank) (rs : List CallRank) (k : ℕ) → length rs ≤ k → length (cond t (r ∷ rs) rs) ≤ suc k
 one_if true r rs k h = omega (arith, h)
 one_if false r rs k h = omega (arith, h)
 
-pub count_most : (order : List Rank) (k : ℕ) → guarded_count order k ≤ k
+pub count_most : (order : List CallRank) (k : ℕ) → guarded_count order k ≤ k
 count_most order zero = omega arith
 count_most [] (suc k) = omega arith
-count_most (r ∷ rs) (suc k) = one_if r.guarded r (filter (λ (q : Rank). q.guarded) (take k rs)) k (count_most rs k)
+count_most (r ∷ rs) (suc k) = one_if r.guarded r (filter (λ (q : CallRank). q.guarded) (take k rs)) k (count_most rs k)
 
 -- ---- the entries of the ranks
 
-module _ (f : Fixed) (depth : Entry → ℕ) (order : List Rank) where
+module _ (f : Fixed) (depth : Entry → ℕ) (order : List CallRank) where
   -- as many of the first entries are guarded as of their ranks
-  entries_by : (es : List Entry) (d : Entry) (r : Rank) → AreRanksOf f depth es order → (k : ℕ) → k ≤ length es → length (filter is_guarded (take k es)) ≡ guarded_count order k
+  entries_by : (es : List Entry) (d : Entry) (r : CallRank) → AreRanksOf f depth es order → (k : ℕ) → k ≤ length es → length (filter is_guarded (take k es)) ≡ guarded_count order k
   entries_by es d r h zero l = refl
   entries_by es d r h (suc k) l =
       let e : suc k ≡ k + 1 = omega arith in
@@ -130,16 +130,16 @@ module _ (f : Fixed) (depth : Entry → ℕ) (order : List Rank) where
       ∙ (step ∙ (ap (λ (n : ℕ). n + cond (is_guarded (get_or es k d)) 1 0) before
       ∙ (sym (flagged order k r (is_guarded (get_or es k d)) (omega (arith, l, h.one_each)) same) ∙ ap (guarded_count order) (sym e))))
 
-  pub entries_count : (es : List Entry) (r : Rank) → AreRanksOf f depth es order → (k : ℕ) → k ≤ length es → length (filter is_guarded (take k es)) ≡ guarded_count order k
+  pub entries_count : (es : List Entry) (r : CallRank) → AreRanksOf f depth es order → (k : ℕ) → k ≤ length es → length (filter is_guarded (take k es)) ≡ guarded_count order k
   entries_count [] r h zero l = refl
   entries_count [] r h (suc k) l = absurd (omega (arith, l))
   entries_count (e ∷ es) r h k l = entries_by (e ∷ es) e r h k l
 
   -- the depth of an entry by its rank
-  depth_there : (es : List Entry) (r : Rank) → AreRanksOf f depth es order → (k : ℕ) → k < length order → depth_at depth es k ≡ (get_or order k r).depth
-  depth_there es r h k l = ap (λ (ns : List ℕ). get_or ns k 0) (sym h.depths) ∙ get_or-map (λ (q : Rank). q.depth) order k r 0 l
+  depth_there : (es : List Entry) (r : CallRank) → AreRanksOf f depth es order → (k : ℕ) → k < length order → depth_at depth es k ≡ (get_or order k r).depth
+  depth_there es r h k l = ap (λ (ns : List ℕ). get_or ns k 0) (sym h.depths) ∙ get_or-map (λ (q : CallRank). q.depth) order k r 0 l
 
-  depth_here : (es : List Entry) (d : Entry) (r : Rank) → AreRanksOf f depth es order → (k : ℕ) → k < length order → depth (get_or es k d) ≡ (get_or order k r).depth
+  depth_here : (es : List Entry) (d : Entry) (r : CallRank) → AreRanksOf f depth es order → (k : ℕ) → k < length order → depth (get_or es k d) ≡ (get_or order k r).depth
   depth_here es d r h k l = sym (get_or-map depth es k d 0 (omega (arith, l, h.one_each))) ∙ depth_there es r h k l
 
 -- ---- one run
@@ -160,7 +160,7 @@ not_false : (x : Bool) → x ≡ false → not x ≡ true
 not_false x h = ap not h
 
 -- what is told of a run that ends behind the rank at a place
-pub record IsEndedBy (f : Fixed) (order : List Rank) (start at entries : ℕ) (d : Rank) (run : Run) : Type 0 where
+pub record IsEndedBy (f : Fixed) (order : List CallRank) (start at entries : ℕ) (d : CallRank) (run : Run) : Type 0 where
   pub kind : run.kind ≡ (seat_of f (get_or order at d).block).kind
   pub together : run.together ≡ not (get_or order at d).alone
   pub guarded : run.guarded ≡ (get_or order at d).guarded
@@ -170,7 +170,7 @@ pub record IsEndedBy (f : Fixed) (order : List Rank) (start at entries : ℕ) (d
   pub last : run.last ≡ (eqb (at + 1) (length order) || not (eqb (get_or order at d).depth (get_or order (at + 1) d).depth))
 
 -- the guarded ones of its ranks are counted behind it
-pub counted_behind : (order : List Rank) (start at entries next : ℕ) (d : Rank) → start ≤ at → at < length order → AreAlikeTo order start at → entries ≡ guarded_count order start
+pub counted_behind : (order : List CallRank) (start at entries next : ℕ) (d : CallRank) → start ≤ at → at < length order → AreAlikeTo order start at → entries ≡ guarded_count order start
     → next ≡ entries + cond (get_or order at d).guarded (at + 1 - start) 0 → next ≡ guarded_count order (at + 1)
 counted_behind order start at entries next d begun within alike counted h =
     let e : start + (at + 1 - start) ≡ at + 1 = omega (arith, begun) in
@@ -179,13 +179,13 @@ counted_behind order start at entries next d begun within alike counted h =
     h ∙ (ap (λ (k : ℕ). k + cond (get_or order at d).guarded (at + 1 - start) 0) counted
     ∙ (sym (count_alike order start d (get_or order at d).guarded (at + 1 - start) (omega (arith, begun, within)) flags) ∙ ap (guarded_count order) e))
 
-module _ (f : Fixed) (depth : Entry → ℕ) (es : List Entry) (order : List Rank) (start at entries : ℕ) (run : Run) (ranks : AreRanksOf f depth es order) (begun : start ≤ at)
+module _ (f : Fixed) (depth : Entry → ℕ) (es : List Entry) (order : List CallRank) (start at entries : ℕ) (run : Run) (ranks : AreRanksOf f depth es order) (begun : start ≤ at)
     (within : at < length order) (alike : AreAlikeTo order start at) (counted : entries ≡ guarded_count order start) where
-  module _ (d : Rank) (told : IsEndedBy f order start at entries d run) where
-    abbrev r : Rank
+  module _ (d : CallRank) (told : IsEndedBy f order start at entries d run) where
+    abbrev r : CallRank
     r = get_or order at d
 
-    abbrev after : Rank
+    abbrev after : CallRank
     after = get_or order (at + 1) d
 
     one : (j : ℕ) → start ≤ j → j ≤ at → IsAlike (get_or order j d) (get_or order at d)
@@ -257,18 +257,18 @@ module _ (f : Fixed) (depth : Entry → ℕ) (es : List Entry) (order : List Ran
 -- ---- the runs so far
 
 -- the runs of the ranks before start; those from there on are of one run so far, and none where no rank is left
-pub record IsJoinedTo (order : List Rank) (at start entries : ℕ) (runs : List Run) : Type 0 where
+pub record IsJoinedTo (order : List CallRank) (at start entries : ℕ) (runs : List Run) : Type 0 where
   pub begun : start ≤ at
   pub some_left : (at ≡ start) ⊎ (at < length order)
   pub alike : AreAlikeTo order start at
   pub joined : Join 0 start runs
   pub counted : entries ≡ guarded_count order start
 
-pub joined_none : (order : List Rank) → IsJoinedTo order 0 0 0 []
+pub joined_none : (order : List CallRank) → IsJoinedTo order 0 0 0 []
 joined_none order = record { begun = omega arith; some_left = inl refl; alike = λ j r l m. absurd (omega (arith, m)); joined = refl; counted = refl }
 
 -- the next rank is of the same run
-pub joined_on : {order : List Rank} {at start entries : ℕ} {runs : List Run} (d : Rank) → IsJoinedTo order at start entries runs → at + 1 < length order
+pub joined_on : {order : List CallRank} {at start entries : ℕ} {runs : List Run} (d : CallRank) → IsJoinedTo order at start entries runs → at + 1 < length order
     → are_alike (get_or order at d) (get_or order (at + 1) d) ≡ true → IsJoinedTo order (at + 1) start entries runs
 joined_on {order} {at} {start} d h l same = record {
   begun = omega (arith, h.begun);
@@ -278,7 +278,7 @@ joined_on {order} {at} {start} d h l same = record {
   counted = h.counted;
 }
   where
-    alike_here : (j : ℕ) (q : Rank) → j ≡ at → IsAlike (get_or order j q) (get_or order (j + 1) q)
+    alike_here : (j : ℕ) (q : CallRank) → j ≡ at → IsAlike (get_or order j q) (get_or order (j + 1) q)
     alike_here j q e =
         let first : get_or order at d ≡ get_or order at q = get_or_default order at d q (omega (arith, l)) in
         let second : get_or order (at + 1) d ≡ get_or order (at + 1) q = get_or_default order (at + 1) d q l in
@@ -286,7 +286,7 @@ joined_on {order} {at} {start} d h l same = record {
         (subst₂ IsAlike first second (alike_by (get_or order at d) (get_or order (at + 1) d) same))
 
 -- the run ends
-pub joined_behind : {order : List Rank} {at start entries : ℕ} {runs : List Run} (run : Run) (next : ℕ) → IsJoinedTo order at start entries runs → run.start ≡ start → run.end ≡ at + 1
+pub joined_behind : {order : List CallRank} {at start entries : ℕ} {runs : List Run} (run : Run) (next : ℕ) → IsJoinedTo order at start entries runs → run.start ≡ start → run.end ≡ at + 1
     → next ≡ guarded_count order (at + 1) → IsJoinedTo order (at + 1) (at + 1) next (runs ++ run ∷ [])
 joined_behind {order} {at} {start} {entries} {runs} run next h begins ends counted = record {
   begun = omega arith;
@@ -297,6 +297,6 @@ joined_behind {order} {at} {start} {entries} {runs} run next h begins ends count
 }
 
 -- all runs
-pub joined_all : {order : List Rank} {at start entries : ℕ} {runs : List Run} → IsJoinedTo order at start entries runs → at ≡ length order → Join 0 (length order) runs
+pub joined_all : {order : List CallRank} {at start entries : ℕ} {runs : List Run} → IsJoinedTo order at start entries runs → at ≡ length order → Join 0 (length order) runs
 joined_all {order} {at} {start} {entries} {runs} h e =
     ⊎_elim (λ same. let whole : start ≡ length order = sym same ∙ e in subst (λ (n : ℕ). Join 0 n runs) whole h.joined) (λ less. absurd (omega (arith, less, e))) h.some_left

@@ -2,7 +2,7 @@
 use Rattle.std.proofs.Common.{◌≡◌, Some, refl, sym, ap, ◌∙◌}
 use Rattle.sci_forms.specs.declared.Kind.{Kind}
 use Rattle.sci_forms.specs.declared.Kind.TheVariants.{Const}
-use Rattle.sci_forms.specs.Names.{number_of, kind_at}
+use Rattle.sci_forms.specs.Numbers.{number_of, kind_at}
 
 at_number : (k : Kind) → kind_at (number_of k) ≡ Some k
 at_number Const = refl

@@ -24,7 +24,7 @@ use Rattle.sci_store.specs.declared.marks.Mark.{Mark}
 use Rattle.sci_store.specs.declared.row.Run.{Run}
 use Rattle.sci_store.specs.Entries.{activation}
 use Rattle.sci_store.specs.Frame.{Fixed, seat_of}
-use Rattle.sci_store.specs.Rows.{Row, IsRowOf, IsRun, IsAlone, StandsBefore, is_guarded, call_of, between, depth_at, calls_in, run_calls, chosen_calls, call_on}
+use Rattle.sci_store.specs.Rows.{ReadyRow, IsRowOf, IsRun, IsAlone, StandsBefore, is_guarded, call_of, between, depth_at, calls_in, run_calls, chosen_calls, call_on}
 
 -- ---- lists
 
@@ -86,7 +86,7 @@ filter_between p xs start end l m h =
 
 -- ---- the entries of a source
 
-module _ (f : Fixed) (source : Source) (r : Row) (is : IsRowOf f source r) where
+module _ (f : Fixed) (source : Source) (r : ReadyRow) (is : IsRowOf f source r) where
   abbrev pub kept : List Entry
   kept = is.row.values.sorted
 
@@ -256,7 +256,7 @@ whole_is f marks (e ∷ es) h =
     ap (λ o. call_on (call_of f e) o ++ calls_of f marks es) (whole_entry marks e (h 0 e (omega arith)))
     ∙ ap (λ cs. call_of f e ∷ cs) (whole_is f marks es (λ k d l. h (suc k) d (omega (arith, l))))
 
-pub run_calls_are : (f : Fixed) (source : Source) (r : Row) (is : IsRowOf f source r) (run : Run) (there : Contains r.runs run) (marks : List Mark)
+pub run_calls_are : (f : Fixed) (source : Source) (r : ReadyRow) (is : IsRowOf f source r) (run : Run) (there : Contains r.runs run) (marks : List Mark)
     → run_calls r run marks ≡ calls_of f marks (between (kept f source r is) run.start run.end)
 run_calls_are f source r is run there marks = by_guarded run.guarded refl
   where

@@ -1,7 +1,4 @@
 pub mod Evaluating
-pub mod Digits
-pub mod Threes
-pub mod Paging
 pub mod LineStarts
 pub mod Writing
 pub mod Counting

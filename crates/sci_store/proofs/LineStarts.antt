@@ -2,8 +2,6 @@
 use Rattle.std.proofs.Common.{◌≡◌, ℕ, zero, suc, ◌+◌, ◌-◌, ◌<◌, ◌≤◌, true, ℤ, pos, List, [], ◌∷◌, ◌++◌, length, get_or, take, drop, map, refl, sym, ap, ◌∙◌, append_assoc, arith, inl, inr}
 use Rattle.std.proofs.lemmas.Bool.{cases_lt}
 use Rattle.std.proofs.lemmas.List.{drop_more, get_or-take, get_or-drop, get_or_append_left, get_or-append_right, get_or-map, length-append, length-map, length-drop, length-take-le, append-nil, map-append}
-use Rattle.std.specs.Fmt.{decimal}
-use Rattle.std.proofs.lemmas.Fmt.{length-decimal-le}
 use Rattle.sci_base.specs.declared.observation.Obs.{Obs}
 use Rattle.sci_base.specs.declared.observation.Obs.TheVariants.{Start, Val}
 use Rattle.sci_forms.specs.declared.Kind.{Kind}
@@ -20,13 +18,14 @@ use Rattle.sci_run.specs.Observed.{elements_seen, outputs_seen}
 use Rattle.sci_places.specs.Flat.{start_in, start_of, values_at, IsWhole}
 use Rattle.sci_span.proofs.Runs.{read_length}
 use Rattle.sci_places.proofs.Outputs.{block_within}
-use Rattle.sci_store.specs.Heads.{Named, start_text, named_elements, named_outputs, named_blocks, heads_of, value_of}
+use Rattle.sci_store.specs.Heads.{named_elements, named_outputs, named_blocks, heads_of}
+use Rattle.sci_lines.specs.Lines.{Named, start_text, value_of}
 use Rattle.sci_store.specs.Frame.{Fixed, IsFrame}
 
 abbrev pub nobody : Named
 nobody = record { block = 0; port = 0; element = 0 }
 
--- ---- small numbers
+-- ---- few outputs
 
 outs_most : (c : Kind) (k : ℕ) → (counts_of c k).outs_most ≤ 64
 outs_most Const k = omega arith
@@ -34,15 +33,6 @@ outs_most _ k = omega arith
 
 pub few_outs : (s : Spec) → typed s ≡ true → length s.outs ≤ 64
 few_outs s h = omega (arith, outs_most s.kind (length s.ins), (tests s.kind s h).outs_most)
-
-pub digits_of_block : (n : ℕ) → n < 10000 → length (decimal n) ≤ 4
-digits_of_block n h = length-decimal-le 4 n (omega arith) (omega (arith, h)) (omega (arith, h))
-
-pub digits_of_port : (n : ℕ) → n < 100 → length (decimal n) ≤ 2
-digits_of_port n h = length-decimal-le 2 n (omega arith) (omega (arith, h)) (omega (arith, h))
-
-pub digits_of_element : (n : ℕ) → n < 100000 → length (decimal n) ≤ 5
-digits_of_element n h = length-decimal-le 5 n (omega arith) (omega (arith, h)) (omega (arith, h))
 
 -- ---- one behind the other
 

@@ -9,7 +9,7 @@ use Rattle.sci_reaction.specs.declared.entry.Entry.{Entry}
 use Rattle.sci_span.specs.Values.{IsLone}
 use Rattle.sci_places.specs.Layout.{place_at}
 use Rattle.sci_bank.specs.declared.runs.Call.{Call}
-use Rattle.sci_store.specs.declared.row.Rank.{Rank}
+use Rattle.sci_store.specs.declared.row.CallRank.{CallRank}
 use Rattle.sci_store.specs.declared.seats.Seat.{Seat}
 use Rattle.sci_store.specs.Blocks.{AreBlocksByNumber}
 use Rattle.sci_store.specs.Chosen.{of_kinds}
@@ -20,7 +20,7 @@ use Rattle.sci_store.specs.Ranks.{AreRanksOf, AreAt}
 -- ---- calls
 
 -- one call more
-pub call_next : (f : Fixed) (entries : List Entry) (order : List Rank) (k : ℕ) (d : Rank) (e : Entry) (s : Seat) (calls new : List Call) → k < length order
+pub call_next : (f : Fixed) (entries : List Entry) (order : List CallRank) (k : ℕ) (d : CallRank) (e : Entry) (s : Seat) (calls new : List Call) → k < length order
     → s ≡ seat_of f (get_or order k d).block
     → ((depth : Entry → ℕ) (sorted : List Entry) → AreRanksOf f depth sorted order → AreAt entries order sorted → calls ≡ map (call_of f) (take k sorted))
     → new ≡ calls ++ record { slot = s.slot; block = (get_or order k d).block; mask = (get_or entries (get_or order k d).at e).mask } ∷ []

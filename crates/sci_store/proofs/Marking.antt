@@ -21,7 +21,7 @@ use Rattle.sci_store.specs.Marks.{mark_at, idle}
 use Rattle.sci_store.specs.Entries.{is_taken, with_guards, activation}
 use Rattle.sci_store.specs.Frame.{Fixed, IsFrame}
 use Rattle.sci_store.specs.Store.{Standing}
-use Rattle.sci_store.specs.Rows.{Row, IsRowOf, IsOfWhole, AreWholeMarked, HasBegun, KeepsBegun, IsMarked, IsRun, Join, mark_by, marked, call_on, call_of, calls_in, chosen_calls, is_guarded, between}
+use Rattle.sci_store.specs.Rows.{ReadyRow, IsRowOf, IsOfWhole, AreWholeMarked, HasBegun, KeepsBegun, IsMarked, IsRun, Join, mark_by, marked, call_on, call_of, calls_in, chosen_calls, is_guarded, between}
 use Rattle.sci_store.proofs.Evaluating.{mark_here, mark_other}
 use Rattle.sci_store.proofs.Leveled.{kept, plain, by_depth, block_there, run_is, plain_at, some_of, all_between, between_at, between_long, calls_here}
 use Rattle.sci_store.proofs.Calling.{map_contains, contains_map, called_stands, row_pairs}
@@ -106,14 +106,14 @@ run_over at end (r ∷ rs) j h l m = ⊎_elim
 -- ---- a row's whole runs are marked, run by run
 
 -- the whole ones of the first runs are marked, and no other block
-pub record HasBegunTo (f : Fixed) (r : Row) (k : ℕ) (marks : List Mark) : Type 0 where
+pub record HasBegunTo (f : Fixed) (r : ReadyRow) (k : ℕ) (marks : List Mark) : Type 0 where
   pub long : length marks ≡ length f.net.specs
   pub whole_to : (j : ℕ) (d : Run) → j < k → j < length r.runs → (get_or r.runs j d).guarded ≡ false → All (IsMarked marks) (calls_in r (get_or r.runs j d))
   pub others_to : (b : ℕ) → IsBlock f.net b
       → ((j : ℕ) (d : Run) → j < k → j < length r.runs → (get_or r.runs j d).guarded ≡ false → Contains (map (λ (c : Call). c.block) (calls_in r (get_or r.runs j d))) b → ⊥)
       → mark_at marks b ≡ idle
 
-pub begun_skip : (f : Fixed) (r : Row) (k : ℕ) (marks : List Mark) (run : Run) → HasBegunTo f r k marks → run ≡ get_or r.runs k run → run.guarded ≡ true → k < length r.runs
+pub begun_skip : (f : Fixed) (r : ReadyRow) (k : ℕ) (marks : List Mark) (run : Run) → HasBegunTo f r k marks → run ≡ get_or r.runs k run → run.guarded ≡ true → k < length r.runs
     → HasBegunTo f r (k + 1) marks
 begun_skip f r k marks run h read on less = record {
   long = h.long;
@@ -125,7 +125,7 @@ begun_skip f r k marks run h read on less = record {
   others_to = λ b block out. h.others_to b block (λ j d l m off there. out j d (omega (arith, l)) m off there);
 }
 
-module _ (f : Fixed) (frame : IsFrame f) (source : Source) (r : Row) (is : IsRowOf f source r) (k : ℕ) (marks : List Mark) (run : Run) (h : HasBegunTo f r k marks)
+module _ (f : Fixed) (frame : IsFrame f) (source : Source) (r : ReadyRow) (is : IsRowOf f source r) (k : ℕ) (marks : List Mark) (run : Run) (h : HasBegunTo f r k marks)
     (read : run ≡ get_or r.runs k run) (off : run.guarded ≡ false) (less : k < length r.runs) where
   there : Contains r.runs run
   there = (k, less, sym read)
@@ -210,7 +210,7 @@ filter_from p (y ∷ ys) x h = by_test (λ later. filter_from p ys x later) (p y
     by_test rest false e c = let q = rest c in (cons-Contains y ys x q.0, q.1)
 
 -- a guarded entry is one of the row's
-module _ (f : Fixed) (frame : IsFrame f) (source : Source) (r : Row) (is : IsRowOf f source r) where
+module _ (f : Fixed) (frame : IsFrame f) (source : Source) (r : ReadyRow) (is : IsRowOf f source r) where
   pub guarded_from : (e : Entry) → Contains r.guarded e → (x : Entry) × Contains (kept f source r is) x × (is_guarded x ≡ true) × (entry_of x ≡ entry_of e)
   guarded_from e h =
       let p = map_contains entry_of (filter is_guarded (kept f source r is)) (entry_of e)
@@ -229,7 +229,7 @@ module _ (f : Fixed) (frame : IsFrame f) (source : Source) (r : Row) (is : IsRow
       (block_there f source r is k (omega (arith, l, long)))
 
 -- behind all guarded entries
-module _ (f : Fixed) (frame : IsFrame f) (source : Source) (r : Row) (is : IsRowOf f source r) (old : Standing) (keeps : KeepsBegun f r old) (marks : List Mark)
+module _ (f : Fixed) (frame : IsFrame f) (source : Source) (r : ReadyRow) (is : IsRowOf f source r) (old : Standing) (keeps : KeepsBegun f r old) (marks : List Mark)
     (idle_now : (e : Entry) → Contains r.guarded e → mark_at marks e.block ≡ idle)
     (stays : (b : ℕ) → mark_at old.marks b ≡ idle → mark_at marks b ≡ idle)
     (others : (b : ℕ) → ((e : Entry) → Contains r.guarded e → b ≢ e.block) → mark_at marks b ≡ mark_at old.marks b) where

@@ -12,13 +12,14 @@ use Rattle.sci_run.specs.Observed.{elements_seen, outputs_seen}
 use Rattle.sci_places.specs.Flat.{start_in, start_of, values_at, IsWhole}
 use Rattle.sci_span.proofs.Runs.{read_length}
 use Rattle.sci_places.proofs.Outputs.{block_within}
-use Rattle.sci_store.specs.Heads.{Named, start_text, named_elements, named_outputs, named_blocks, value_of, value_lines}
+use Rattle.sci_store.specs.Heads.{named_elements, named_outputs, named_blocks}
+use Rattle.sci_lines.specs.Lines.{Named, start_text, value_of, value_lines}
 use Rattle.sci_store.specs.Tally.{lines_after, sum_after, sum_with}
 use Rattle.sci_store.specs.Store.{Standing}
 use Rattle.sci_store.specs.Rows.{between}
 use Rattle.sci_store.specs.Written.{sum_of, tallied, tallied_values}
 use Rattle.sci_store.proofs.LineStarts.{named_length, outputs_length}
-use Rattle.sci_store.proofs.Paging.{line_is}
+use Rattle.sci_lines.proofs.Paging.{line_is}
 
 -- ---- values by their names
 

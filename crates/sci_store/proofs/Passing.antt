@@ -42,7 +42,7 @@ use Rattle.sci_store.specs.Entries.{is_taken, applies, with_guards, mask_in, act
 use Rattle.sci_store.specs.Frame.{Fixed, IsFrame, AreSeated, seat_of}
 use Rattle.sci_store.specs.Store.{Standing, cursor_at, state_of, ShowsMemory, AreCounted, AreCountedWithin}
 use Rattle.sci_store.specs.Passed.{given, IsPassed}
-use Rattle.sci_store.specs.Rows.{Row, IsRowOf, IsOfWhole, AreWholeMarked, HasBegun, IsMarked, call_of, between, call_on, calls_in, run_calls, is_guarded}
+use Rattle.sci_store.specs.Rows.{ReadyRow, IsRowOf, IsOfWhole, AreWholeMarked, HasBegun, IsMarked, call_of, between, call_on, calls_in, run_calls, is_guarded}
 use Rattle.sci_store.specs.Runs.{HasValues, IsStuckAt, AreValued, IsRunDone, lesser}
 use Rattle.sci_store.proofs.Leveled.{kept, plain, by_depth, block_there, plain_at, level, run_is, here_plain, calls_here, last_here, calls_of, run_calls_are, whole_entry, all_between}
 use Rattle.sci_store.proofs.Calling.{contains_map, map_contains, call_from, stands, is_block, run_stands, run_apart, run_kind, called_stands}
@@ -97,7 +97,7 @@ call_made f marks (x ∷ xs) e h on = ⊎_elim
     (Contains-append_right (call_on (call_of f x) (activation marks (entry_of x))) (calls_of f marks xs) c.0 c.1)))
     (Contains-cons x xs e h)
 
-module _ (f : Fixed) (frame : IsFrame f) (i : Columns) (source : Source) (m : Memory) (free : IsLoopFree f.net source) (r : Row) (is : IsRowOf f source r) where
+module _ (f : Fixed) (frame : IsFrame f) (i : Columns) (source : Source) (m : Memory) (free : IsLoopFree f.net source) (r : ReadyRow) (is : IsRowOf f source r) where
   abbrev pub es : List PlainEntry
   es = plain f source r is
 

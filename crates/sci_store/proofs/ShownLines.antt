@@ -13,11 +13,12 @@ use Rattle.sci_io.proofs.Advance.{gave_all}
 use Rattle.sci_trace.specs.Lines.{line, text}
 use Rattle.sci_places.specs.Flat.{IsWhole}
 use Rattle.sci_store.specs.declared.row.Show.{Show}
-use Rattle.sci_store.specs.Heads.{start_text, named_blocks, value_lines}
+use Rattle.sci_store.specs.Heads.{named_blocks}
+use Rattle.sci_lines.specs.Lines.{start_text, value_lines, IsHeader}
 use Rattle.sci_store.specs.Tally.{lines_after, sum_after, sum_with}
 use Rattle.sci_store.specs.Frame.{Fixed, IsFrame}
 use Rattle.sci_store.specs.Store.{Standing}
-use Rattle.sci_store.specs.Written.{IsHeader, tallied, tallied_values}
+use Rattle.sci_store.specs.Written.{tallied, tallied_values}
 use Rattle.sci_store.specs.Rows.{between, is_shown, IsShowOf, shown_values}
 use Rattle.sci_store.specs.Runs.{lines_of}
 use Rattle.sci_store.proofs.LineStarts.{blocks_length}

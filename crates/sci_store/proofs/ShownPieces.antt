@@ -16,7 +16,8 @@ use Rattle.sci_places.specs.Flat.{start_of, values_at, IsWhole}
 use Rattle.sci_places.proofs.Outputs.{block_within}
 use Rattle.sci_store.specs.declared.marks.Mark.{Mark}
 use Rattle.sci_store.specs.declared.row.Show.{Show}
-use Rattle.sci_store.specs.Heads.{Named, named_blocks}
+use Rattle.sci_store.specs.Heads.{named_blocks}
+use Rattle.sci_lines.specs.Lines.{Named}
 use Rattle.sci_store.specs.Marks.{mark_at}
 use Rattle.sci_store.specs.Frame.{Fixed, IsFrame}
 use Rattle.sci_store.specs.Store.{Standing, IsStore}

@@ -36,7 +36,7 @@ use Rattle.sci_store.specs.Frame.{Fixed, IsFrame, AreSeated, seat_of}
 use Rattle.sci_store.specs.Store.{Standing, IsStore}
 use Rattle.sci_store.specs.Chosen.{active_of_kinds}
 use Rattle.sci_store.specs.Written.{AreAmong}
-use Rattle.sci_store.specs.Rows.{Row, is_guarded, IsAlone, call_of, between, IsRun, Join, IsReadyRow, IsMarked, KeepsBegun, active_calls, state_calls_in}
+use Rattle.sci_store.specs.Rows.{ReadyRow, is_guarded, IsAlone, call_of, between, IsRun, Join, IsReadyRow, IsMarked, KeepsBegun, active_calls, state_calls_in}
 use Rattle.sci_store.specs.Runs.{IsCallIn, AreOfKind, MayStep, MayStepAmong, called_blocks, AreCalledOnce, AreStepped}
 use Rattle.sci_store.proofs.Writing.{seen_if, seen_unless}
 use Rattle.sci_store.proofs.Placing.{no_sensor_of, may_run}
@@ -118,7 +118,7 @@ plain_blocks : (es : List Entry) → map (λ (e : Entry). e.block) es ≡ blocks
 plain_blocks [] = refl
 plain_blocks (e ∷ es) = ap (λ (bs : List ℕ). e.block ∷ bs) (plain_blocks es)
 
-module _ (f : Fixed) (r : Row) (frame : IsFrame f) (ready : IsReadyRow f r) where
+module _ (f : Fixed) (r : ReadyRow) (frame : IsFrame f) (ready : IsReadyRow f r) where
   abbrev keeps : Entry → Bool
   keeps e = remembers (seat_of f e.block).kind
 
@@ -421,7 +421,7 @@ module _ (f : Fixed) (calls : List Call) (once : AreCalledOnce f calls) (at end 
         (stepped_both f (called_blocks (take at calls)) (called_blocks (between calls at end)) s t u banks mid after done next apart_from_before)
 
 -- marks stay
-pub begun_behind : (f : Fixed) (r : Row) (s t : Standing) → t.marks ≡ s.marks → KeepsBegun f r s → KeepsBegun f r t
+pub begun_behind : (f : Fixed) (r : ReadyRow) (s t : Standing) → t.marks ≡ s.marks → KeepsBegun f r s → KeepsBegun f r t
 begun_behind f r s t e h = record {
   whole = λ run there off. subst (λ (ms : List Mark). All (IsMarked ms) (between r.calls run.start run.end)) (sym e) (h.whole run there off);
   others = λ b block outside. ap (λ (ms : List Mark). mark_at ms b) e ∙ h.others b block outside;
@@ -429,7 +429,7 @@ begun_behind f r s t e h = record {
 
 -- ---- run by run, of the runs of a row
 
-module _ (f : Fixed) (r : Row) (frame : IsFrame f) (ready : IsReadyRow f r) (items : List Run) (same : items ≡ r.state_runs) (k : ℕ) (d : Run) (l : k < length items) where
+module _ (f : Fixed) (r : ReadyRow) (frame : IsFrame f) (ready : IsReadyRow f r) (items : List Run) (same : items ≡ r.state_runs) (k : ℕ) (d : Run) (l : k < length items) where
   within : k < length r.state_runs
   within = subst (λ (rs : List Run). k < length rs) same l
 
@@ -463,7 +463,7 @@ module _ (f : Fixed) (r : Row) (frame : IsFrame f) (ready : IsReadyRow f r) (ite
         (subst (λ (cs : List Call). AreStepped f (called_blocks cs) t u mid after) calls_at next))
 
 -- all runs are stepped
-pub runs_stepped : (f : Fixed) (r : Row) (frame : IsFrame f) (ready : IsReadyRow f r) (k : ℕ) (s t : Standing) (banks mid : List Meaning) → length r.state_runs ≤ k
+pub runs_stepped : (f : Fixed) (r : ReadyRow) (frame : IsFrame f) (ready : IsReadyRow f r) (k : ℕ) (s t : Standing) (banks mid : List Meaning) → length r.state_runs ≤ k
     → AreStepped f (called_blocks (take (end_behind 0 (take k r.state_runs)) r.state_calls)) s t banks mid → AreStepped f (called_blocks r.state_calls) s t banks mid
 runs_stepped f r frame ready k s t banks mid l done =
     let end : end_behind 0 (take k r.state_runs) ≡ length r.state_calls =

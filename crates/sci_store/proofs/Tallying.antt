@@ -3,7 +3,7 @@ use Rattle.std.proofs.Common.{◌≡◌, ◌≢◌, ℕ, zero, suc, ◌+◌, ◌
 use Rattle.std.proofs.lemmas.Bool.{cases_eq}
 use Rattle.std.proofs.lemmas.Bool.Decides.{eqb_tells}
 use Rattle.sci_forms.specs.declared.Kind.{Kind}
-use Rattle.sci_forms.specs.Names.{number_of}
+use Rattle.sci_forms.specs.Numbers.{number_of}
 use Rattle.sci_net.specs.Parts.{Parts, IsBlock, spec_of}
 use Rattle.sci_reaction.specs.Pass.{put}
 use Rattle.sci_reaction.proofs.Lists.{Contains-cons, cons-Contains, put_same, put_other}

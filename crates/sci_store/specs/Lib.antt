@@ -3,7 +3,6 @@ pub mod Entries
 pub mod Tally
 pub mod Blocks
 pub mod Heads
-pub mod Threes
 pub mod Frame
 pub mod Seating
 pub mod Store
@@ -16,6 +15,5 @@ pub mod Ranks
 pub mod Members
 pub mod Runs
 pub mod Delays
-pub mod Paged
 pub mod Reaction
 pub mod Views

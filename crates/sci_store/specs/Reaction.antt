@@ -13,24 +13,24 @@ use Rattle.sci_bank.specs.Bank.{Meaning}
 use Rattle.sci_store.specs.Frame.{Fixed}
 use Rattle.sci_store.specs.Store.{Standing, ShowsMemory, ShowsValues}
 use Rattle.sci_store.specs.Passed.{IsPassed, ShowsBefore, IsStepped}
-use Rattle.sci_store.specs.Rows.{Row, IsRowOf}
+use Rattle.sci_store.specs.Rows.{ReadyRow, IsRowOf}
 use Rattle.sci_store.specs.Written.{AreAmong}
 use Rattle.sci_store.specs.Chosen.{active_of_kinds}
 
 -- the pass over a row gives the values of its source's reaction, or the stop
-abbrev pub Passes : Fixed → Columns → Row → (old new : Standing) → (before banks : List Meaning) → Option (ℕ × StopWord) → Type 0
+abbrev pub Passes : Fixed → Columns → ReadyRow → (old new : Standing) → (before banks : List Meaning) → Option (ℕ × StopWord) → Type 0
 Passes f i row old new before banks stop =
     (source : Source) (m : Memory) → IsLoopFree f.net source → IsRowOf f source row → ShowsMemory f old before m → IsMemory f.net m
     → IsPassed f i source m old new before banks stop
 
 -- for what is observed of the values that are shown, where all active blocks are in the row
-abbrev pub IfSeen : Fixed → Standing → Row → (List Obs → Type 0) → Type 0
+abbrev pub IfSeen : Fixed → Standing → ReadyRow → (List Obs → Type 0) → Type 0
 IfSeen f s row P =
     (source : Source) (y : Signals) (active : Activity) → ShowsValues f source s y active → AreAmong f.net active row.blocks
     → P (blocks_seen 1 f.net.specs y active)
 
 -- the blocks of a row step from the memory before the reaction to the one behind it
-abbrev pub Steps : Fixed → Row → (old new : Standing) → (before banks : List Meaning) → Type 0
+abbrev pub Steps : Fixed → ReadyRow → (old new : Standing) → (before banks : List Meaning) → Type 0
 Steps f row old new before banks =
     (source : Source) (m : Memory) (y : Signals) (active : Activity) → IsActivity f.net source y active → ShowsValues f source old y active
     → AreAmong f.net active row.blocks → ShowsBefore f old before m → IsMemory f.net m → IsStepped f source m y new banks

@@ -4,7 +4,7 @@ use Rattle.std.specs.List.{IsDistinct, filter}
 use Rattle.std.specs.List.Sorted.{IsPermutation}
 use Rattle.std.specs.Set.{is_member}
 use Rattle.sci_forms.specs.Form.{is_sync, is_sensor, is_halt, has_delay, remembers}
-use Rattle.sci_forms.specs.Names.{number_of}
+use Rattle.sci_forms.specs.Numbers.{number_of}
 use Rattle.sci_net.specs.declared.Source.{Source}
 use Rattle.sci_net.specs.Parts.{Parts, IsBlock}
 use Rattle.sci_reaction.specs.Active.{Possible}
@@ -118,7 +118,7 @@ shows_from f guarded before (b ∷ bs) = shows_from f guarded (then_block before
 
 -- the runs of outputs and of next states, with their calls; the entries of the guarded blocks, in the order of their calls; what is shown; all blocks,
 -- those with delays and those that end the run, by number
-pub record Row : Type 0 where
+pub record ReadyRow : Type 0 where
   pub runs : List Run
   pub calls : List Call
   pub guarded : List Entry
@@ -129,7 +129,7 @@ pub record Row : Type 0 where
   pub delays : List ℕ
   pub halts : List ℕ
 
-abbrev pub no_row : Row
+abbrev pub no_row : ReadyRow
 no_row = record { runs = []; calls = []; guarded = []; state_runs = []; state_calls = []; shows = []; blocks = []; delays = []; halts = [] }
 
 -- these blocks by number
@@ -142,7 +142,7 @@ abbrev pub guarded_blocks : List Entry → List ℕ
 guarded_blocks es = map (λ (e : Entry). e.block) (filter is_guarded es)
 
 -- the row of these entries
-pub record IsRowFor (f : Fixed) (es : List Entry) (r : Row) : Type 0 where
+pub record IsRowFor (f : Fixed) (es : List Entry) (r : ReadyRow) : Type 0 where
   pub values : AreRunsOf f (λ e. e.depth) es r.runs r.calls
   pub guarded_are : entries_of r.guarded ≡ entries_of (filter is_guarded values.sorted)
   pub states : AreRunsOf f (λ e. 0) (filter (λ e. remembers (seat_of f e.block).kind) es) r.state_runs r.state_calls
@@ -152,19 +152,19 @@ pub record IsRowFor (f : Fixed) (es : List Entry) (r : Row) : Type 0 where
   pub halts_are : r.halts ≡ of_kinds f.net is_halt r.blocks
 
 -- the row of a source
-pub record IsRowOf (f : Fixed) (s : Source) (r : Row) : Type 0 where
+pub record IsRowOf (f : Fixed) (s : Source) (r : ReadyRow) : Type 0 where
   pub made_of : List Entry
   pub entries : AreEntriesOf f.net s made_of
   pub row : IsRowFor f made_of r
 
 -- the row of some source
-abbrev pub IsReadyRow : Fixed → Row → Type 0
+abbrev pub IsReadyRow : Fixed → ReadyRow → Type 0
 IsReadyRow f r = (s : Source) × IsRowOf f s r
 
 -- ---- marks before the pass
 
 -- the calls of a run
-abbrev pub calls_in : Row → Run → List Call
+abbrev pub calls_in : ReadyRow → Run → List Call
 calls_in r run = between r.calls run.start run.end
 
 -- the block of a call is active, on the activation inputs of the call
@@ -173,23 +173,23 @@ pub record IsMarked (marks : List Mark) (c : Call) : Type 0 where
   pub mask : (mark_at marks c.block).mask ≡ c.mask
 
 -- a block of a run that the source activates whatever the values are, on the same activation inputs
-pub record IsOfWhole (r : Row) (b : ℕ) : Type 0 where
+pub record IsOfWhole (r : ReadyRow) (b : ℕ) : Type 0 where
   pub run : Run
   pub there : Contains r.runs run
   pub whole : run.guarded ≡ false
   pub called : Contains (map (λ (c : Call). c.block) (calls_in r run)) b
 
 -- the blocks of those runs are marked as their calls say
-abbrev pub AreWholeMarked : Row → List Mark → Type 0
+abbrev pub AreWholeMarked : ReadyRow → List Mark → Type 0
 AreWholeMarked r marks = (run : Run) → Contains r.runs run → run.guarded ≡ false → All (IsMarked marks) (calls_in r run)
 
 -- the blocks that are active whatever the values are are marked, and no other
-pub record HasBegun (f : Fixed) (r : Row) (s : Standing) : Type 0 where
+pub record HasBegun (f : Fixed) (r : ReadyRow) (s : Standing) : Type 0 where
   pub whole : AreWholeMarked r s.marks
   pub others : (b : ℕ) → IsBlock f.net b → (IsOfWhole r b → ⊥) → mark_at s.marks b ≡ idle
 
 -- the same behind a reaction over the row, when guarded blocks of it may be marked too
-pub record KeepsBegun (f : Fixed) (r : Row) (s : Standing) : Type 0 where
+pub record KeepsBegun (f : Fixed) (r : ReadyRow) (s : Standing) : Type 0 where
   pub whole : AreWholeMarked r s.marks
   pub others : (b : ℕ) → IsBlock f.net b → (Contains r.blocks b → ⊥) → mark_at s.marks b ≡ idle
 
@@ -241,15 +241,15 @@ shown_values s [] = []
 shown_values s (w ∷ ws) = (if is_shown s.marks w then between s.values w.start w.end else []) ++ shown_values s ws
 
 -- the calls of a run of next states
-abbrev pub state_calls_in : Row → Run → List Call
+abbrev pub state_calls_in : ReadyRow → Run → List Call
 state_calls_in r run = between r.state_calls run.start run.end
 
 -- the calls of a run with guards, by the marks: those of the entries that apply
-abbrev pub guarded_calls : Row → Run → List Mark → List Call
+abbrev pub guarded_calls : ReadyRow → Run → List Mark → List Call
 guarded_calls r run marks =
     chosen_calls marks (calls_in r run) (entries_of (between r.guarded run.entries (run.entries + (run.end - run.start))))
 
 -- the calls that a run makes by the marks: all, or those of the entries that apply
-abbrev pub run_calls : Row → Run → List Mark → List Call
+abbrev pub run_calls : ReadyRow → Run → List Mark → List Call
 run_calls r run marks =
     if run.guarded then guarded_calls r run marks else calls_in r run

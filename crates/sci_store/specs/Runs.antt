@@ -18,7 +18,7 @@ use Rattle.sci_bank.specs.Library.{bank_of}
 use Rattle.sci_store.specs.Frame.{Fixed, seat_of, AreSeated}
 use Rattle.sci_store.specs.Store.{Standing, IsStore, cursor_at, state_of}
 use Rattle.sci_store.specs.Marks.{mark_at}
-use Rattle.sci_store.specs.Heads.{value_lines}
+use Rattle.sci_lines.specs.Lines.{value_lines}
 use Rattle.sci_store.specs.declared.row.Show.{Show}
 use Rattle.sci_store.specs.Rows.{between, IsMarked}
 use Rattle.sci_store.specs.Passed.{given, branch_of, AreAlikeCounts}

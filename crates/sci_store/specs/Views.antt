@@ -1,10 +1,10 @@
 -- What a row and a store are seen as.
-use Rattle.sci_store.specs.declared.row.Row.TheInside.{Inside as RowInside}
+use Rattle.sci_store.specs.declared.row.ReadyRow.TheInside.{Inside as RowInside}
 use Rattle.sci_store.specs.declared.store.Store.TheInside.{Inside as StoreInside}
-use Rattle.sci_store.specs.Rows.{Row}
+use Rattle.sci_store.specs.Rows.{ReadyRow}
 use Rattle.sci_store.specs.Store.{Standing}
 
-abbrev pub seen_row : RowInside → Row
+abbrev pub seen_row : RowInside → ReadyRow
 seen_row r = record {
   runs = r.values.runs.items;
   calls = r.values.calls.items;

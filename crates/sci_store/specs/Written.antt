@@ -28,14 +28,6 @@ IsPlain (Event d b p) = Unit {0}
 IsPlain (End w) = Unit {0}
 IsPlain (Stop w b p) = Unit {0}
 
--- the first observation of a reaction: of the start, or of an event
-abbrev pub IsHeader : Obs → Type 0
-IsHeader (Val b p e v) = ⊥
-IsHeader Start = Unit {0}
-IsHeader (Event d b p) = Unit {0}
-IsHeader (End w) = ⊥
-IsHeader (Stop w b p) = ⊥
-
 -- these were observed
 abbrev pub tallied : Standing → List Obs → Standing
 tallied s os = record s { lines = lines_after s.lines (length os); sum = sum_of s.sum os }

@@ -10,12 +10,12 @@ ghost use Rattle.sci_run.specs.Laws.{AreLoopFree};
 ghost use Rattle.sci_run.specs.Observed.{header};
 ghost use Rattle.sci_store.specs.Seating.{IsSeating, IsSeatingBy, begun};
 
-use crate::head::Head;
 use crate::heads::heads;
 use crate::seats::{Seat, seat_all, seat_in_states};
 use sci_bank::Bank;
 use sci_bank::library::Library;
 use sci_base::{NoMemory, Obs};
+use sci_lines::Head;
 use sci_net::{Net, Source};
 use sci_places::Places;
 use std::alloc::Global;

@@ -2,11 +2,12 @@
 ghost use Rattle.std.specs.Prelude.{◌≡◌, ◌<◌, ◌≤◌, ◌++◌, map, length, IfOk, OnOk};
 ghost use Rattle.sci_base.specs.declared.limits.TheConstants.{PORTS, ALL_ELEMENTS};
 ghost use Rattle.sci_forms.specs.Ports.{total};
-ghost use Rattle.sci_store.specs.Heads.{start_text, named_elements, named_outputs, heads_of};
+ghost use Rattle.sci_store.specs.Heads.{named_elements, named_outputs, heads_of};
+ghost use Rattle.sci_lines.specs.Lines.{start_text};
 
-use crate::head::Head;
 use sci_base::NoMemory;
 use sci_kinds::Ports;
+use sci_lines::Head;
 use sci_net::Net;
 use std::alloc::Global;
 

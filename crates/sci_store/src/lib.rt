@@ -3,24 +3,19 @@
 #![tactic(auto)]
 
 mod block;
-mod digit_table;
 mod entries;
 mod frame;
-mod head;
 mod heads;
-mod lines;
 mod marks;
 mod pass;
-mod pieces;
 mod row;
 mod seats;
 mod store;
 mod tally;
 
 pub use frame::Frame;
-pub use lines::Lines;
 pub use marks::Mark;
-pub use row::Row;
+pub use row::ReadyRow;
 pub use seats::Seat;
 pub use store::Store;
 pub use tally::Tally;

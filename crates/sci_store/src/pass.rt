@@ -18,7 +18,7 @@ ghost use Rattle.sci_store.specs.Runs.{IsCallIn, AreApart, AreDone, IsRunDone, I
 use crate::entries::activation;
 use crate::frame::Frame;
 use crate::marks::{IDLE, Mark};
-use crate::row::{Row, Run};
+use crate::row::{ReadyRow, Run};
 use crate::store::Store;
 use sci_bank::library::Library;
 use sci_bank::{Bank, Call, Stuck};
@@ -62,7 +62,7 @@ impl Store {
     }
 
     /// Marks the blocks of a row that its source activates whatever the values are, on the same activation inputs; no block is marked before.
-    pub fn begin_row(&mut self, frame: &Frame, row: &Row)
+    pub fn begin_row(&mut self, frame: &Frame, row: &ReadyRow)
         requires store { IsStore frame.now self.old }
         requires idle { AreIdle frame.now self.old }
         requires row { IsReadyRow frame.now row.now }
@@ -79,7 +79,7 @@ impl Store {
     }
 
     /// Takes back what a reaction marked of the blocks of a row that guards may leave idle, so that the same row is passed again.
-    pub fn begin_again(&mut self, frame: &Frame, row: &Row)
+    pub fn begin_again(&mut self, frame: &Frame, row: &ReadyRow)
         requires store { IsStore frame.now self.old }
         requires row { IsReadyRow frame.now row.now }
         requires passed { KeepsBegun frame.now row.now self.old }
@@ -185,7 +185,7 @@ impl Store {
         frame: &Frame,
         lib: &mut Library<B>,
         inputs: &Inputs,
-        row: &Row,
+        row: &ReadyRow,
         run: &Run,
     ) -> Option<(u32, StopWord)>
         requires store { IsStore frame.now self.old }
@@ -219,7 +219,7 @@ impl Store {
         frame: &Frame,
         lib: &mut Library<B>,
         inputs: &Inputs,
-        row: &Row,
+        row: &ReadyRow,
         run: &Run,
     ) -> Option<(u32, StopWord)>
         requires store { IsStore frame.now self.old }
@@ -251,7 +251,7 @@ impl Store {
         frame: &Frame,
         lib: &mut Library<B>,
         inputs: &Inputs,
-        row: &Row,
+        row: &ReadyRow,
     ) -> Option<(u32, StopWord)>
         requires store { IsStore frame.now self.old }
         requires seated { AreSeated frame.now lib.old }

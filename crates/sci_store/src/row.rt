@@ -57,7 +57,7 @@ pub(crate) struct Show {
 
 /// The blocks that a source may activate, made ready for its reactions.
 #[derive(Drop)]
-pub struct Row {
+pub struct ReadyRow {
     // the outputs, by depth
     pub(crate) values: Runs,
     // the entries of the guarded blocks, in the order of their calls
@@ -76,7 +76,7 @@ pub struct Row {
 
 // Where a block stands among the calls: by depth, those without guards first, and those first that their bank does in one call.
 #[derive(Clone, Copy, Drop, PartialEq, Eq, PartialOrd, Ord)]
-struct Rank {
+struct CallRank {
     depth: usize,
     guarded: bool,
     alone: bool,
@@ -86,9 +86,9 @@ struct Rank {
     at: usize,
 }
 
-impl Rank {
+impl CallRank {
     // Whether two blocks that follow one another are of one run.
-    fn is_with(&self, next: &Rank) -> bool
+    fn is_with(&self, next: &CallRank) -> bool
         ensures { result ≡ are_alike self.now next.now }
     {
         self.depth == next.depth
@@ -115,13 +115,13 @@ fn is_alone(frame: &Frame, block: u32) -> bool
 }
 
 // Where the block of an entry stands among blocks of these depths.
-fn rank_of(frame: &Frame, entry: &Entry, depth: usize, at: usize) -> Rank
+fn rank_of(frame: &Frame, entry: &Entry, depth: usize, at: usize) -> CallRank
     requires { IsBlock frame.now.net entry.now.block }
     ensures rank { IsRankOf frame.now entry.now result }
     ensures depth { result.depth ≡ depth }
     ensures at { result.at ≡ at }
 {
-    Rank {
+    CallRank {
         depth,
         guarded: is_guarded(entry),
         alone: is_alone(frame, entry.block),
@@ -132,7 +132,7 @@ fn rank_of(frame: &Frame, entry: &Entry, depth: usize, at: usize) -> Rank
 }
 
 // The entries in the order in which their values are found.
-fn by_depth(alloc: Global, frame: &Frame, entries: &[Entry]) -> Result<Vec<Rank>, NoMemory>
+fn by_depth(alloc: Global, frame: &Frame, entries: &[Entry]) -> Result<Vec<CallRank>, NoMemory>
     requires { All (λ e. IsBlock frame.now.net e.block) entries.now }
     ensures { IfOk result (λ v. AreRanked frame.now (λ e. true) (λ e. e.depth) entries.now v.items) }
 {
@@ -146,7 +146,7 @@ fn by_depth(alloc: Global, frame: &Frame, entries: &[Entry]) -> Result<Vec<Rank>
 }
 
 // Those that remember more than their outputs, in an order in which their states are stepped.
-fn remembering(alloc: Global, frame: &Frame, entries: &[Entry]) -> Result<Vec<Rank>, NoMemory>
+fn remembering(alloc: Global, frame: &Frame, entries: &[Entry]) -> Result<Vec<CallRank>, NoMemory>
     requires { All (λ e. IsBlock frame.now.net e.block) entries.now }
     ensures { IfOk result (λ v. AreRanked frame.now (λ e. remembers (seat_of frame.now e.block).kind) (λ e. 0) entries.now v.items) }
 {
@@ -166,7 +166,7 @@ fn calls(
     alloc: Global,
     frame: &Frame,
     entries: &[Entry],
-    order: &[Rank],
+    order: &[CallRank],
 ) -> Result<Vec<Call>, NoMemory>
     requires places { All (λ r. r.at < length entries.now) order.now }
     requires blocks { All (λ r. IsBlock frame.now.net r.block) order.now }
@@ -184,7 +184,7 @@ fn calls(
 }
 
 // The runs of blocks in an order.
-fn runs_of(alloc: Global, frame: &Frame, order: &[Rank]) -> Result<Vec<Run>, NoMemory>
+fn runs_of(alloc: Global, frame: &Frame, order: &[CallRank]) -> Result<Vec<Run>, NoMemory>
     requires { All (λ r. IsBlock frame.now.net r.block) order.now }
     ensures runs { IfOk result (λ v. AreRunsBy frame.now order.now v.items) }
     ensures joined { IfOk result (λ v. Join 0 (length order.now) v.items) }
@@ -220,7 +220,7 @@ fn in_runs(
     alloc: Global,
     frame: &Frame,
     entries: &[Entry],
-    order: &[Rank],
+    order: &[CallRank],
 ) -> Result<Runs, NoMemory>
     requires places { All (λ r. r.at < length entries.now) order.now }
     requires blocks { All (λ r. IsBlock frame.now.net r.block) order.now }
@@ -235,7 +235,7 @@ fn in_runs(
 }
 
 // The entries of the guarded ones of some blocks in an order.
-fn guarded(alloc: Global, entries: &mut [Entry], order: &[Rank]) -> Result<Vec<Entry>, NoMemory>
+fn guarded(alloc: Global, entries: &mut [Entry], order: &[CallRank]) -> Result<Vec<Entry>, NoMemory>
     requires places { All (λ r. r.at < length entries.old) order.now }
     requires apart { AllPairs (λ r q. r.at ≢ q.at) order.now }
     ensures { IfOk result (λ v. AreGuardedBy entries.old order.now v.items) }
@@ -366,8 +366,8 @@ fn halts(alloc: Global, frame: &Frame, blocks: &[u32]) -> Result<Vec<u32>, NoMem
     Ok(some)
 }
 
-impl Model for Row {
-    ghost use Rattle.sci_store.specs.Rows.{Row as Plain};
+impl Model for ReadyRow {
+    ghost use Rattle.sci_store.specs.Rows.{ReadyRow as Plain};
 
     ghost Value = { Plain };
 
@@ -376,9 +376,9 @@ impl Model for Row {
     ghost view = { seen_row };
 }
 
-impl Row {
+impl ReadyRow {
     /// The row of these entries.
-    pub fn of(alloc: Global, frame: &Frame, entries: Vec<Entry>) -> Result<Row, NoMemory>
+    pub fn of(alloc: Global, frame: &Frame, entries: Vec<Entry>) -> Result<ReadyRow, NoMemory>
         requires blocks { All (λ e. IsBlock frame.now.net e.block) entries.items }
         requires once { IsDistinct nat_eq (blocks_of (entries_of entries.items)) }
         ensures { IfOk result (λ r. IsRowFor frame.now entries.items r) }
@@ -394,7 +394,7 @@ impl Row {
         let order = by_depth(alloc, frame, &entries)?;
         let values = in_runs(alloc, frame, &entries, &order)?;
         let entries = guarded(alloc, &mut entries, &order)?;
-        Ok(Row {
+        Ok(ReadyRow {
             values,
             entries,
             states,

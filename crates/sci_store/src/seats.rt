@@ -1,6 +1,7 @@
 // The instances of a net's blocks.
 ghost use Rattle.std.specs.Prelude.{◌≡◌, ℕ, ◌≤◌, ◌+◌, ◌<◌, length, true, IfOk};
-ghost use Rattle.sci_bank.specs.Library.{IsFull};
+ghost use Rattle.sci_bank.specs.Bank.{after_add};
+ghost use Rattle.sci_bank.specs.Library.{bank_of, with_bank, IsFull};
 ghost use Rattle.sci_forms.specs.Typed.{typed};
 ghost use Rattle.sci_net.specs.Parts.{IsBlock, spec_of, rows_of};
 ghost use Rattle.sci_net.specs.Sources.{block_sources};
@@ -30,7 +31,7 @@ fn reset_all<B: Bank>(lib: &mut Library<B>)
 {
     lib.well_formed();
     for number in 1..KINDS + 1 {
-        if let Some(kind) = Kind::at(number) {
+        if let Some(kind) = sci_names::kind_at(number) {
             lib.reset(kind);
         }
     }
@@ -82,6 +83,24 @@ fn with_state(alloc: Global, spec: &Spec, state: &[i64]) -> Result<Spec, NoMemor
     Ok(begun)
 }
 
+/// Adds an instance of a block with these values in place of the state that it begins with. The answer is its slot.
+fn add_in_state<B: Bank>(
+    alloc: Global,
+    spec: &Spec,
+    state: &[i64],
+    lib: &mut Library<B>,
+) -> Result<usize, NoMemory>
+    requires full { IsFull lib.old }
+    requires is_typed { typed (record spec.now { state = state.now }) ≡ true }
+    ensures added { let banks = lib.old in let kind = spec.now.kind in IfOk result (λ slot. (slot ≡ length (bank_of banks kind).rows)
+        × (lib.new ≡ with_bank banks kind (after_add (bank_of banks kind) (record spec.now { state = state.now })))) }
+    ensures full { IsFull lib.new }
+{
+    lib.well_formed();
+    let begun = with_state(alloc, spec, state)?;
+    lib.add(spec.kind, &begun)
+}
+
 /// Resets all banks, and adds an instance for each block of a net, in its state among these.
 pub fn seat_in_states<B: Bank>(
     alloc: Global,
@@ -100,8 +119,8 @@ pub fn seat_in_states<B: Bank>(
     let mut seats = Vec::with_capacity(alloc, net.len() as usize)?;
     let mut first_source = 1;
     for block in 0..net.len() {
-        let spec = with_state(alloc, net.spec(block + 1), &states[block as usize])?;
-        let slot = lib.add(spec.kind, &spec)?;
+        let spec = net.spec(block + 1);
+        let slot = add_in_state(alloc, spec, &states[block as usize], lib)?;
         seats.push(Seat {
             kind: spec.kind,
             slot,

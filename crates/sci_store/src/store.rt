@@ -16,15 +16,15 @@ ghost use Rattle.sci_places.specs.Flat.{values_at, IsWhole};
 
 use crate::block::{compute, place, take_branch};
 use crate::frame::Frame;
-use crate::lines::Lines;
 use crate::marks::{IDLE, Mark, clear};
-use crate::row::{Row, Run, Show};
+use crate::row::{ReadyRow, Run, Show};
 use crate::tally::Tally;
 use sci_bank::library::Library;
 use sci_bank::{Bank, Call, Fate};
 use sci_base::{NoMemory, Obs, StopWord};
 use sci_io::{Failed, Sink};
 use sci_kinds::Spec;
+use sci_lines::Lines;
 use sci_trace::inputs::Inputs;
 use sci_trace::write_obs;
 use std::alloc::Global;
@@ -85,11 +85,12 @@ impl Store {
     ghost use Rattle.sci_store.specs.Frame.{AreSeated};
     ghost use Rattle.sci_store.specs.Store.{Standing, IsStore, AreIdle, cursor_at, state_of};
     ghost use Rattle.sci_store.specs.Passed.{IsAnswered, IsStateStepped, IsBlockStepped, AreAlikeCounts, KeepsValues};
-    ghost use Rattle.sci_store.specs.Written.{IsPlain, IsHeader, tallied, tallied_values};
+    ghost use Rattle.sci_store.specs.Written.{IsPlain, tallied, tallied_values};
+    ghost use Rattle.sci_lines.specs.Lines.{IsHeader};
     ghost use Rattle.sci_store.specs.Rows.{IsReadyRow, KeepsBegun, IsShowOf, is_shown, between, active_calls, state_calls_in, shown_values};
     ghost use Rattle.sci_store.specs.Runs.{AreStepped, AreCalledOnce, called_blocks, MayStep, MayStepAmong, lines_of};
     ghost use Rattle.sci_store.specs.Delays.{delays_in};
-    ghost use Rattle.sci_store.specs.Paged.{paged};
+    ghost use Rattle.sci_lines.specs.Paged.{paged};
     ghost use Rattle.sci_store.specs.Entering.{IsEntered, inputs_of, HasNext};
     ghost use Rattle.sci_store.specs.Reaction.{IfSeen, Steps, TellsHalt};
 
@@ -340,7 +341,7 @@ impl Store {
     fn write_values<S: Sink>(
         &mut self,
         frame: &Frame,
-        row: &Row,
+        row: &ReadyRow,
         lines: &mut Lines,
         out: &mut S,
     ) -> Result<(), Failed>
@@ -362,7 +363,7 @@ impl Store {
     }
 
     // Counts the values of the active blocks of a row, which nobody reads.
-    fn count_values(&mut self, row: &Row)
+    fn count_values(&mut self, row: &ReadyRow)
         requires { All (IsShowOf self.old) row.now.shows }
         ensures { self.new ≡ tallied_values self.old (shown_values self.old row.now.shows) }
     {
@@ -378,7 +379,7 @@ impl Store {
     pub fn write_reaction<S: Sink>(
         &mut self,
         frame: &Frame,
-        row: &Row,
+        row: &ReadyRow,
         header: &Obs,
         lines: &mut Lines,
         out: &mut S,
@@ -525,7 +526,7 @@ impl Store {
         frame: &Frame,
         lib: &mut Library<B>,
         inputs: &Inputs,
-        row: &Row,
+        row: &ReadyRow,
         run: &Run,
     )
         requires store { IsStore frame.now self.old }
@@ -555,7 +556,7 @@ impl Store {
     pub fn update_all<B: Bank>(
         &mut self,
         frame: &Frame,
-        row: &Row,
+        row: &ReadyRow,
         lib: &mut Library<B>,
         inputs: &Inputs,
     )

@@ -6,5 +6,5 @@ mod stop;
 mod text;
 
 pub use lines::split_line;
-pub use stop::Stop;
+pub use stop::TextStop;
 pub use text::{after_text, digits_len, number};

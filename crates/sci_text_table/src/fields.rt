@@ -1,7 +1,7 @@
 // JSON: the forms of values, and fields that are read.
 use anyhow::bail;
 use json::Scratch;
-use sci_base::{Dep, Part};
+use sci_base::{Dep, DirectFeedthrough};
 use sci_json::document::{Document, ParseStop, Value};
 use sci_json::{FieldStop, dep, ints, list, text};
 use std::alloc::Global;
@@ -124,8 +124,8 @@ fn show_dep(
     match dep(alloc, value, name) {
         Ok(Some(Dep { part, always })) => {
             match part {
-                Part::All(truth) => print!(rt; " all {truth}")?,
-                Part::Each(truths) => print!(rt; " {truths:?}")?,
+                DirectFeedthrough::All(truth) => print!(rt; " all {truth}")?,
+                DirectFeedthrough::Each(truths) => print!(rt; " {truths:?}")?,
             }
             print!(rt; " always {always}")?;
         }

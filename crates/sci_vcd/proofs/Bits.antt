@@ -108,6 +108,16 @@ eight_steps g k left tail h =
     ∙ (binary_steps (2 * g) (2 * k + 1) (left / 16) (binary 4 left ++ tail) (omega (arith, h))
     ∙ (binary_steps (2 * g) (2 * k) left tail (omega (arith, h)) ∙ ap (λ (j : ℕ). binary j left ++ tail) start))))
 
+pub sixteen_eights : (p : ℕ) (tail : List ℕ) → binary 8 (p / 256) ++ (binary 8 p ++ tail) ≡ binary 16 p ++ tail
+sixteen_eights p tail = eight_steps 2 0 p tail (omega arith)
+
+pub thirty_two_sixteens : (p : ℕ) (tail : List ℕ) → binary 16 (p / 65536) ++ (binary 16 p ++ tail) ≡ binary 32 p ++ tail
+thirty_two_sixteens p tail =
+    let same : p / 65536 ≡ p / 256 / 256 = omega arith in
+    ap (λ (n : ℕ). binary 16 n ++ (binary 16 p ++ tail)) same
+    ∙ (ap (λ (l : List ℕ). binary 16 (p / 256 / 256) ++ l) (sym (sixteen_eights p tail))
+    ∙ (eight_steps 4 1 (p / 256) (binary 8 p ++ tail) (omega arith) ∙ eight_steps 4 0 p tail (omega arith)))
+
 -- the last eight are those of what is left by 256
 pub eight_last : (p : ℕ) → binary 8 (p % 256) ≡ binary 8 p
 eight_last p =

@@ -1,8 +1,8 @@
 -- Which texts spell a dump, and which line of another text is the first wrong one.
 use Rattle.std.specs.Prelude.{◌≡◌, ℕ, ◌+◌, List, ◌++◌, length, false, Result, Ok, Err}
 use Rattle.sci_text.specs.Lines.{has_lf, with_lf, joined, AllClear}
-use Rattle.sci_text.specs.declared.stop.Stop.{Stop}
-use Rattle.sci_text.specs.declared.stop.Stop.TheVariants as stops
+use Rattle.sci_text.specs.declared.stop.TextStop.{TextStop}
+use Rattle.sci_text.specs.declared.stop.TextStop.TheVariants as stops
 use Rattle.sci_vcd.specs.declared.read.VcdStop.{VcdStop}
 use Rattle.sci_vcd.specs.declared.read.VcdStop.TheVariants.{NotVcd, Memory}
 use Rattle.sci_vcd.specs.Waveforms.{Waveforms, IsDump}
@@ -47,6 +47,6 @@ Blames (Err (NotVcd j)) k = j ≡ k
 Blames (Err Memory) k = Unit {0}
 
 -- what a stop at this line is
-abbrev pub blame_of : Stop → ℕ → VcdStop
+abbrev pub blame_of : TextStop → ℕ → VcdStop
 blame_of stops.Memory k = Memory
 blame_of stops.Other k = NotVcd k

@@ -6,7 +6,7 @@ use Rattle.sci_vcd.specs.declared.signal.Signal.{Signal}
 use Rattle.sci_vcd.specs.declared.signal.Change.{Change}
 use Rattle.sci_vcd.specs.declared.machine.Stage.{Stage}
 use Rattle.sci_vcd.specs.declared.machine.Stage.TheVariants.{Timescale, Scope, Signals, Definitions, Origin, Dumpvars, First, Ticks, Tick}
-use Rattle.sci_vcd.specs.declared.machine.Reader.{Reader}
+use Rattle.sci_vcd.specs.declared.machine.DumpReader.{DumpReader}
 use Rattle.sci_vcd.specs.Waveforms.{Waveforms, type_of, counts, is_within, rises, first_of, is_later, last_of, value_behind, AreSignals, AreValues, IsDump}
 use Rattle.sci_vcd.specs.Draft.{waveforms_of}
 use Rattle.sci_text.specs.Reading.{◌>>=◌, or_else, after, ended}
@@ -21,7 +21,7 @@ pub record State : Type 0 where
 abbrev pub at_stage : Stage → Waveforms → State
 at_stage s w = record { stage = s; so_far = w }
 
-abbrev pub state_of : Reader → State
+abbrev pub state_of : DumpReader → State
 state_of r = at_stage r.stage (waveforms_of r.draft)
 
 abbrev pub nothing : Waveforms

@@ -15,7 +15,7 @@ use crate::line::{decoded, read_change, read_signal, read_tick};
 use crate::signal::counts;
 use crate::{Change, Signal};
 use sci_base::limits;
-use sci_text::{Stop, after_text};
+use sci_text::{TextStop, after_text};
 
 /// Which line comes next.
 #[derive(Clone, Copy, Drop)]
@@ -38,32 +38,32 @@ pub enum Stage {
 
 /// What was read so far.
 #[derive(Drop)]
-pub struct Reader {
+pub struct DumpReader {
     pub stage: Stage,
     pub draft: Draft,
 }
 
-fn ended(stage: Stage, draft: Draft, rest: &[u8]) -> Result<Reader, Stop>
+fn ended(stage: Stage, draft: Draft, rest: &[u8]) -> Result<DumpReader, TextStop>
     requires { IsLinked draft }
     ensures gives { Gives state_of result (ended (at_stage stage (waveforms_of draft)) rest.now) }
     ensures linked { IfOk result (λ r. IsLinked r.draft) }
 {
     if rest.is_empty() {
-        Ok(Reader { stage, draft })
+        Ok(DumpReader { stage, draft })
     } else {
-        Err(Stop::Other)
+        Err(TextStop::Other)
     }
 }
 
 /// A line that is this text.
-fn fixed(text: &[u8], line: &[u8], next: Stage, draft: Draft) -> Result<Reader, Stop>
+fn fixed(text: &[u8], line: &[u8], next: Stage, draft: Draft) -> Result<DumpReader, TextStop>
     requires { IsLinked draft }
     ensures gives { Gives state_of result (machine.fixed text.now line.now next (waveforms_of draft)) }
     ensures linked { IfOk result (λ r. IsLinked r.draft) }
 {
     match after_text(line, text) {
         Some(rest) => ended(next, draft, rest),
-        None => Err(Stop::Other),
+        None => Err(TextStop::Other),
     }
 }
 
@@ -85,37 +85,37 @@ fn may_join(before: &[Signal], number: u32, signal: &Signal) -> bool
 }
 
 /// The signal of this number.
-fn joining(draft: Draft, number: u32, signal: Signal) -> Result<Reader, Stop>
+fn joining(draft: Draft, number: u32, signal: Signal) -> Result<DumpReader, TextStop>
     requires linked { IsLinked draft }
     requires unchanged { (waveforms_of draft).changes ≡ [] }
     ensures gives { Gives state_of result (machine.joining (waveforms_of draft) (number, signal)) }
     ensures linked { IfOk result (λ r. IsLinked r.draft) }
 {
     if !may_join(&draft.signals, number, &signal) {
-        return Err(Stop::Other);
+        return Err(TextStop::Other);
     }
     let draft = draft.with_signal(signal)?;
-    Ok(Reader {
+    Ok(DumpReader {
         stage: Stage::Signals,
         draft,
     })
 }
 
 /// The first value of the next signal.
-fn beginning(draft: Draft, digits: &[u8], number: u32) -> Result<Reader, Stop>
+fn beginning(draft: Draft, digits: &[u8], number: u32) -> Result<DumpReader, TextStop>
     requires linked { IsLinked draft }
     requires next { length draft.first.items < length draft.signals.items }
     ensures gives { Gives state_of result (machine.beginning (waveforms_of draft) (digits.now, number)) }
     ensures linked { IfOk result (λ r. IsLinked r.draft) }
 {
     if number as usize != draft.first.len() + 1 {
-        return Err(Stop::Other);
+        return Err(TextStop::Other);
     }
     let Some(value) = decoded(draft.ty(number), digits) else {
-        return Err(Stop::Other);
+        return Err(TextStop::Other);
     };
     let draft = draft.with_first(value)?;
-    Ok(Reader {
+    Ok(DumpReader {
         stage: Stage::First,
         draft,
     })
@@ -139,7 +139,7 @@ fn may_change(draft: &Draft, change: &Change) -> bool
     draft.last().is_before(change) && !is_equal(change.value, draft.value(change.signal))
 }
 
-fn changing(draft: Draft, change: Change) -> Result<Reader, Stop>
+fn changing(draft: Draft, change: Change) -> Result<DumpReader, TextStop>
     requires linked { IsLinked draft }
     requires few { length draft.signals.items ≤ ALL_ELEMENTS }
     requires one_each { length draft.first.items ≡ length draft.signals.items }
@@ -149,17 +149,17 @@ fn changing(draft: Draft, change: Change) -> Result<Reader, Stop>
     ensures linked { IfOk result (λ r. IsLinked r.draft) }
 {
     if !may_change(&draft, &change) {
-        return Err(Stop::Other);
+        return Err(TextStop::Other);
     }
     let draft = draft.with_change(change)?;
-    Ok(Reader {
+    Ok(DumpReader {
         stage: Stage::Ticks,
         draft,
     })
 }
 
 /// The value of signal `signal` at this tick.
-fn turning(draft: Draft, tick: u64, digits: &[u8], signal: u32) -> Result<Reader, Stop>
+fn turning(draft: Draft, tick: u64, digits: &[u8], signal: u32) -> Result<DumpReader, TextStop>
     requires linked { IsLinked draft }
     requires few { length draft.signals.items ≤ ALL_ELEMENTS }
     requires one_each { length draft.first.items ≡ length draft.signals.items }
@@ -167,10 +167,10 @@ fn turning(draft: Draft, tick: u64, digits: &[u8], signal: u32) -> Result<Reader
     ensures linked { IfOk result (λ r. IsLinked r.draft) }
 {
     if !counts(draft.signals.len() as u32, signal) {
-        return Err(Stop::Other);
+        return Err(TextStop::Other);
     }
     let Some(value) = decoded(draft.ty(signal), digits) else {
-        return Err(Stop::Other);
+        return Err(TextStop::Other);
     };
     changing(
         draft,
@@ -190,24 +190,24 @@ fn may_tick(draft: &Draft, tick: u64) -> bool
     0 < draft.signals.len() && draft.last().tick < tick
 }
 
-fn ticking(draft: Draft, tick: u64) -> Result<Reader, Stop>
+fn ticking(draft: Draft, tick: u64) -> Result<DumpReader, TextStop>
     requires linked { IsLinked draft }
     requires few { length draft.signals.items ≤ ALL_ELEMENTS }
     ensures gives { Gives state_of result (machine.ticking (waveforms_of draft) tick) }
     ensures linked { IfOk result (λ r. IsLinked r.draft) }
 {
     if may_tick(&draft, tick) {
-        Ok(Reader {
+        Ok(DumpReader {
             stage: Stage::Tick(tick),
             draft,
         })
     } else {
-        Err(Stop::Other)
+        Err(TextStop::Other)
     }
 }
 
 /// A signal, or the end of the scope.
-fn next_signal(draft: Draft, line: &[u8]) -> Result<Reader, Stop>
+fn next_signal(draft: Draft, line: &[u8]) -> Result<DumpReader, TextStop>
     requires linked { IsLinked draft }
     requires unchanged { (waveforms_of draft).changes ≡ [] }
     ensures gives { Gives state_of result (machine.pass_at Stage.Signals (waveforms_of draft) line.now) }
@@ -218,12 +218,12 @@ fn next_signal(draft: Draft, line: &[u8]) -> Result<Reader, Stop>
     }
     match read_signal(line) {
         Some((number, signal)) => joining(draft, number, signal),
-        None => Err(Stop::Other),
+        None => Err(TextStop::Other),
     }
 }
 
 /// A first value, or the end of these.
-fn next_value(draft: Draft, line: &[u8]) -> Result<Reader, Stop>
+fn next_value(draft: Draft, line: &[u8]) -> Result<DumpReader, TextStop>
     requires { IsLinked draft }
     ensures gives { Gives state_of result (machine.pass_at Stage.First (waveforms_of draft) line.now) }
     ensures linked { IfOk result (λ r. IsLinked r.draft) }
@@ -231,7 +231,7 @@ fn next_value(draft: Draft, line: &[u8]) -> Result<Reader, Stop>
     if draft.first.len() < draft.signals.len() {
         match read_change(line) {
             Some((digits, number)) => beginning(draft, digits, number),
-            None => Err(Stop::Other),
+            None => Err(TextStop::Other),
         }
     } else {
         fixed(b"$end", line, Stage::Ticks, draft)
@@ -239,7 +239,7 @@ fn next_value(draft: Draft, line: &[u8]) -> Result<Reader, Stop>
 }
 
 /// A change at this tick.
-fn next_change(draft: Draft, tick: u64, line: &[u8]) -> Result<Reader, Stop>
+fn next_change(draft: Draft, tick: u64, line: &[u8]) -> Result<DumpReader, TextStop>
     requires linked { IsLinked draft }
     requires few { length draft.signals.items ≤ ALL_ELEMENTS }
     requires one_each { length draft.first.items ≡ length draft.signals.items }
@@ -248,12 +248,12 @@ fn next_change(draft: Draft, tick: u64, line: &[u8]) -> Result<Reader, Stop>
 {
     match read_change(line) {
         Some((digits, number)) => turning(draft, tick, digits, number),
-        None => Err(Stop::Other),
+        None => Err(TextStop::Other),
     }
 }
 
 /// A later tick, behind its #.
-fn later_tick(draft: Draft, rest: &[u8]) -> Result<Reader, Stop>
+fn later_tick(draft: Draft, rest: &[u8]) -> Result<DumpReader, TextStop>
     requires linked { IsLinked draft }
     requires few { length draft.signals.items ≤ ALL_ELEMENTS }
     ensures gives { Gives state_of result (machine.ticked (waveforms_of draft) rest.now) }
@@ -261,12 +261,12 @@ fn later_tick(draft: Draft, rest: &[u8]) -> Result<Reader, Stop>
 {
     match read_tick(rest) {
         Some(tick) => ticking(draft, tick),
-        None => Err(Stop::Other),
+        None => Err(TextStop::Other),
     }
 }
 
 /// A later tick, or a further change at the last one.
-fn next_tick(draft: Draft, line: &[u8]) -> Result<Reader, Stop>
+fn next_tick(draft: Draft, line: &[u8]) -> Result<DumpReader, TextStop>
     requires linked { IsLinked draft }
     requires few { length draft.signals.items ≤ ALL_ELEMENTS }
     requires one_each { length draft.first.items ≡ length draft.signals.items }
@@ -281,13 +281,13 @@ fn next_tick(draft: Draft, line: &[u8]) -> Result<Reader, Stop>
 }
 
 /// One line, without its LF.
-pub fn pass(reader: Reader, line: &[u8]) -> Result<Reader, Stop>
+pub fn pass(reader: DumpReader, line: &[u8]) -> Result<DumpReader, TextStop>
     requires linked { IsLinked reader.draft }
     requires stands { machine.Stands reader.stage (waveforms_of reader.draft) }
     ensures gives { Gives state_of result (machine.pass line.now (state_of reader)) }
     ensures linked { IfOk result (λ r. IsLinked r.draft) }
 {
-    let Reader { stage, draft } = reader;
+    let DumpReader { stage, draft } = reader;
     match stage {
         Stage::Timescale => fixed(b"$timescale 1 ns $end", line, Stage::Scope, draft),
         Stage::Scope => fixed(b"$scope module scicos $end", line, Stage::Signals, draft),

@@ -9,8 +9,8 @@ ghost use Rattle.sci_vcd.specs.Blame.{Spells, IsFirstWrong, Answers, Accepts, Bl
 
 use crate::Dump;
 use crate::draft::Draft;
-use crate::machine::{Reader, Stage, pass};
-use sci_text::{Stop, split_line};
+use crate::machine::{DumpReader, Stage, pass};
+use sci_text::{TextStop, split_line};
 use std::alloc::Global;
 
 /// Why bytes are no dump.
@@ -22,17 +22,17 @@ pub enum VcdStop {
     Memory,
 }
 
-fn blame(stop: Stop, line: usize) -> VcdStop
+fn blame(stop: TextStop, line: usize) -> VcdStop
     ensures { result ≡ blame_of stop line }
 {
     match stop {
-        Stop::Memory => VcdStop::Memory,
-        Stop::Other => VcdStop::NotVcd(line),
+        TextStop::Memory => VcdStop::Memory,
+        TextStop::Other => VcdStop::NotVcd(line),
     }
 }
 
 /// What was read, where nothing is missing and nothing is left; else this line is blamed.
-fn finish(reader: Reader, line: usize, rest: &[u8]) -> Result<Dump, VcdStop>
+fn finish(reader: DumpReader, line: usize, rest: &[u8]) -> Result<Dump, VcdStop>
     requires linked { IsLinked reader.draft }
     requires stands { machine.Stands reader.stage (waveforms_of reader.draft) }
     ensures none { IfOk result (λ d. rest.now ≡ []) }
@@ -40,7 +40,7 @@ fn finish(reader: Reader, line: usize, rest: &[u8]) -> Result<Dump, VcdStop>
     ensures blamed { IfErr result (λ e. e ≡ VcdStop.NotVcd line) }
     ensures missing { IfErr result (λ e. (w : Waveforms) → rest.now ≡ [] → state_of reader ≡ at_stage Stage.Ticks w → ⊥) }
 {
-    let Reader { stage, draft } = reader;
+    let DumpReader { stage, draft } = reader;
     if !rest.is_empty() {
         return Err(VcdStop::NotVcd(line));
     }
@@ -61,7 +61,7 @@ fn finish(reader: Reader, line: usize, rest: &[u8]) -> Result<Dump, VcdStop>
 fn read(alloc: Global, bytes: &[u8]) -> Result<Dump, VcdStop>
     ensures { Answers bytes.now result }
 {
-    let mut reader = Reader {
+    let mut reader = DumpReader {
         stage: Stage::Timescale,
         draft: Draft::new(alloc),
     };

@@ -1,9 +1,9 @@
 // The lines of signals' values, made from their ends to their fronts.
 
-ghost use Rattle.std.specs.Prelude.{◌≡◌, ℕ, ◌+◌, ◌*◌, ◌<◌, ◌≤◌, ◌++◌, [], drop, length, slice_index_or, IfOk};
+ghost use Rattle.std.specs.Prelude.{◌≡◌, ℕ, ◌+◌, ◌<◌, ◌≤◌, ◌++◌, [], drop, length, slice_index_or, IfOk};
 ghost use Rattle.sci_text.specs.Lines.{with_lf};
 ghost use Rattle.sci_vcd.specs.Waveforms.{no_signal};
-ghost use Rattle.sci_vcd.specs.Spelling.{binary, value_line};
+ghost use Rattle.sci_vcd.specs.Spelling.{binary, bits, value_line};
 ghost use Rattle.sci_vcd.specs.LaidDown.{end_text};
 
 use crate::Signal;
@@ -109,25 +109,58 @@ impl SignalLines {
         &self.eights[n as usize]
     }
 
-    // The last binary digits of a number, in so many groups of eight, before the bytes from `end` on.
-    fn bits_before(&self, line: &mut [u8], end: usize, groups: u32, bits: u64) -> usize
+    // Each of these puts the last binary digits of a number before the bytes from `end` on, and tells where they begin.
+
+    // Eight.
+    #[inline(always)]
+    fn eight_of(&self, line: &mut [u8], end: usize, n: u64) -> usize
+        requires room { 8 ≤ end }
+        requires within { end ≤ length line.old }
+        ensures text { drop result line.new ≡ binary 8 n ++ drop end line.old }
+        ensures start { result + 8 ≡ end }
+    {
+        eight_before(line, end, self.eight(n % 256))
+    }
+
+    // Sixteen.
+    #[inline(always)]
+    fn sixteen_of(&self, line: &mut [u8], end: usize, n: u64) -> usize
+        requires room { 16 ≤ end }
+        requires within { end ≤ length line.old }
+        ensures text { drop result line.new ≡ binary 16 n ++ drop end line.old }
+        ensures start { result + 16 ≡ end }
+    {
+        let at = self.eight_of(line, end, n);
+        self.eight_of(line, at, n / 256)
+    }
+
+    // Thirty-two.
+    fn thirty_two_of(&self, line: &mut [u8], end: usize, n: u64) -> usize
         requires room { 32 ≤ end }
         requires within { end ≤ length line.old }
-        requires narrow { groups ≤ 4 }
-        ensures text { drop result line.new ≡ binary (8 * groups) bits ++ drop end line.old }
-        ensures start { result + 8 * groups ≡ end }
+        ensures text { drop result line.new ≡ binary 32 n ++ drop end line.old }
+        ensures start { result + 32 ≡ end }
     {
-        let mut at = end;
-        let mut left = bits;
-        for _ in 0..groups {
-            at = eight_before(line, at, self.eight(left % 256));
-            left /= 256;
+        let at = self.sixteen_of(line, end, n);
+        self.sixteen_of(line, at, n / 65_536)
+    }
+
+    // The digits of a value of a type.
+    fn bits_before(&self, line: &mut [u8], end: usize, ty: Ty, value: i64) -> usize
+        requires room { 32 ≤ end }
+        requires within { end ≤ length line.old }
+        ensures text { drop result line.new ≡ bits ty value ++ drop end line.old }
+        ensures room { end ≤ result + 32 }
+        ensures start { result ≤ end }
+    {
+        match ty {
+            Ty::I32 | Ty::U32 => self.thirty_two_of(line, end, pattern(ty, value)),
+            Ty::I16 | Ty::U16 => self.sixteen_of(line, end, pattern(ty, value)),
+            Ty::I8 | Ty::U8 => self.eight_of(line, end, pattern(ty, value)),
         }
-        at
     }
 
     /// The line of a value of the signal at a place, counted from 0, before the bytes from `end` on. The answer is where it begins.
-    #[tactic(auto, using(crate::proofs::Bits::width_eights, crate::proofs::Bits::width_most))]
     pub fn value_before(&self, line: &mut [u8], end: usize, at: usize, value: i64) -> usize
         requires signal { at < length self.now }
         requires room { 57 ≤ end }
@@ -138,7 +171,7 @@ impl SignalLines {
     {
         let ty = self.ty(at);
         let place = self.line_end(at).put_before(line, end);
-        let place = self.bits_before(line, place, ty.width() / 8, pattern(ty, value));
+        let place = self.bits_before(line, place, ty, value);
         byte_before(line, place, b'b')
     }
 

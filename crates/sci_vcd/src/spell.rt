@@ -10,6 +10,7 @@ use crate::Signal;
 use itoa::write_digits;
 use sci_base::Ty;
 use sci_io::{Failed, Sink};
+use std::simd::Simd;
 
 /// The room for a line. The longest has three words and four numbers of 20 characters.
 pub const ROOM: usize = 128;
@@ -116,6 +117,15 @@ pub fn eight_digits(n: u64) -> [u8; 8]
     text
 }
 
+// Eight bytes at once.
+fn put_eight(text: &mut [u8], digits: &[u8; 8])
+    requires { length text.old ≡ 8 }
+    ensures len { length text.new ≡ 8 }
+    ensures text { text.new ≡ digits.now }
+{
+    Simd::<u8, 8>::from_array(*digits).copy_to_slice(text);
+}
+
 /// Eight digits.
 pub fn eight_before(line: &mut [u8], end: usize, digits: &[u8; 8]) -> usize
     requires room { 8 ≤ end }
@@ -124,7 +134,7 @@ pub fn eight_before(line: &mut [u8], end: usize, digits: &[u8; 8]) -> usize
     ensures start { result + 8 ≡ end }
 {
     let start = end - 8;
-    line[start..end].copy_from_slice(digits);
+    put_eight(&mut line[start..end], digits);
     start
 }
 

@@ -7,8 +7,8 @@ use Rattle.sci_diagram.specs.Reading.{Accepts as IsDiagram, Breaks as IsNoDiagra
 use Rattle.sci_net.specs.Parts.{Parts}
 use Rattle.sci_flat.proofs.Verdicts.{verdict, violation}
 use Rattle.sci_verdict.proofs.OneFlat.{one_flat}
-use Rattle.sci_infer.specs.declared.values.Verdict.{Verdict}
-use Rattle.sci_infer.specs.declared.values.Verdict.TheVariants.{Conflict, Open, Values}
+use Rattle.sci_infer.specs.declared.values.Resolution.{Resolution}
+use Rattle.sci_infer.specs.declared.values.Resolution.TheVariants.{Conflict, Open, Values}
 use Rattle.sci_net.specs.Flat.{IsFlat}
 use Rattle.sci_net.specs.Net.{IsNet}
 use Rattle.sci_infer.specs.Typing.{Decides}
@@ -47,7 +47,7 @@ judged_ok : (n m : Parts) (b : Option Blamed) → judged n b ≡ Ok m → (b ≡
 judged_ok n m None e = (refl, cc e)
 judged_ok n m (Some x) e = absurd (cc e)
 
-answer_is_net : (n m : Parts) (v : Verdict) → IsFlat n → Decides (parts_in n) (AreTied n) v → answered n v ≡ Ok m → IsNet m
+answer_is_net : (n m : Parts) (v : Resolution) → IsFlat n → Decides (parts_in n) (AreTied n) v → answered n v ≡ Ok m → IsNet m
 answer_is_net n m (Conflict at span) flat d e = absurd (cc e)
 answer_is_net n m (Open at) flat d e = absurd (cc e)
 answer_is_net n m (Values vs) flat d e =

@@ -3,7 +3,7 @@ use Rattle.c_ast.specs.View.{whole_of}
 use Rattle.c_ast.specs.Events.{program_events}
 use Rattle.c_ast.specs.Rules.{blamed_event}
 use Rattle.c_ast.specs.Rules.{KeepsRules}
-use Rattle.c_read.specs.declared.ParseStop.TheVariants as stops
+use Rattle.c_read.specs.declared.ProgramStop.TheVariants as stops
 use Rattle.c_read.proofs.Uniqueness.{accepts, blames, read_failed}
 use Rattle.c_read.proofs.Blaming.{place_within, unruly}
 use Rattle.c_read.proofs.parse.Goals as goal

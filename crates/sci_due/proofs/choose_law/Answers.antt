@@ -1,5 +1,5 @@
 use Rattle.std.proofs.Common.{refl}
-use Rattle.c_steps.specs.Laws.{GoesOn}
+use Rattle.c_mean.specs.Laws.{GoesOn}
 use Rattle.sci_due.specs.Laws.{HasChosen}
 use Rattle.sci_due.proofs.Pending.{choose_next}
 use Rattle.sci_due.proofs.choose_law.Goals as goal

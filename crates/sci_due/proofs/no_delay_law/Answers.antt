@@ -1,5 +1,5 @@
 use Rattle.std.proofs.Common.{refl}
-use Rattle.c_steps.specs.Laws.{GoesOn}
+use Rattle.c_mean.specs.Laws.{GoesOn}
 use Rattle.sci_due.specs.Laws.{HasProgrammed}
 use Rattle.sci_due.proofs.Pending.{program_none}
 use Rattle.sci_due.proofs.no_delay_law.Goals as goal

@@ -1,6 +1,6 @@
 use Rattle.std.proofs.Common.{refl, suc, ◌+◌}
 use Rattle.sci_pending.specs.Pending.{replaced}
-use Rattle.c_steps.specs.Laws.{GoesOn}
+use Rattle.c_mean.specs.Laws.{GoesOn}
 use Rattle.sci_due.specs.Laws.{HasProgrammed}
 use Rattle.sci_due.proofs.Pending.{program_next}
 use Rattle.sci_due.proofs.program_law.Goals as goal

@@ -4,7 +4,7 @@ ghost use Rattle.sci_flat.specs.Lists.{lists_of};
 ghost use Rattle.sci_flat.specs.Reached.{AreReached};
 ghost use Rattle.sci_flat.specs.Successors.{AreSuccessors};
 
-use crate::reach::search::Search;
+use crate::reach::search::FeedSearch;
 use crate::reach::successors::Successors;
 use sci_base::NoMemory;
 use std::alloc::Global;
@@ -23,11 +23,11 @@ pub fn reached(
     requires sources { All (λ p. p < length wanted.now) sources.now }
     ensures { IfOk result (λ v. AreReached steps.now sources.now wanted.now (lists_of v)) }
 {
-    let mut search = Search::new(alloc, wanted.len())?;
+    let mut search = FeedSearch::new(alloc, wanted.len())?;
     for (i, start) in sources.iter().enumerate() {
         search.walk(wanted, i, *start, steps, successors)?;
     }
-    let Search {
+    let FeedSearch {
         stamps: _,
         lists,
         pending: _,

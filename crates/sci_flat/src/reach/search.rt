@@ -12,7 +12,7 @@ use std::alloc::Global;
 
 /// What the search has come to.
 #[derive(Drop)]
-pub struct Search {
+pub struct FeedSearch {
     /// By port, the number of the last source that reached it, counted from 1; 0 where there is none.
     pub stamps: Vec<usize>,
     /// By port, the sources that reached it, where it is wanted.
@@ -21,9 +21,9 @@ pub struct Search {
     pub pending: Vec<u32>,
 }
 
-impl Search {
+impl FeedSearch {
     /// A search over so many ports before its first source.
-    pub(crate) fn new(alloc: Global, ports: usize) -> Result<Search, NoMemory>
+    pub(crate) fn new(alloc: Global, ports: usize) -> Result<FeedSearch, NoMemory>
         ensures stamps { IfOk result (λ s. s.stamps.items ≡ replicate ports 0) }
         ensures lists { IfOk result (λ s. lists_of s.lists ≡ replicate ports []) }
         ensures ready { IfOk result (λ s. IsReady s ports 0) }
@@ -31,7 +31,7 @@ impl Search {
         let stamps = vec![in alloc; 0; ports]?;
         let lists = empty_lists(alloc, ports)?;
         let pending = Vec::new(alloc);
-        Ok(Search {
+        Ok(FeedSearch {
             stamps,
             lists,
             pending,

@@ -1,10 +1,10 @@
 // The steps along links.
 ghost use Rattle.std.specs.Prelude.{◌≡◌, ◌<◌, ◌^◌, ◌++◌, All, OnOk};
 ghost use Rattle.sci_blocks.specs.Wiring.{link_type};
-ghost use Rattle.sci_flat.specs.Seat.{past};
+ghost use Rattle.sci_flat.specs.PortNumbers.{past};
 ghost use Rattle.sci_flat.specs.Numbers.{joined, end_number, link_numbers};
 
-use crate::steps::seat::Seat;
+use crate::steps::port_numbers::PortNumbers;
 use sci_base::NoMemory;
 use sci_blocks::{LinkType, PortClass};
 use sci_diagram::{End, LinkObj};
@@ -26,7 +26,7 @@ pub(crate) fn add_step(
 }
 
 /// The number of the port that an end names.
-fn end_number(seats: &[Seat], class: PortClass, end: &End) -> Option<u32>
+fn end_number(seats: &[PortNumbers], class: PortClass, end: &End) -> Option<u32>
     requires { All (λ s. past s < 2 ^ 32) seats.now }
     ensures { result ≡ end_number seats.now class end.now }
 {
@@ -41,7 +41,7 @@ fn end_number(seats: &[Seat], class: PortClass, end: &End) -> Option<u32>
 
 /// Adds the step along a link between objects with these seats.
 pub(crate) fn add_link(
-    seats: &[Seat],
+    seats: &[PortNumbers],
     link: &LinkObj,
     steps: &mut Vec<(u32, u32)>,
 ) -> Result<(), NoMemory>

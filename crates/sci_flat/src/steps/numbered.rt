@@ -6,8 +6,8 @@ ghost use Rattle.sci_flat.specs.Ready.{ports_in};
 ghost use Rattle.sci_flat.specs.Ports.{tree_steps};
 ghost use Rattle.sci_flat.specs.Numbered.{IsNumbered};
 
-use crate::steps::seat::Seat;
-use crate::steps::walk::Walk;
+use crate::steps::numberer::PortNumberer;
+use crate::steps::port_numbers::PortNumbers;
 use sci_base::NoMemory;
 use sci_diagram::Diagram;
 use std::alloc::Global;
@@ -20,7 +20,7 @@ pub struct Numbered {
     /// The steps, each from one port to another.
     pub steps: Vec<(u32, u32)>,
     /// The blocks that are neither superblocks nor pass-through objects, in tree order.
-    pub blocks: Vec<Seat>,
+    pub blocks: Vec<PortNumbers>,
     /// The tag objects, in tree order: each by the number of its port. Of one that hasn't exactly one port the entry has no meaning.
     pub tags: Vec<u32>,
 }
@@ -31,14 +31,14 @@ pub fn number(alloc: Global, d: &Diagram) -> Result<Numbered, NoMemory>
     ensures { IfOk result (λ n. (ps : List Placed) → parts_of (diagram_view d.now) ≡ Ok ps
         → links_of (diagram_view d.now) ≡ Ok tt → IsNumbered (diagram_view d.now) ps (tree_steps (diagram_view d.now)) n) }
 {
-    let mut walk = Walk {
+    let mut walk = PortNumberer {
         next: 0,
         steps: Vec::new(alloc),
         blocks: Vec::new(alloc),
         tags: Vec::new(alloc),
     };
-    walk.diagram(alloc, d, Seat::empty(0))?;
-    let Walk {
+    walk.diagram(alloc, d, PortNumbers::empty(0))?;
+    let PortNumberer {
         next,
         steps,
         blocks,

@@ -1,10 +1,10 @@
 // The steps through pass-through objects.
 ghost use Rattle.std.specs.Prelude.{◌≡◌, ◌+◌, ◌<◌, ◌≤◌, ◌^◌, ◌++◌, pos, Some, OnOk};
-ghost use Rattle.sci_flat.specs.Seat.{past, port_number};
+ghost use Rattle.sci_flat.specs.PortNumbers.{past, port_number};
 ghost use Rattle.sci_flat.specs.Numbers.{fan_out, fan_in, port_numbers, block_numbers, through_numbers};
 
 use crate::steps::link::add_step;
-use crate::steps::seat::Seat;
+use crate::steps::port_numbers::PortNumbers;
 use sci_base::NoMemory;
 use sci_blocks::{PassThrough, PortClass};
 
@@ -48,8 +48,8 @@ fn fan_in(
 
 /// Adds the step between a superblock's port and the port block that stands for it.
 fn add_port_block(
-    outer: Seat,
-    seat: Seat,
+    outer: PortNumbers,
+    seat: PortNumbers,
     class: PortClass,
     number: i64,
     steps: &mut Vec<(u32, u32)>,
@@ -83,8 +83,8 @@ fn add_port_block(
 }
 
 fn add_numbered(
-    outer: Seat,
-    seat: Seat,
+    outer: PortNumbers,
+    seat: PortNumbers,
     class: PortClass,
     ipar: &[i64],
     steps: &mut Vec<(u32, u32)>,
@@ -101,8 +101,8 @@ fn add_numbered(
 
 /// Adds the steps through a pass-through object, of which a tag object has none; `outer` is the seat of the superblock around it.
 pub(crate) fn add_through(
-    outer: Seat,
-    seat: Seat,
+    outer: PortNumbers,
+    seat: PortNumbers,
     ipar: &[i64],
     p: PassThrough,
     steps: &mut Vec<(u32, u32)>,

@@ -1,5 +1,5 @@
 use Rattle.std.proofs.Common.{◌-◌, length, map}
-use Rattle.sci_forms.specs.Names.{kinds}
+use Rattle.sci_forms.specs.Numbers.{kinds}
 use Rattle.sci_library.specs.Banks.{IsBegun}
 use Rattle.scicos.proofs.main.OwnLists.{own-1}
 use Rattle.scicos.proofs.main.Given as goal

@@ -2,7 +2,7 @@ use Rattle.std.proofs.Common.{sym, subst, FitsSigned, w64, rules}
 use Rattle.std.proofs.lemmas.Int.{to_z-of_z}
 use Rattle.sci_base.specs.Fit.{InRange}
 use Rattle.sci_forms.specs.Words.{out_type}
-use Rattle.sci_bank.proofs.BankLemmas.{alike_in_range}
+use Rattle.sci_bank.proofs.WordLemmas.{alike_in_range}
 use Rattle.sci_bank.proofs.words.alike_input.Goals as goal
 
 pub returns-clause-in_range : goal.returns-clause-in_range

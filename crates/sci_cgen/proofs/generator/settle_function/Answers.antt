@@ -3,7 +3,7 @@ use Rattle.c_ast.specs.declared.Name.{Name}
 use Rattle.c_ast.specs.declared.Stmt.{Stmt}
 use Rattle.c_ast.specs.Syntax.{Block, Function}
 use Rattle.c_ast.specs.View.{statements_of}
-use Rattle.c_steps.specs.Texts.{joined}
+use Rattle.c_mean.specs.Texts.{joined}
 use Rattle.sci_cgen.specs.declared.parts.Part.{Part}
 use Rattle.sci_cgen.specs.Names.{settle_name}
 use Rattle.sci_cgen.specs.Program.{settle_text}

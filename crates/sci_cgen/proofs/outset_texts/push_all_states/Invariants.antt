@@ -1,6 +1,6 @@
 use Rattle.std.proofs.Common.{◌≡◌, ◌≤◌, suc, length}
 use Rattle.c_ast.specs.View.{statements_of}
-use Rattle.c_steps.specs.Texts.{joined, upto}
+use Rattle.c_mean.specs.Texts.{joined, upto}
 use Rattle.sci_cgen.specs.Program.{state_begun}
 use Rattle.sci_cgen.proofs.outset_texts.push_all_states.Given as goal
 

@@ -2,7 +2,7 @@ use Rattle.std.proofs.Common.{w64, ℤ, ap, ◌∙◌}
 use Rattle.std.proofs.lemmas.Int.{to_z-of_z}
 use Rattle.std.proofs.lemmas.Result.{on_ok_weaker}
 use Rattle.c_ast.specs.View.{statements_of}
-use Rattle.c_steps.specs.Texts.{number, joined}
+use Rattle.c_mean.specs.Texts.{number, joined}
 use Rattle.sci_cgen.proofs.OutsetLemmas.{set_is, begun_none, begun_some, zero_bits, other_bits}
 use Rattle.sci_cgen.proofs.outset_texts.push_begun.Goals as goal
 

@@ -3,7 +3,7 @@ use Rattle.std.proofs.lemmas.Int.{to_z-of_z}
 use Rattle.std.proofs.lemmas.Result.{on_ok_weaker}
 use Rattle.c_ast.specs.Syntax.{cell}
 use Rattle.c_ast.specs.View.{statements_of}
-use Rattle.c_steps.specs.Texts.{joined}
+use Rattle.c_mean.specs.Texts.{joined}
 use Rattle.sci_due.specs.Due.{dates, orders}
 use Rattle.sci_cgen.specs.Program.{natural, begun_text}
 use Rattle.sci_cgen.proofs.OutsetLemmas.{set_is, begun_alike, firing_none, firing_some, behind_two}

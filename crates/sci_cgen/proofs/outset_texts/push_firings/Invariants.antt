@@ -2,7 +2,7 @@
 use Rattle.std.proofs.Common.{◌≡◌, ◌≤◌, ◌-◌, suc, length}
 use Rattle.sci_net.specs.Sources.{sources_of}
 use Rattle.c_ast.specs.View.{statements_of}
-use Rattle.c_steps.specs.Texts.{joined, upto}
+use Rattle.c_mean.specs.Texts.{joined, upto}
 use Rattle.sci_cgen.specs.Program.{source_begun, programmed_before}
 use Rattle.sci_cgen.proofs.outset_texts.push_firings.Given as goal
 

@@ -4,7 +4,7 @@ use Rattle.std.proofs.lemmas.Int.{to_z-of_z}
 use Rattle.sci_forms.specs.Ports.{total}
 use Rattle.sci_forms.specs.Words.{held_of}
 use Rattle.c_ast.specs.View.{statements_of}
-use Rattle.c_steps.specs.Texts.{joined}
+use Rattle.c_mean.specs.Texts.{joined}
 use Rattle.sci_cgen_blocks.specs.Texts.{values}
 use Rattle.sci_cgen_blocks.proofs.Written.{joined_done}
 use Rattle.sci_cgen.specs.Program.{begun_text}

@@ -2,7 +2,7 @@ use Rattle.std.proofs.Common.{◌≡◌, ◌≤◌, ◌+◌}
 use Rattle.sci_forms.specs.Ports.{total}
 use Rattle.sci_forms.specs.Words.{held_of}
 use Rattle.c_ast.specs.View.{statements_of}
-use Rattle.c_steps.specs.Texts.{joined, upto}
+use Rattle.c_mean.specs.Texts.{joined, upto}
 use Rattle.sci_cgen_blocks.specs.Texts.{values}
 use Rattle.sci_cgen.specs.Program.{begun_text}
 use Rattle.sci_cgen.proofs.outset_texts.push_held.Given as goal

@@ -3,7 +3,7 @@ use Rattle.std.proofs.lemmas.Result.{on_ok_weaker}
 use Rattle.sci_net.specs.Sources.{sources_of}
 use Rattle.c_ast.specs.Syntax.{scalar, ask, until}
 use Rattle.c_ast.specs.View.{statements_of}
-use Rattle.c_steps.specs.Texts.{joined}
+use Rattle.c_mean.specs.Texts.{joined}
 use Rattle.sci_cgen.specs.Program.{one}
 use Rattle.sci_cgen.proofs.OutsetLemmas.{set_is, behind_two, where_some, where_none}
 use Rattle.sci_cgen.proofs.outset_texts.push_programmed.Goals as goal

@@ -4,7 +4,7 @@ use Rattle.std.proofs.lemmas.Int.{to_z-of_z}
 use Rattle.sci_base.specs.Lists.{spread}
 use Rattle.sci_forms.specs.Words.{state_len_of}
 use Rattle.c_ast.specs.View.{statements_of}
-use Rattle.c_steps.specs.Texts.{joined}
+use Rattle.c_mean.specs.Texts.{joined}
 use Rattle.sci_cgen_blocks.specs.Texts.{states}
 use Rattle.sci_cgen_blocks.proofs.Written.{joined_done}
 use Rattle.sci_cgen.specs.Program.{begun_text}

@@ -2,7 +2,7 @@ use Rattle.std.proofs.Common.{◌≡◌, ◌≤◌, ◌+◌}
 use Rattle.sci_base.specs.Lists.{spread}
 use Rattle.sci_forms.specs.Words.{state_len_of}
 use Rattle.c_ast.specs.View.{statements_of}
-use Rattle.c_steps.specs.Texts.{joined, upto}
+use Rattle.c_mean.specs.Texts.{joined, upto}
 use Rattle.sci_cgen_blocks.specs.Texts.{states}
 use Rattle.sci_cgen.specs.Program.{begun_text}
 use Rattle.sci_cgen.proofs.outset_texts.push_state.Given as goal

@@ -1,6 +1,6 @@
 use Rattle.std.proofs.Common.{ap, ◌∙◌}
 use Rattle.c_ast.specs.View.{statements_of}
-use Rattle.c_steps.specs.Texts.{joined}
+use Rattle.c_mean.specs.Texts.{joined}
 use Rattle.sci_cgen.proofs.RowLemmas.{joined_new, joined_more}
 use Rattle.sci_cgen.proofs.row_texts.pass_text.Goals as goal
 

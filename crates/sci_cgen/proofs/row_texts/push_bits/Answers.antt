@@ -1,7 +1,7 @@
 use Rattle.std.proofs.Common.{arith, ◌≡◌, nat_eq, sym, ap, ◌∙◌}
 use Rattle.std.specs.Int.{bit_at}
 use Rattle.c_ast.specs.View.{statements_of}
-use Rattle.c_steps.specs.Texts.{joined}
+use Rattle.c_mean.specs.Texts.{joined}
 use Rattle.sci_cgen_blocks.proofs.Written.{joined_done}
 use Rattle.sci_cgen.specs.Program.{text_where, with_bit, with_bits}
 use Rattle.sci_cgen.proofs.RowLemmas.{upto_pushed}

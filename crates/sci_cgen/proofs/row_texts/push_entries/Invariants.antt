@@ -1,7 +1,7 @@
 -- The statements so far, and those of the entries to come.
 use Rattle.std.proofs.Common.{◌≡◌, drop}
 use Rattle.c_ast.specs.View.{statements_of}
-use Rattle.c_steps.specs.Texts.{joined}
+use Rattle.c_mean.specs.Texts.{joined}
 use Rattle.sci_sched.specs.Plain.{row_of}
 use Rattle.sci_cgen.specs.Program.{texts, entry_text}
 use Rattle.sci_cgen.proofs.row_texts.push_entries.Given as goal

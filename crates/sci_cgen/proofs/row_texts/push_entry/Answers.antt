@@ -1,7 +1,7 @@
 use Rattle.std.proofs.Common.{ap, ◌∙◌}
 use Rattle.std.proofs.lemmas.Result.{on_ok_weaker}
 use Rattle.c_ast.specs.View.{statements_of}
-use Rattle.c_steps.specs.Texts.{joined}
+use Rattle.c_mean.specs.Texts.{joined}
 use Rattle.sci_cgen.specs.Program.{text_where, mark}
 use Rattle.sci_cgen.proofs.RowLemmas.{joined_four}
 use Rattle.sci_cgen.proofs.row_texts.push_entry.Goals as goal

@@ -1,7 +1,7 @@
 use Rattle.std.proofs.Common.{ℕ, ap, ◌∙◌}
 use Rattle.std.proofs.lemmas.Result.{on_ok_weaker}
 use Rattle.c_ast.specs.View.{statements_of}
-use Rattle.c_steps.specs.Texts.{joined}
+use Rattle.c_mean.specs.Texts.{joined}
 use Rattle.sci_cgen.specs.declared.parts.Part.{Part}
 use Rattle.sci_cgen.specs.Program.{settle_text}
 use Rattle.sci_cgen.proofs.row_texts.push_own_following.Goals as goal

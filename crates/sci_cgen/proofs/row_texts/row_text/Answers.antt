@@ -1,6 +1,6 @@
 use Rattle.std.proofs.Common.{ap, ◌∙◌}
 use Rattle.sci_sched.specs.Plain.{row_of}
-use Rattle.c_steps.specs.Texts.{joined}
+use Rattle.c_mean.specs.Texts.{joined}
 use Rattle.sci_cgen.specs.Program.{following_text}
 use Rattle.sci_cgen.proofs.row_texts.row_text.Goals as goal
 

@@ -1,11 +1,10 @@
 use Rattle.std.proofs.Common.{arith, pos, not, ap, ◌∙◌}
-use Rattle.c_ast.specs.Syntax.{num, var, neg, scalar, cell, set, call, done, next}
+use Rattle.c_ast.specs.Syntax.{num, element, neg, scalar, cell, set, call, done, next}
 use Rattle.c_ast.specs.View.{statements_of}
-use Rattle.c_steps.specs.Texts.{joined}
-use Rattle.sci_due.specs.Due.{best, dates, now}
-use Rattle.sci_due.specs.Texts.{at_best}
+use Rattle.c_mean.specs.Texts.{joined}
+use Rattle.sci_due.specs.Due.{dates, now}
 use Rattle.sci_cgen.specs.Names.{clear_name, choose_name}
-use Rattle.sci_cgen.specs.Program.{one, text_where, port_count, react_step, react_deep}
+use Rattle.sci_cgen.specs.Program.{one, text_where, port_count, chosen_place, react_step, react_deep}
 use Rattle.sci_cgen.proofs.RunLemmas.{follows, behind}
 use Rattle.sci_cgen.proofs.Sizes.{few_ports}
 use Rattle.sci_cgen.proofs.run_texts.push_fire.Goals as goal
@@ -15,9 +14,9 @@ react-requires-clause-few c = let few = few_ports c.args.net.now c.well_formed-2
 
 pub returns : goal.returns
 returns c =
-    let date = follows (statements_of c.args.out.now.items) (one (set (scalar now) (at_best dates)))
+    let date = follows (statements_of c.args.out.now.items) (one (set (scalar now) (element dates (chosen_place (port_count c.args.net.now)))))
     (c.in_ok-push.ensures ∙ ap (λ s. joined (statements_of c.args.out.now.items) (next s done)) c.in_ok-dated.ensures) in
-    let free = follows (statements_of c.push.new.out.items) (one (set (cell dates (var best)) (neg (num (pos 1)))))
+    let free = follows (statements_of c.push.new.out.items) (one (set (cell dates (chosen_place (port_count c.args.net.now))) (neg (num (pos 1)))))
     (c.in_ok-push-2.ensures ∙ ap (λ s. joined (statements_of c.push.new.out.items) (next s done)) c.in_ok-freed.ensures) in
     let before = follows (statements_of c.push-2.new.out.items) (text_where (not c.args.own) (one (call clear_name))) c.in_ok-push_before.ensures in
     let react = follows (statements_of c.push_before.new.out.items) (one (react_step react_deep 0 (port_count c.args.net.now)))

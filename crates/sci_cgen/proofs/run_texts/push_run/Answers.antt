@@ -2,7 +2,7 @@ use Rattle.std.proofs.Common.{ap, ◌∙◌}
 use Rattle.c_ast.specs.declared.Bound.TheVariants as bounds
 use Rattle.c_ast.specs.Syntax.{call, loop, tell, finish, done, next}
 use Rattle.c_ast.specs.View.{statements_of}
-use Rattle.c_steps.specs.Texts.{joined}
+use Rattle.c_mean.specs.Texts.{joined}
 use Rattle.sci_cgen.specs.Names.{limit_name, fired_name, event_name}
 use Rattle.sci_cgen.specs.Program.{natural, one, halted_or}
 use Rattle.sci_cgen.proofs.RunLemmas.{follows, behind}

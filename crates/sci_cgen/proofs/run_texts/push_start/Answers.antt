@@ -1,7 +1,7 @@
 use Rattle.std.proofs.Common.{ap, ◌∙◌}
 use Rattle.c_ast.specs.Syntax.{scalar, ask, limit, call, done, next}
 use Rattle.c_ast.specs.View.{statements_of}
-use Rattle.c_steps.specs.Texts.{joined}
+use Rattle.c_mean.specs.Texts.{joined}
 use Rattle.sci_cgen.specs.Names.{limit_name, source_name}
 use Rattle.sci_cgen.specs.Program.{one, first_text}
 use Rattle.sci_cgen.proofs.RunLemmas.{follows, behind}

@@ -1,7 +1,7 @@
 -- The texts of the blocks so far.
 use Rattle.std.proofs.Common.{◌≡◌, ◌≤◌, suc, length}
 use Rattle.c_ast.specs.View.{statements_of}
-use Rattle.c_steps.specs.Texts.{joined, upto}
+use Rattle.c_mean.specs.Texts.{joined, upto}
 use Rattle.sci_cgen.specs.Program.{values_shown}
 use Rattle.sci_cgen.specs.Built.{takes}
 use Rattle.sci_cgen.proofs.settle_texts.push_all_values.Given as goal

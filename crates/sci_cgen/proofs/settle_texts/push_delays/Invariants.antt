@@ -2,7 +2,7 @@
 use Rattle.std.proofs.Common.{◌≡◌, ◌≤◌, suc}
 use Rattle.sci_net.specs.Sources.{source_of}
 use Rattle.c_ast.specs.View.{statements_of}
-use Rattle.c_steps.specs.Texts.{joined, upto}
+use Rattle.c_mean.specs.Texts.{joined, upto}
 use Rattle.sci_cgen.specs.Program.{port_count, delay_text}
 use Rattle.sci_cgen.specs.Built.{takes}
 use Rattle.sci_cgen.proofs.settle_texts.push_delays.Given as goal

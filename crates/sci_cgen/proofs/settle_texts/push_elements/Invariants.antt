@@ -1,7 +1,7 @@
 -- The values so far, and those to come.
 use Rattle.std.proofs.Common.{◌≡◌, ◌+◌, ◌-◌}
 use Rattle.c_ast.specs.View.{statements_of}
-use Rattle.c_steps.specs.Texts.{joined}
+use Rattle.c_mean.specs.Texts.{joined}
 use Rattle.sci_cgen.specs.Program.{elements_shown}
 use Rattle.sci_cgen.proofs.settle_texts.push_elements.Given as goal
 

@@ -2,7 +2,7 @@
 use Rattle.std.proofs.Common.{◌≡◌, ◌+◌, drop}
 use Rattle.sci_forms.specs.Ports.{total}
 use Rattle.c_ast.specs.View.{statements_of}
-use Rattle.c_steps.specs.Texts.{joined}
+use Rattle.c_mean.specs.Texts.{joined}
 use Rattle.sci_cgen.specs.Program.{outputs_shown}
 use Rattle.sci_cgen.proofs.settle_texts.push_outputs.Given as goal
 

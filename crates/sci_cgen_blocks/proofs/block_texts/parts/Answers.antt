@@ -1,7 +1,7 @@
 use Rattle.std.proofs.Common.{arith, ◌≡◌, ◌<◌, ◌+◌, ap, ◌∙◌, pos, sym, subst}
 use Rattle.sci_forms.specs.Ports.{total}
 use Rattle.c_ast.specs.Syntax.{num, set, cell}
-use Rattle.c_steps.specs.Texts.{upto}
+use Rattle.c_mean.specs.Texts.{upto}
 use Rattle.sci_cgen_blocks.specs.Terms.{Term}
 use Rattle.sci_cgen_blocks.specs.Recipes.{plain, part_of}
 use Rattle.sci_cgen_blocks.specs.Texts.{fixed, written, values, expression, recipe_text}

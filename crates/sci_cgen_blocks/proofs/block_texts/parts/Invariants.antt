@@ -1,7 +1,7 @@
 use Rattle.std.proofs.Common.{◌≡◌, ◌≤◌}
 use Rattle.sci_forms.specs.Ports.{total}
 use Rattle.c_ast.specs.View.{statements_of}
-use Rattle.c_steps.specs.Texts.{upto}
+use Rattle.c_mean.specs.Texts.{upto}
 use Rattle.sci_cgen_blocks.specs.Recipes.{plain, part_of}
 use Rattle.sci_cgen_blocks.specs.Texts.{fixed, written, recipe_text}
 use Rattle.sci_cgen_blocks.specs.Plain.{plain_places}

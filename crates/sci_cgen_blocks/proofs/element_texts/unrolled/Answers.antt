@@ -1,5 +1,5 @@
 use Rattle.std.proofs.Common.{arith, ◌≡◌, ◌<◌, ap, ◌∙◌}
-use Rattle.c_steps.specs.Texts.{upto}
+use Rattle.c_mean.specs.Texts.{upto}
 use Rattle.sci_cgen_blocks.specs.Texts.{fixed, written, recipe_text}
 use Rattle.sci_cgen_blocks.specs.Plain.{plain_places, plain_recipe}
 use Rattle.sci_cgen_blocks.proofs.Written.{upto_more}

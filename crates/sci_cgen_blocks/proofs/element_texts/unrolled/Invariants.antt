@@ -1,6 +1,6 @@
 use Rattle.std.proofs.Common.{◌≡◌, ◌≤◌}
 use Rattle.c_ast.specs.View.{statements_of}
-use Rattle.c_steps.specs.Texts.{upto}
+use Rattle.c_mean.specs.Texts.{upto}
 use Rattle.sci_cgen_blocks.specs.Texts.{fixed, written, recipe_text}
 use Rattle.sci_cgen_blocks.specs.Plain.{plain_places, plain_recipe}
 use Rattle.sci_cgen_blocks.proofs.element_texts.unrolled.Given as goal

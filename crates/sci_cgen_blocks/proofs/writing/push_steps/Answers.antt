@@ -1,7 +1,7 @@
 use Rattle.std.proofs.Common.{arith, ◌≡◌, ◌≤◌, ◌∷◌, ◌+◌, drop, length, sym, ap, subst, ◌∙◌}
 use Rattle.c_ast.specs.View.{statements_of}
 use Rattle.c_ast.specs.Syntax.{done}
-use Rattle.c_steps.specs.Texts.{joined}
+use Rattle.c_mean.specs.Texts.{joined}
 use Rattle.sci_cgen_blocks.specs.Texts.{written, steps_text}
 use Rattle.sci_cgen_blocks.specs.Plain.{steps_of, which_of, plain_places, AreStepsSpelled}
 use Rattle.sci_cgen_blocks.proofs.Written.{joined_done, statement_done, drop_item, all_dropped}

@@ -2,7 +2,7 @@
 use Rattle.std.proofs.Common.{◌≡◌, drop}
 use Rattle.c_ast.specs.Syntax.{done}
 use Rattle.c_ast.specs.View.{statements_of}
-use Rattle.c_steps.specs.Texts.{joined}
+use Rattle.c_mean.specs.Texts.{joined}
 use Rattle.sci_cgen_blocks.specs.Texts.{written, steps_text}
 use Rattle.sci_cgen_blocks.specs.Plain.{steps_of, which_of, plain_places, AreStepsSpelled}
 use Rattle.sci_cgen_blocks.proofs.writing.push_steps.Given as goal

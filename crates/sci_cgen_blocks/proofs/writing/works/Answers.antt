@@ -1,6 +1,6 @@
 use Rattle.std.proofs.Common.{arith, ◌≡◌, ◌≤◌, ◌∷◌, ◌+◌, drop, length, sym, ap, subst, ◌∙◌}
 use Rattle.c_ast.specs.View.{statements_of}
-use Rattle.c_steps.specs.Texts.{joined}
+use Rattle.c_mean.specs.Texts.{joined}
 use Rattle.sci_cgen_blocks.specs.Texts.{written, works_text}
 use Rattle.sci_cgen_blocks.specs.Plain.{works_of, which_of, plain_places, AreWorksSpelled}
 use Rattle.sci_cgen_blocks.proofs.Written.{joined_done, statement_done, drop_item, all_dropped}

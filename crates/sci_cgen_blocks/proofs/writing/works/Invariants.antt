@@ -1,7 +1,7 @@
 -- The statements so far, and those of the changes to come.
 use Rattle.std.proofs.Common.{◌≡◌, drop}
 use Rattle.c_ast.specs.View.{statements_of}
-use Rattle.c_steps.specs.Texts.{joined}
+use Rattle.c_mean.specs.Texts.{joined}
 use Rattle.sci_cgen_blocks.specs.Texts.{written, works_text}
 use Rattle.sci_cgen_blocks.specs.Plain.{works_of, which_of, plain_places, AreWorksSpelled}
 use Rattle.sci_cgen_blocks.proofs.writing.works.Given as goal

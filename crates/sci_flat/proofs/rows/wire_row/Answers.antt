@@ -1,7 +1,7 @@
 use Rattle.std.proofs.Common.{◌+◌, ◌<◌, length, refl, arith}
 use Rattle.sci_blocks.specs.declared.class.PortClass.TheVariants.{Input}
 use Rattle.sci_flat.specs.Lists.{plain}
-use Rattle.sci_flat.specs.Seat.{start, count}
+use Rattle.sci_flat.specs.PortNumbers.{start, count}
 use Rattle.sci_flat.specs.Wired.{input_list}
 use Rattle.sci_flat.proofs.Filling.{wires_more, first_unfed, list_here, list_empty, list_starts, first_has, first_low}
 use Rattle.sci_flat.proofs.rows.wire_row.Goals as goal

@@ -2,7 +2,7 @@ use Rattle.std.proofs.Common.{◌∙◌, ap, length, sym, arith, true≢false}
 use Rattle.sci_net.specs.Parts.{rows_of}
 use Rattle.sci_blocks.specs.declared.class.PortClass.TheVariants.{Input}
 use Rattle.sci_flat.specs.Lists.{lists_of}
-use Rattle.sci_flat.specs.Seat.{count}
+use Rattle.sci_flat.specs.PortNumbers.{count}
 use Rattle.sci_flat.specs.Wired.{seat_of}
 use Rattle.sci_flat.proofs.Filling.{wired_more}
 use Rattle.sci_flat.proofs.Stopping.{row_wired, rows_push, breaks_unfed, breaks_taken}

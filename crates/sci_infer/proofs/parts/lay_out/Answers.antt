@@ -2,7 +2,7 @@ use Rattle.std.proofs.Common.{ℕ, ◌≡◌, ◌+◌, ◌++◌, ◌∷◌, [], 
 use Rattle.std.proofs.lemmas.List.{get_or_append_left, get_or_push, length_push}
 use borrow.Author.Count.{below_more}
 use Rattle.sci_forms.specs.declared.spec.Spec.{Spec}
-use Rattle.sci_infer.specs.declared.parts.Part.{Part}
+use Rattle.sci_infer.specs.declared.parts.PortPart.{PortPart}
 use Rattle.sci_infer.specs.PortParts.{block_parts, parts_from, parts_in}
 use Rattle.sci_infer.specs.Layout.{start_of}
 use Rattle.sci_infer.proofs.Few.{few_ins, few_outs, formed_read}
@@ -23,7 +23,7 @@ pub loop-at-init : goal.loop-at-init
 loop-at-init c =
     let xs = c.args.flat.now.specs in
     record {
-      rest = ap (λ (ps : List Part). ps ++ parts_from 1 xs) c.new-parts.ensures.items;
+      rest = ap (λ (ps : List PortPart). ps ++ parts_from 1 xs) c.new-parts.ensures.items;
       long = ap length c.new-parts.ensures.items ∙ sym (start_zero xs);
       enough = ap length c.new-starts.ensures.items;
       starts = λ b h. absurd (omega (arith, h));
@@ -47,7 +47,7 @@ loop-at-preserved c =
     let total : length c.push_block.new.parts.items ≡ length (c.loop-at.parts.items ++ block_parts (i + 1) x) = ap length p in
     let before : length c.loop-at.parts.items ≡ start_of xs i = inv.long in
     record {
-      rest = ap (λ (ps : List Part). ps ++ parts_from ((i + 1) + 1) (drop (i + 1) xs)) p ∙ rest_more (i + 1) c.loop-at.parts.items (parts_in c.args.flat.now) xs i x inside e inv.rest;
+      rest = ap (λ (ps : List PortPart). ps ++ parts_from ((i + 1) + 1) (drop (i + 1) xs)) p ∙ rest_more (i + 1) c.loop-at.parts.items (parts_in c.args.flat.now) xs i x inside e inv.rest;
       long = omega (arith, total, joined, own, before, more);
       enough = ap length s ∙ (length_push c.loop-at.starts.items c.len.result ∙ ap (λ n. n + 1) enough);
       starts = below_more _ _

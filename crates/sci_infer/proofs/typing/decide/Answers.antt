@@ -1,7 +1,7 @@
 use Rattle.std.proofs.Common.{ℤ, List, length, subst, sym, ◌∙◌}
 use Rattle.std.proofs.lemmas.Result.{IfOk-weaker}
 use Rattle.sci_infer.specs.Classes.{Joins, IsWithin}
-use Rattle.sci_infer.specs.declared.values.Verdict.{Verdict}
+use Rattle.sci_infer.specs.declared.values.Resolution.{Resolution}
 use Rattle.sci_infer.specs.Values.{IsVerdict}
 use Rattle.sci_infer.specs.Typing.{Decides, declared_of}
 use Rattle.sci_infer.proofs.Typings.{inferred, ties_within}
@@ -19,4 +19,4 @@ returns c =
     let joins = Joins c.args.ties.now in
     let v = subst (λ (xs : List ℤ). IfOk c.judge.result (IsVerdict joins xs)) e c.judge.ensures in
     IfOk-weaker c.judge.result (IsVerdict joins (declared_of c.args.parts.now)) (Decides c.args.parts.now joins)
-    (λ (w : Verdict) h. inferred c.args.parts.now joins c.requires.declared c.requires.alike w h) v
+    (λ (w : Resolution) h. inferred c.args.parts.now joins c.requires.declared c.requires.alike w h) v

@@ -1,13 +1,8 @@
-use Rattle.std.proofs.Common.{◌<◌, List, sym, ap, subst, arith, length}
-use Rattle.std.proofs.lemmas.List.Elements.{Contains-get_or}
-use Rattle.sci_net.specs.declared.Source.{Source}
-use Rattle.sci_net.specs.declared.Source.TheVariants.{Start}
-use Rattle.sci_net.specs.Sources.{sources_of, source_of}
-use Rattle.sci_reaction.specs.Links.{IsSource}
-use Rattle.sci_reaction.proofs.Sources.{sources_are}
+use Rattle.std.proofs.Common.{List, sym, ap, subst, arith}
+use Rattle.sci_net.specs.Sources.{source_of}
 use Rattle.sci_loop.specs.Lists.{plain}
 use Rattle.sci_inherit.specs.declared.Fed.{Fed}
-use Rattle.sci_inherit.specs.Links.{AreInOrder}
+use Rattle.sci_inherit.specs.Followers.{AreInOrder}
 use Rattle.sci_inherit.specs.Gather.{AreFeeding}
 use Rattle.sci_inherit.proofs.Sourced.{each_none, each_pushed}
 use Rattle.sci_inherit.proofs.always.feeding.Goals as goal
@@ -18,10 +13,7 @@ loop-at-init c =
     record { len = c.new-feeding.ensures.len; each = each_none (λ k fs. AreFeeding n (source_of n k) fs) (plain c.new-feeding.result.items) (ap plain c.new-feeding.ensures.items); in_order = each_none (λ k fs. AreInOrder fs) (plain c.new-feeding.result.items) (ap plain c.new-feeding.ensures.items) }
 
 pub fed_by-fed-requires-clause-source : goal.fed_by-fed-requires-clause-source
-fed_by-fed-requires-clause-source c =
-    let n = c.args.net.now in
-    let inside : c.loop-at.at < length (sources_of n) = omega (arith, c.loop-at-test.true, c.source_count-at-end.ensures) in
-    subst (IsSource n) (sym c.source.ensures) ((sources_are n (source_of n c.loop-at.at)).0 (Contains-get_or (sources_of n) c.loop-at.at Start inside))
+fed_by-fed-requires-clause-source c = omega (arith, c.loop-at-test.true, c.source_count-at-end.ensures)
 
 pub loop-at-preserved : goal.loop-at-preserved
 loop-at-preserved c =
@@ -30,7 +22,7 @@ loop-at-preserved c =
     let inv = c.loop-at.invariant in
     let v = c.in_ok-from_slice.field-0 in
     let fed : AreFeeding n (source_of n at) v.items =
-    subst (λ (s : Source). AreFeeding n s v.items) c.source.ensures (subst (λ (fs : List Fed). AreFeeding n c.source.result fs) (sym c.in_ok-from_slice.ensures.items) c.fed_by-fed.ensures.feeding) in
+    subst (λ (fs : List Fed). AreFeeding n (source_of n at) fs) (sym c.in_ok-from_slice.ensures.items) c.fed_by-fed.ensures.feeding in
     record {
       len = omega (arith, c.in_ok-push.ensures.len, inv.len);
       each = each_pushed (λ k fs. AreFeeding n (source_of n k) fs) at c.loop-at.feeding.items c.push.new.self.items v c.in_ok-push.ensures.items (omega (arith, inv.len, c.loop-at.feeding.ok.0)) fed inv.each;

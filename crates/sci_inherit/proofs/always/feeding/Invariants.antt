@@ -1,7 +1,7 @@
 use Rattle.std.proofs.Common.{◌≡◌, vec_len}
 use Rattle.sci_net.specs.Sources.{source_of}
 use Rattle.sci_loop.specs.Lists.{plain}
-use Rattle.sci_inherit.specs.Links.{AreInOrder}
+use Rattle.sci_inherit.specs.Followers.{AreInOrder}
 use Rattle.sci_inherit.specs.Gather.{AreEach, AreFeeding}
 use Rattle.sci_inherit.proofs.always.feeding.Given as goal
 

@@ -2,7 +2,7 @@ use Rattle.std.proofs.Common.{List, ℕ, sym, subst, Vec}
 use Rattle.std.specs.declared.alloc.Global.{Global}
 use Rattle.std.proofs.lemmas.Result.{on_ok_weaker}
 use Rattle.sci_loop.specs.Lists.{plain}
-use Rattle.sci_inherit.specs.Links.{AreHeirs}
+use Rattle.sci_inherit.specs.Followers.{AreHeirs}
 use Rattle.sci_inherit.specs.Gather.{AreSetOff}
 use Rattle.sci_inherit.proofs.Gathering.{heirs_inside, blocks_inside}
 use Rattle.sci_inherit.proofs.Sourced.{set_off_block, always_found}

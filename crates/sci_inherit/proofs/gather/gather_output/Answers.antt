@@ -6,7 +6,7 @@ use Rattle.sci_loop.specs.Lists.{plain}
 use Rattle.sci_loop.specs.Reached.{IsReached}
 use Rattle.sci_reaction.specs.Links.{Feeds}
 use Rattle.sci_reaction.specs.Active.{Reaches}
-use Rattle.sci_inherit.specs.Links.{AreHeirs}
+use Rattle.sci_inherit.specs.Followers.{AreHeirs}
 use Rattle.sci_inherit.proofs.Gathering.{heirs_inside, blocks_inside, blocks_within, walked_is, reaches_block, pushes_same}
 use Rattle.sci_inherit.proofs.Sourced.{fed_blocks}
 use Rattle.sci_inherit.proofs.gather.gather_output.Goals as goal

@@ -3,7 +3,7 @@ use Rattle.std.specs.Prelude.{Contains, All}
 use Rattle.std.specs.declared.alloc.Global.{Global}
 use Rattle.sci_loop.specs.Lists.{plain, list_at}
 use Rattle.sci_loop.proofs.Adding.{list_at-plain}
-use Rattle.sci_inherit.specs.Links.{AreHeirs, FeedsSome}
+use Rattle.sci_inherit.specs.Followers.{AreHeirs, FeedsSome}
 use Rattle.sci_inherit.proofs.Gathering.{heirs_inside}
 use Rattle.sci_inherit.proofs.Living.{targets_inside}
 use Rattle.sci_inherit.proofs.Sourced.{onward_found}

@@ -5,7 +5,7 @@ use Rattle.std.proofs.lemmas.Result.{on_ok_weaker}
 use Rattle.std.proofs.lemmas.List.{length-map}
 use Rattle.sci_loop.specs.Lists.{plain}
 use Rattle.sci_reaction.specs.Active.{Inherited}
-use Rattle.sci_inherit.specs.Links.{AreHeirs}
+use Rattle.sci_inherit.specs.Followers.{AreHeirs}
 use Rattle.sci_inherit.specs.Live.{SetOffUpto}
 use Rattle.sci_inherit.proofs.Gathering.{heirs_inside, walked_is}
 use Rattle.sci_inherit.proofs.Viewed.{leads}

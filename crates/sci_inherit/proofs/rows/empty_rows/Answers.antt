@@ -3,7 +3,7 @@ use Rattle.std.specs.declared.alloc.Global.{Global}
 use Rattle.sci_forms.specs.declared.spec.Spec.{Spec}
 use Rattle.sci_loop.specs.Lists.{plain}
 use Rattle.sci_inherit.specs.declared.Fed.{Fed}
-use Rattle.sci_inherit.specs.Links.{plain_rows, AreEmptyRows}
+use Rattle.sci_inherit.specs.Followers.{plain_rows, AreEmptyRows}
 use Rattle.sci_inherit.proofs.Filling.{rows_pushed, empty_first, empty_next}
 use Rattle.sci_inherit.proofs.rows.empty_rows.Goals as goal
 

@@ -1,4 +1,4 @@
-use Rattle.sci_inherit.specs.Links.{plain_rows, AreEmptyRows}
+use Rattle.sci_inherit.specs.Followers.{plain_rows, AreEmptyRows}
 use Rattle.sci_inherit.proofs.rows.empty_rows.Given as goal
 
 abbrev pub invariant-loop-at : goal.invariant-loop-at

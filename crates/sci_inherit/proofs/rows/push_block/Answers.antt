@@ -2,7 +2,7 @@ use Rattle.std.proofs.Common.{◌≡◌, ◌∙◌, ℕ, ◌+◌, ◌-◌, List,
 use Rattle.sci_forms.specs.declared.spec.Spec.{Spec}
 use Rattle.sci_net.specs.declared.Feed.{Feed}
 use Rattle.sci_net.specs.Parts.{spec_of, AreRising}
-use Rattle.sci_inherit.specs.Links.{Upto, plain_rows, Fills, FeedGets, InputFed}
+use Rattle.sci_inherit.specs.Followers.{Upto, plain_rows, Fills, FeedGets, InputFed}
 use Rattle.sci_inherit.proofs.Filling.{fills_none, fills_upto, have_rows_same}
 use Rattle.sci_inherit.proofs.InOrder.{before_next, before_block}
 use Rattle.sci_inherit.proofs.Linked.{has_rows}

@@ -1,5 +1,5 @@
 use Rattle.std.proofs.Common.{◌+◌}
-use Rattle.sci_inherit.specs.Links.{Upto, plain_rows, Fills, InputFed, ComeBefore}
+use Rattle.sci_inherit.specs.Followers.{Upto, plain_rows, Fills, InputFed, ComeBefore}
 use Rattle.sci_inherit.proofs.rows.push_block.Given as goal
 
 abbrev pub invariant-loop-at : goal.invariant-loop-at

@@ -1,6 +1,6 @@
 use Rattle.std.proofs.Common.{◌≡◌, ◌∷◌, [], ◌∙◌, sym, true≢false}
 use Rattle.std.proofs.lemmas.Result.{on_ok_weaker}
-use Rattle.sci_inherit.specs.Links.{plain_rows, RowGets, FeedGets}
+use Rattle.sci_inherit.specs.Followers.{plain_rows, RowGets, FeedGets}
 use Rattle.sci_inherit.proofs.Filling.{fills_same, fills_none}
 use Rattle.sci_inherit.proofs.InOrder.{appends_nothing}
 use Rattle.sci_inherit.proofs.Linked.{gets_wanted, gets_unwanted}

@@ -1,6 +1,6 @@
 use Rattle.std.proofs.Common.{◌≡◌, refl}
 use Rattle.std.proofs.lemmas.Result.{on_ok_weaker}
-use Rattle.sci_inherit.specs.Links.{plain_rows, RowGets}
+use Rattle.sci_inherit.specs.Followers.{plain_rows, RowGets}
 use Rattle.sci_inherit.proofs.Filling.{fills_same, fills_put, put_is, row_here, row_other}
 use Rattle.sci_inherit.proofs.InOrder.{appends_one}
 use Rattle.sci_inherit.proofs.Linked.{gets_one}

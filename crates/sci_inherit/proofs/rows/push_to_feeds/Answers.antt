@@ -1,7 +1,7 @@
 use Rattle.std.proofs.Common.{◌∙◌, sym, take}
 use Rattle.std.proofs.lemmas.List.Elements.{All-get_or}
 use Rattle.sci_net.specs.declared.Feed.{Feed}
-use Rattle.sci_inherit.specs.Links.{plain_rows, HasRow, FeedGets}
+use Rattle.sci_inherit.specs.Followers.{plain_rows, HasRow, FeedGets}
 use Rattle.sci_inherit.proofs.Filling.{has_row_same}
 use Rattle.sci_inherit.proofs.InOrder.{appends_next}
 use Rattle.sci_inherit.proofs.Linked.{gets_next}

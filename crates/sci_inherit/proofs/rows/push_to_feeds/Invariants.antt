@@ -1,6 +1,6 @@
 use Rattle.std.proofs.Common.{take}
 use Rattle.std.specs.Prelude.{Contains}
-use Rattle.sci_inherit.specs.Links.{plain_rows, Fills, FeedGets, Appends}
+use Rattle.sci_inherit.specs.Followers.{plain_rows, Fills, FeedGets, Appends}
 use Rattle.sci_inherit.proofs.rows.push_to_feeds.Given as goal
 
 abbrev pub invariant-loop-feed : goal.invariant-loop-feed

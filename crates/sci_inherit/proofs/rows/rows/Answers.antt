@@ -1,5 +1,5 @@
 use Rattle.std.proofs.Common.{◌≡◌, ℕ, ◌+◌, ◌-◌, subst, arith, length}
-use Rattle.sci_inherit.specs.Links.{plain_rows, Fills, BlockFed}
+use Rattle.sci_inherit.specs.Followers.{plain_rows, Fills, BlockFed}
 use Rattle.sci_inherit.proofs.InOrder.{before_none}
 use Rattle.sci_inherit.proofs.Linked.{filled_none, filled_next, rows_are}
 use Rattle.sci_inherit.proofs.rows.rows.Goals as goal

@@ -1,5 +1,5 @@
 use Rattle.std.proofs.Common.{◌+◌}
-use Rattle.sci_inherit.specs.Links.{plain_rows, AreFilled, ComeBefore}
+use Rattle.sci_inherit.specs.Followers.{plain_rows, AreFilled, ComeBefore}
 use Rattle.sci_inherit.proofs.rows.rows.Given as goal
 
 abbrev pub invariant-loop-at : goal.invariant-loop-at

@@ -2,11 +2,18 @@ use Rattle.std.proofs.Common.{ℕ, ◌<◌, ◌^◌, List, All, length, get_or, 
 use Rattle.std.specs.List.{sum_by}
 use Rattle.sci_net.specs.Sources.{source_of}
 use Rattle.sci_reaction.specs.Depends.{HasDepth}
+use Rattle.sci_dep.specs.Tables.{IsTableOf}
 use Rattle.sci_sched.specs.Depths.{AreDepthsOf}
 use Rattle.sci_sched.specs.Outlines.{AreOrdered}
 use Rattle.sci_sched.proofs.Building.{is_source}
 use Rattle.sci_sched.proofs.Sized.{blocks_counted, given_few, outline_is}
 use Rattle.sci_sched.proofs.outline.outline_of.Goals as goal
+
+-- the blocks that the walk has found are the possible blocks of the source
+pub ordered-requires-clause-table : goal.ordered-requires-clause-table
+ordered-requires-clause-table c =
+    let n = c.args.net.now in
+    subst (λ v. IsTableOf n v c.in_ok-table.table) (sym c.source.ensures) (c.in_ok-table.ensures (source_of n c.args.at) c.in_ok-possible.ensures.possible)
 
 pub guards_by-guards-requires-clause-blocks : goal.guards_by-guards-requires-clause-blocks
 guards_by-guards-requires-clause-blocks c =

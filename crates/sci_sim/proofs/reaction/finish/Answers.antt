@@ -6,7 +6,7 @@ use Rattle.sci_store.specs.Blocks.{AreBlocksByNumber}
 use Rattle.sci_store.specs.Written.{AreAmong}
 use Rattle.sci_store.specs.Chosen.{active_of_kinds}
 use Rattle.sci_store.specs.Frame.{Fixed, AreSeated}
-use Rattle.sci_store.specs.Rows.{Row, IsReadyRow, KeepsBegun}
+use Rattle.sci_store.specs.Rows.{ReadyRow, IsReadyRow, KeepsBegun}
 use Rattle.sci_store.specs.Runs.{MayStep}
 use Rattle.sci_store.specs.Store.{Standing}
 use Rattle.sci_store.proofs.Reacting.{AreKept, kept_room, range_alike, masks_alike, sensed_alike, shown_alike, before_alike}
@@ -19,7 +19,7 @@ use Rattle.sci_sim.proofs.reaction.finish.Goals.{After-deref, After-program_all}
 
 -- the blocks with delays
 delays_are : (g : Over) (c : After-deref g) → c.deref.result.now ≡ c.args.row.now.delays
-delays_are g c = c.deref.ensures.value ∙ ap (λ (r : Row). r.delays) c.row.view_is
+delays_are g c = c.deref.ensures.value ∙ ap (λ (r : ReadyRow). r.delays) c.row.view_is
 
 -- behind the programming
 programmed : (g : Over) (c : After-program_all g) → AreKept c.args.kept.now.store c.program_all.new.kept.store

@@ -6,7 +6,8 @@ use Rattle.sci_forms.specs.Ports.{total}
 use Rattle.sci_net.specs.Parts.{IsBlock, spec_of, no_spec}
 use Rattle.sci_net.proofs.Numbered.{numbered_next}
 use Rattle.sci_places.proofs.Outputs.{outs_small}
-use Rattle.sci_store.specs.Heads.{start_text, named_blocks, named_outputs}
+use Rattle.sci_store.specs.Heads.{named_blocks, named_outputs}
+use Rattle.sci_lines.specs.Lines.{start_text}
 use Rattle.sci_store.proofs.LineStarts.{put_more, put_all, blocks_next, few_outs}
 use Rattle.sci_store.proofs.heads.heads.Goals as goal
 use Rattle.sci_store.proofs.heads.heads.Goals.{After-spec}

@@ -1,5 +1,6 @@
 use Rattle.std.proofs.Common.{◌≡◌, ◌++◌, map}
-use Rattle.sci_store.specs.Heads.{start_text, named_elements}
+use Rattle.sci_store.specs.Heads.{named_elements}
+use Rattle.sci_lines.specs.Lines.{start_text}
 use Rattle.sci_store.proofs.LineStarts.{elements_left}
 use Rattle.sci_store.proofs.heads.push_elements.Given as goal
 

@@ -3,7 +3,8 @@ use Rattle.std.proofs.lemmas.List.{drop_all}
 use Rattle.sci_forms.specs.declared.ports.Port.{Port}
 use Rattle.sci_forms.specs.Ports.{elements}
 use Rattle.sci_places.proofs.Lists.{up_to}
-use Rattle.sci_store.specs.Heads.{start_text, named_elements, named_outputs}
+use Rattle.sci_store.specs.Heads.{named_elements, named_outputs}
+use Rattle.sci_lines.specs.Lines.{start_text}
 use Rattle.sci_store.proofs.LineStarts.{put_more, put_all, outputs_next}
 use Rattle.sci_store.proofs.heads.push_outputs.Goals as goal
 

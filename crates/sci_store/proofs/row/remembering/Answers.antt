@@ -2,7 +2,7 @@ use Rattle.std.proofs.Common.{◌≡◌, ◌+◌, ◌∙◌, ℕ, Vec, Bool, Lis
 use Rattle.std.specs.declared.alloc.Global.{Global}
 use Rattle.sci_forms.specs.Form.{remembers}
 use Rattle.sci_reaction.specs.declared.entry.Entry.{Entry}
-use Rattle.sci_store.specs.declared.row.Rank.{Rank}
+use Rattle.sci_store.specs.declared.row.CallRank.{CallRank}
 use Rattle.sci_store.specs.declared.seats.Seat.{Seat}
 use Rattle.sci_store.specs.Frame.{Fixed, seat_of}
 use Rattle.sci_store.proofs.Ranking.{AreGathered, one_gathered, other_gathered, are_ranked}
@@ -18,13 +18,13 @@ loop-at-preserved c =
     let here = ap (λ (s : Seat). remembers s.kind) (sym c.seat.ensures) ∙ sym c.remembers.ensures in
     elim c.if-remembers.branch [
       | then-remembers+in_ok-push w ↦
-          subst (λ (rs : List Rank). AreGathered c.args.frame.now (keeps c.args.frame.now) (λ (e : Entry). 0) c.args.entries.now (c.loop-at.at + 1) rs)
-          (sym (ap (λ (v : Vec Rank Global). v.items) w.ranks-is ∙ w.in_ok-push.ensures.items))
+          subst (λ (rs : List CallRank). AreGathered c.args.frame.now (keeps c.args.frame.now) (λ (e : Entry). 0) c.args.entries.now (c.loop-at.at + 1) rs)
+          (sym (ap (λ (v : Vec CallRank Global). v.items) w.ranks-is ∙ w.in_ok-push.ensures.items))
           (one_gathered {is = keeps c.args.frame.now} {depth = λ (e : Entry). 0} c.index-entries-at.result w.rank_of.result c.loop-at.invariant c.loop-at-test.true c.index-entries-at.is (here ∙ w.if-remembers.true)
           w.rank_of.ensures.rank w.rank_of.ensures.depth w.rank_of.ensures.at)
       | else-remembers w ↦
-          subst (λ (rs : List Rank). AreGathered c.args.frame.now (keeps c.args.frame.now) (λ (e : Entry). 0) c.args.entries.now (c.loop-at.at + 1) rs)
-          (sym (ap (λ (v : Vec Rank Global). v.items) w.ranks-is))
+          subst (λ (rs : List CallRank). AreGathered c.args.frame.now (keeps c.args.frame.now) (λ (e : Entry). 0) c.args.entries.now (c.loop-at.at + 1) rs)
+          (sym (ap (λ (v : Vec CallRank Global). v.items) w.ranks-is))
           (other_gathered {is = keeps c.args.frame.now} {depth = λ (e : Entry). 0} c.index-entries-at.result c.loop-at.invariant c.loop-at-test.true c.index-entries-at.is (here ∙ w.if-remembers.false))
     ]
 

@@ -11,14 +11,14 @@ pub loop-number-init : goal.loop-number-init
 loop-number-init g c = reset_none _ c.requires.full c.well_formed-2.ensures
 
 pub loop-number-preserved : goal.loop-number-preserved
-loop-number-preserved g c = elim c.match-at.branch [
+loop-number-preserved g c = elim c.match-kind_at.branch [
   | in-Some w ↦
       subst (λ (l : _). AreResetTo (c.loop-number.number + 1) l) (sym w.lib-is)
-      (reset_more _ _ c.loop-number.number w.in-Some.kind c.loop-number.invariant (sym c.at.ensures ∙ w.in-Some.is)
+      (reset_more _ _ c.loop-number.number w.in-Some.kind c.loop-number.invariant (sym c.kind_at.ensures ∙ w.in-Some.is)
       w.reset.ensures.changed (in_order-with_bank _ _ w.in-Some.kind _ (Holds-full _ w.in-Some.kind c.loop-number.invariant.full) refl w.reset.ensures.changed) w.reset.ensures.full)
   | in_default w ↦
       subst (λ (l : _). AreResetTo (c.loop-number.number + 1) l) (sym w.lib-is)
-      (reset_past _ c.loop-number.number c.loop-number.invariant (λ k e. w.in_default.not-Some k (c.at.ensures ∙ e)))
+      (reset_past _ c.loop-number.number c.loop-number.invariant (λ k e. w.in_default.not-Some k (c.kind_at.ensures ∙ e)))
 ]
 
 pub returns : goal.returns

@@ -1,4 +1,4 @@
-use Rattle.std.proofs.Common.{◌≡◌, ◌<◌, ◌+◌, length, true, refl, ap, sym, subst, ◌∙◌, arith}
+use Rattle.std.proofs.Common.{◌≡◌, ◌<◌, ◌+◌, length, true, refl, ap, sym, subst, arith}
 use Rattle.sci_forms.specs.declared.spec.Spec.{Spec}
 use Rattle.sci_forms.specs.Typed.{typed}
 use Rattle.sci_net.specs.Parts.{rows_of}
@@ -6,30 +6,23 @@ use Rattle.sci_bank.proofs.LibraryLemmas.{Holds-full, in_order-with_bank}
 use Rattle.sci_store.specs.declared.seats.Seat.{Seat}
 use Rattle.sci_store.specs.Seating.{begun}
 use Rattle.sci_store.proofs.Seated.{seating_next, sources_next, sources_small, begun_is}
-use Rattle.sci_store.proofs.seats.seat_in_states.Given.{Over}
-use Rattle.sci_store.proofs.seats.seat_in_states.Goals.{In_ok-spec}
 use Rattle.sci_store.proofs.seats.seat_in_states.Goals as goal
 
-within : (g : Over) (c : In_ok-spec g) → c.loop-block.block < length c.args.net.now.specs
-within g c = omega (arith, c.loop-block-test.true, c.len-block-end.ensures)
-
-is_begun : (g : Over) (c : In_ok-spec g) → c.in_ok-spec.spec ≡ begun c.args.net.now (rows_of c.args.states.now) (c.loop-block.block + 1)
-is_begun g c =
-    let l = within g c in
-    begun_is c.args.net.now c.args.states.now c.loop-block.block c.index-states-block.result c.spec.result.now c.in_ok-spec.spec (omega (arith, l, c.requires.one_each)) c.index-states-block.is
-    c.spec.ensures.value (c.in_ok-spec.ensures ∙ ap (λ x. record c.spec.result.now { state = x }) c.deref.ensures.value)
-
-pub add-requires-clause-is_typed : goal.add-requires-clause-is_typed
-add-requires-clause-is_typed g c =
-    let here = (goal.at.add-requires-clause-is_typed g c).In_ok-spec in
-    let l = within g here in
-    subst (λ s. typed s ≡ true) (sym (is_begun g here)) (c.requires.is_typed (c.loop-block.block + 1) (record { least = omega arith; most = omega (arith, l) }))
+pub add_in_state-requires-clause-is_typed : goal.add_in_state-requires-clause-is_typed
+add_in_state-requires-clause-is_typed g c =
+    let n = c.args.net.now in
+    let k = c.loop-block.block in
+    let l : k < length n.specs = omega (arith, c.loop-block-test.true, c.len-block-end.ensures) in
+    let is =
+    begun_is n c.args.states.now k c.index-states-block.result c.spec-spec.result.now _ (omega (arith, l, c.requires.one_each)) c.index-states-block.is
+    c.spec-spec.ensures.value (ap (λ x. record c.spec-spec.result.now { state = x }) c.deref.ensures.value) in
+    subst (λ (s : Spec). typed s ≡ true) (sym is) (c.requires.is_typed (k + 1) (record { least = omega arith; most = omega (arith, l) }))
 
 pub overflow_add-first_source : goal.overflow_add-first_source
 overflow_add-first_source g c =
     let n = c.args.net.now in
     let k = c.loop-block.block in
-    let l = within g (goal.at.overflow_add-first_source g c).In_ok-spec in
+    let l : k < length n.specs = omega (arith, c.loop-block-test.true, c.len-block-end.ensures) in
     let next = sources_next n k l in
     let small = sources_small n (k + 1) c.well_formed-2.ensures in
     let i = c.loop-block.invariant.first in
@@ -38,13 +31,17 @@ overflow_add-first_source g c =
 
 pub loop-block-preserved : goal.loop-block-preserved
 loop-block-preserved g c =
-    let here = (goal.at.loop-block-preserved g c).In_ok-spec in
     let n = c.args.net.now in
     let k = c.loop-block.block in
-    let s = c.in_ok-spec.spec in
+    let spec = c.spec-spec.result.now in
     let specs = begun n (rows_of c.args.states.now) in
-    let x : Seat = record { kind = s.kind; slot = c.in_ok-slot.slot; first_source = c.loop-block.first_source } in
-    seating_next n specs k c.loop-block.first_source c.loop-block.seats.items _ c.push.new.self.items _ x s c.loop-block.invariant c.well_formed-2.ensures (within g here) refl
-    c.in_ok-slot.ensures.added.0 refl c.in_ok-push.ensures.items c.in_ok-slot.ensures.added.1 (is_begun g here) (ap (λ (t : Spec). t.kind) (is_begun g here))
-    _ (ap (λ m. c.loop-block.first_source + m) c.source_count-first_source.ensures) c.in_ok-slot.ensures.full
-    (in_order-with_bank _ _ s.kind _ (Holds-full _ s.kind c.loop-block.invariant.full) refl c.in_ok-slot.ensures.added.1)
+    let l : k < length n.specs = omega (arith, c.loop-block-test.true, c.len-block-end.ensures) in
+    let s : Spec = record spec { state = c.deref.result.now } in
+    let is =
+    begun_is n c.args.states.now k c.index-states-block.result spec s (omega (arith, l, c.requires.one_each)) c.index-states-block.is
+    c.spec-spec.ensures.value (ap (λ x. record spec { state = x }) c.deref.ensures.value) in
+    let x : Seat = record { kind = spec.kind; slot = c.in_ok-slot.slot; first_source = c.loop-block.first_source } in
+    seating_next n specs k c.loop-block.first_source c.loop-block.seats.items _ c.push.new.self.items _ x s c.loop-block.invariant c.well_formed-2.ensures l refl
+    c.in_ok-slot.ensures.added.0 refl c.in_ok-push.ensures.items c.in_ok-slot.ensures.added.1 is (ap (λ (t : Spec). t.kind) c.spec-spec.ensures.value)
+    _ (ap (λ m. c.loop-block.first_source + m) c.source_count-first_source.ensures) (λ _. c.in_ok-slot.ensures.full)
+    (in_order-with_bank _ _ spec.kind _ (Holds-full _ spec.kind c.loop-block.invariant.full) refl c.in_ok-slot.ensures.added.1)

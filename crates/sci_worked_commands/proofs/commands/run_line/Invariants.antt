@@ -1,5 +1,5 @@
 use Rattle.std.proofs.Common.{◌-◌, length, map}
-use Rattle.sci_forms.specs.Names.{kinds}
+use Rattle.sci_forms.specs.Numbers.{kinds}
 use Rattle.sci_library.specs.Banks.{IsBegun}
 use Rattle.sci_worked_commands.proofs.commands.run_line.OwnLists.{own-1}
 use Rattle.sci_worked_commands.proofs.commands.run_line.Given as goal

@@ -2,8 +2,7 @@ use Rattle.std.proofs.Common.{sym, subst}
 use Rattle.sci_bank.specs.Bank.{Meaning}
 use Rattle.sci_bank.specs.Library.{Holds}
 use Rattle.sci_bank.specs.Runs.{after_updates}
-use Rattle.sci_bank.proofs.RunLemmas.{kind_kept}
-use Rattle.sci_bank.proofs.LibraryLemmas.{bank_changed, stays_in_order}
+use Rattle.sci_bank.proofs.LibraryLemmas.{bank_changed, kind_kept, stays_in_order}
 use Rattle.sci_bank.proofs.library.Library.update_run.Goals as goal
 
 pub invariant_of-self : goal.invariant_of-self

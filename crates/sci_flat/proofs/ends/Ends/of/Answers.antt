@@ -1,4 +1,4 @@
-use Rattle.sci_flat.specs.Seat.{no_seat}
+use Rattle.sci_flat.specs.PortNumbers.{no_seat}
 use Rattle.sci_flat.proofs.ends.Ends.of.Goals as goal
 
 pub add-requires : goal.add-requires

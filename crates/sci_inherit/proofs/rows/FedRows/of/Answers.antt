@@ -1,5 +1,5 @@
 use Rattle.std.proofs.Common.{Bool, List, subst}
-use Rattle.sci_inherit.specs.Links.{plain_rows, AreRows}
+use Rattle.sci_inherit.specs.Followers.{plain_rows, AreRows}
 use Rattle.sci_inherit.proofs.rows.FedRows.of.Goals as goal
 
 pub returns-clause-rows : goal.returns-clause-rows

@@ -21,7 +21,8 @@ use Rattle.sci_store.specs.Marks.{mark_at, idle}
 use Rattle.sci_store.specs.Rows.{IsRowOf, IsReadyRow, HasBegun, KeepsBegun}
 use Rattle.sci_store.specs.Runs.{MayStep}
 use Rattle.sci_store.specs.Store.{Standing, ShowsMemory}
-use Rattle.sci_store.specs.Written.{IsPlain, IsHeader}
+use Rattle.sci_store.specs.Written.{IsPlain}
+use Rattle.sci_lines.specs.Lines.{IsHeader}
 use Rattle.sci_store.proofs.Reacting.{kept_counts, shown_alike, before_alike, before_here, outcome_here, shown_marks}
 use Rattle.sci_store.proofs.StateRuns.{begun_behind}
 use Rattle.sci_store.specs.Reaction.{Passes, IfSeen, Steps}

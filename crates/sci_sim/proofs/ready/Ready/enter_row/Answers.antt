@@ -4,7 +4,7 @@ use Rattle.sci_net.specs.Sources.{source_of}
 use Rattle.sci_store.specs.Blocks.{AreBlocksByNumber}
 use Rattle.sci_store.specs.Frame.{Fixed}
 use Rattle.sci_store.specs.Marks.{mark_at, idle}
-use Rattle.sci_store.specs.Rows.{Row, IsRowOf, IsReadyRow, HasBegun}
+use Rattle.sci_store.specs.Rows.{ReadyRow, IsRowOf, IsReadyRow, HasBegun}
 use Rattle.sci_store.specs.Store.{AreIdle}
 use Rattle.sci_store.proofs.Covering.{row_blocks}
 use Rattle.sci_sim.specs.Rows.{row_in}
@@ -46,7 +46,7 @@ module _ (c : After-index-row) where
 last_is : (c : After-deref) → c.deref.result.now ≡ (row_in c.self.inside.rows.items c.self.inside.row).blocks
 last_is c =
     let row = row_read c.self.inside.rows.items c.self.inside.row c.index-last.result.now c.self.invariant.row c.index-last.ensures in
-    c.deref.ensures.value ∙ ap (λ (r : Row). r.blocks) (c.last.view_is ∙ row)
+    c.deref.ensures.value ∙ ap (λ (r : ReadyRow). r.blocks) (c.last.view_is ∙ row)
 
 pub begin_again-requires-clause-row : goal.begin_again-requires-clause-row
 begin_again-requires-clause-row c = ready_row (goal.at.begin_again-requires-clause-row c).After-index-row

@@ -2,7 +2,7 @@ use Rattle.std.proofs.Common.{◌≡◌, ◌<◌, ℕ, List, ap, sym, subst, ◌
 use Rattle.std.specs.Prelude.{◌↔◌, AllPairs, Contains}
 use Rattle.sci_net.specs.Sources.{source_of}
 use Rattle.sci_reaction.specs.Active.{Possible}
-use Rattle.sci_store.specs.Rows.{Row}
+use Rattle.sci_store.specs.Rows.{ReadyRow}
 use Rattle.sci_sim.specs.Rows.{row_in}
 use Rattle.sci_sim.specs.At.{Running, IsReady}
 use Rattle.sci_sim.proofs.Cleared.{active_in_row}
@@ -13,7 +13,7 @@ use Rattle.sci_sim.proofs.ready.Ready.possible.Goals as goal
 blocks_are : (c : After-as_slice) → c.as_slice.result.now ≡ (row_in c.args.self.now.rows c.args.self.now.row).blocks
 blocks_are c =
     let row = row_read c.self.inside.rows.items c.self.inside.row c.index-row.result.now c.self.invariant.row c.index-row.ensures in
-    c.as_slice.ensures.value ∙ ap (λ (r : Row). r.blocks) (c.row.view_is ∙ row) ∙ ap (λ (r : Running). (row_in r.rows r.row).blocks) c.self.view_is
+    c.as_slice.ensures.value ∙ ap (λ (r : ReadyRow). r.blocks) (c.row.view_is ∙ row) ∙ ap (λ (r : Running). (row_in r.rows r.row).blocks) c.self.view_is
 
 pub returns-clause-value : goal.returns-clause-value
 returns-clause-value c = blocks_are (goal.at.returns-clause-value c).After-as_slice

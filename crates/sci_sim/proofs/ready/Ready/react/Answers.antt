@@ -20,11 +20,12 @@ use Rattle.sci_run.specs.Run.{StopsWith, Leads, after_reaction}
 use Rattle.sci_store.specs.Blocks.{AreBlocksByNumber}
 use Rattle.sci_store.specs.Frame.{Fixed, AreSeated}
 use Rattle.sci_store.specs.Passed.{IsPassed, IsValued}
-use Rattle.sci_store.specs.Rows.{Row, IsReadyRow, KeepsBegun}
+use Rattle.sci_store.specs.Rows.{ReadyRow, IsReadyRow, KeepsBegun}
 use Rattle.sci_store.specs.Runs.{MayStep}
 use Rattle.sci_store.specs.Store.{Standing}
 use Rattle.sci_store.specs.Tally.{lines_after}
-use Rattle.sci_store.specs.Written.{IsHeader, sum_of, tallied}
+use Rattle.sci_store.specs.Written.{sum_of, tallied}
+use Rattle.sci_lines.specs.Lines.{IsHeader}
 use Rattle.sci_store.proofs.Writing.{tallied_twice}
 use Rattle.sci_store.proofs.Reacting.{kept_counts, range_alike, masks_alike, sensed_alike, shown_alike, before_alike, before_here, outcome_here, shown_marks}
 use Rattle.sci_store.proofs.StateRuns.{begun_behind}
@@ -404,7 +405,7 @@ returns-clause-halted g c none after marks =
     let row = c.index-row.result.now in
     let e = entered g at.After-index-row in
     halted_in r (stood r v k row e) (stood_is r v k row e) k row e.row_is (ready_row r v k row e) c.finish.new.kept.store after c.halts-self-inside.result marks
-    (subst (λ (bs : List ℕ). TellsHalt v.fixed c.finish.new.kept.store bs c.halts-self-inside.result) (c.deref.ensures.value ∙ ap (λ (r : Row). r.halts) c.row.view_is)
+    (subst (λ (bs : List ℕ). TellsHalt v.fixed c.finish.new.kept.store bs c.halts-self-inside.result) (c.deref.ensures.value ∙ ap (λ (r : ReadyRow). r.halts) c.row.view_is)
     (subst (λ (x : Fixed). TellsHalt x c.finish.new.kept.store c.deref.result.now c.halts-self-inside.result)
     (c.finish.ensures.fixed ∙ stays g at.After-write_reaction) c.halts-self-inside.ensures))
 
@@ -415,7 +416,7 @@ halts-self-inside-requires g c =
     let row = c.index-row.result.now in
     let ready = ready_row c.args.self.now (view g at.After-index-row) c.args.source row (entered g at.After-index-row) in
     subst (λ (x : Fixed). AreBlocksByNumber x.net c.deref.result.now) (sym (c.finish.ensures.fixed ∙ stays g at.After-write_reaction))
-    (subst (AreBlocksByNumber f.net) (sym (c.deref.ensures.value ∙ ap (λ (r : Row). r.halts) c.row.view_is)) (halts_by_number f row ready))
+    (subst (AreBlocksByNumber f.net) (sym (c.deref.ensures.value ∙ ap (λ (r : ReadyRow). r.halts) c.row.view_is)) (halts_by_number f row ready))
 
 -- ---- what stays
 

@@ -4,7 +4,7 @@ use Rattle.sci_reaction.specs.declared.entry.Entry.{Entry}
 use Rattle.sci_store.specs.declared.marks.Mark.{Mark}
 use Rattle.sci_store.specs.Marks.{idle}
 use Rattle.sci_store.specs.Store.{Standing}
-use Rattle.sci_store.specs.Rows.{Row}
+use Rattle.sci_store.specs.Rows.{ReadyRow}
 use Rattle.sci_store.specs.contracts.store.Store.{the_view}
 use Rattle.sci_store.proofs.Marking.{guarded_block, begun_again}
 use Rattle.sci_store.proofs.TakenBack.{IsTakenBack, back_more, back_all, back_others}
@@ -13,11 +13,11 @@ use Rattle.sci_store.proofs.store.Store.begin_again.Goals.{After-entry-item, At-
 
 -- the entries that are gone through
 entries_are : (c : At-loop-entry) → c.deref-entry-items.result.now ≡ c.args.row.now.guarded
-entries_are c = c.deref-entry-items.ensures.value ∙ ap (λ (r : Row). r.guarded) c.row.view_is
+entries_are c = c.deref-entry-items.ensures.value ∙ ap (λ (r : ReadyRow). r.guarded) c.row.view_is
 
 module _ (c : After-entry-item) where
   items_are : c.deref-entry-items.result.now ≡ c.args.row.now.guarded
-  items_are = c.deref-entry-items.ensures.value ∙ ap (λ (r : Row). r.guarded) c.row.view_is
+  items_are = c.deref-entry-items.ensures.value ∙ ap (λ (r : ReadyRow). r.guarded) c.row.view_is
 
   read : c.entry-item.result ≡ get_or c.args.row.now.guarded c.loop-entry.entry-index c.entry-item.result
   read = c.entry-item.is ∙ ap (λ (es : List Entry). get_or es c.loop-entry.entry-index c.entry-item.result) items_are

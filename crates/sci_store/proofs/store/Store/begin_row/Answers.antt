@@ -4,7 +4,7 @@ use Rattle.sci_forms.specs.declared.Kind.TheVariants.{Const}
 use Rattle.sci_store.specs.declared.marks.Mark.{Mark}
 use Rattle.sci_store.specs.declared.row.Run.{Run}
 use Rattle.sci_store.specs.Store.{Standing}
-use Rattle.sci_store.specs.Rows.{Row, between, marked, calls_in}
+use Rattle.sci_store.specs.Rows.{ReadyRow, between, marked, calls_in}
 use Rattle.sci_store.proofs.InPass.{run_read}
 use Rattle.sci_store.proofs.Marking.{HasBegunTo, AreKnown, known, begun_skip, begun_more}
 use Rattle.sci_store.proofs.store.Store.begin_row.Goals as goal
@@ -15,13 +15,13 @@ no_run = record { kind = Const; together = false; guarded = false; last = false;
 
 -- the runs that are gone through
 runs_are : (c : At-loop-run) → c.deref-run-items.result.now ≡ c.args.row.now.runs
-runs_are c = c.deref-run-items.ensures.value ∙ ap (λ (r : Row). r.runs) c.row.view_is
+runs_are c = c.deref-run-items.ensures.value ∙ ap (λ (r : ReadyRow). r.runs) c.row.view_is
 
 pub mark_active-requires : goal.mark_active-requires
 mark_active-requires c =
     let items = runs_are (goal.at.mark_active-requires c).At-loop-run in
     let run = get_or c.deref-run-items.result.now c.loop-run.run-index no_run in
-    let calls : c.deref.result.now ≡ c.args.row.now.calls = c.deref.ensures.value ∙ ap (λ (r : Row). r.calls) c.row.view_is in
+    let calls : c.deref.result.now ≡ c.args.row.now.calls = c.deref.ensures.value ∙ ap (λ (r : ReadyRow). r.calls) c.row.view_is in
     subst (λ (cs : List Call). AreKnown c.loop-run.self.marks (between cs run.start run.end)) (sym calls)
     (known c.args.frame.now c.well_formed-2.ensures c.requires.row.0 c.args.row.now c.requires.row.1 c.loop-run.run-index c.loop-run.self.marks run c.loop-run.invariant.begun
     (run_read c.args.row.now c.deref-run-items.result.now c.loop-run.run-index no_run items c.loop-run-test.true) c.if-not-run.true
@@ -38,7 +38,7 @@ loop-run-preserved c =
     let before = c.args.self.now in
     elim c.if-not-run.branch [
       | then-not-run w ↦
-          let calls : w.deref.result.now ≡ c.args.row.now.calls = w.deref.ensures.value ∙ ap (λ (x : Row). x.calls) c.row.view_is in
+          let calls : w.deref.result.now ≡ c.args.row.now.calls = w.deref.ensures.value ∙ ap (λ (x : ReadyRow). x.calls) c.row.view_is in
           let now : c.if-not-run.self ≡ record c.loop-run.self { marks = marked c.loop-run.self.marks (calls_in c.args.row.now run) } =
           w.self-is ∙ (w.mark_active.ensures
           ∙ ap (λ (cs : List Call). record c.loop-run.self { marks = marked c.loop-run.self.marks (between cs run.start run.end) }) calls) in

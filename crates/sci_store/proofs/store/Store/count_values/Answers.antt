@@ -4,7 +4,7 @@ use Rattle.sci_store.specs.declared.row.Show.{Show}
 use Rattle.sci_store.specs.contracts.store.Store.{the_view}
 use Rattle.sci_store.specs.Tally.{lines_after, sum_with}
 use Rattle.sci_store.specs.Store.{Standing}
-use Rattle.sci_store.specs.Rows.{Row, between, is_shown, IsShowOf, shown_values}
+use Rattle.sci_store.specs.Rows.{ReadyRow, between, is_shown, IsShowOf, shown_values}
 use Rattle.sci_store.specs.Written.{tallied_values}
 use Rattle.sci_store.proofs.Choices.{seen_if, seen_unless}
 use Rattle.sci_store.proofs.Writing.{same_tally, same_then}
@@ -23,7 +23,7 @@ module _ (c : After-self) where
   piece = get_or c.deref-show-items.result.now c.loop-show.show-index no_show
 
   items : c.deref-show-items.result.now ≡ c.args.row.now.shows
-  items = c.deref-show-items.ensures.value ∙ ap (λ (r : Row). r.shows) c.row.view_is
+  items = c.deref-show-items.ensures.value ∙ ap (λ (r : ReadyRow). r.shows) c.row.view_is
 
   there : c.loop-show.show-index < length c.args.row.now.shows
   there = subst (λ (ws : List Show). c.loop-show.show-index < length ws) items c.loop-show-test.true

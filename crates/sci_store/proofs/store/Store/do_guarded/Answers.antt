@@ -11,7 +11,7 @@ use Rattle.sci_store.specs.declared.row.Run.{Run}
 use Rattle.sci_store.specs.Entries.{HasMark}
 use Rattle.sci_store.specs.Frame.{Fixed}
 use Rattle.sci_store.specs.Store.{Standing, IsStore}
-use Rattle.sci_store.specs.Rows.{Row, IsAlone, IsMarked, between, calls_in, chosen_calls}
+use Rattle.sci_store.specs.Rows.{ReadyRow, IsAlone, IsMarked, between, calls_in, chosen_calls}
 use Rattle.sci_store.specs.Runs.{IsCallIn, AreApart, AreOfKind, IsRunDone}
 use Rattle.sci_store.specs.contracts.store.Store.{the_view}
 use Rattle.sci_store.proofs.Calling.{calls_blocks, guards_elsewhere, guards_marked}
@@ -22,25 +22,25 @@ use Rattle.sci_store.proofs.store.Store.do_guarded.Goals as goal
 use Rattle.sci_store.proofs.store.Store.do_guarded.Goals.{After-deref, After-deref-2, After-choose-count, After-deref_mut, After-out_run}
 
 calls_are : (g : Over) (c : After-deref g) → between c.deref.result.now c.args.run.now.start c.args.run.now.end ≡ calls_in c.args.row.now c.args.run.now
-calls_are g c = ap (λ (cs : List Call). between cs c.args.run.now.start c.args.run.now.end) (c.deref.ensures.value ∙ ap (λ (r : Row). r.calls) c.row.view_is)
+calls_are g c = ap (λ (cs : List Call). between cs c.args.run.now.start c.args.run.now.end) (c.deref.ensures.value ∙ ap (λ (r : ReadyRow). r.calls) c.row.view_is)
 
 chosen : (g : Over) (c : After-choose-count g) → take c.choose-count.result c.choose-count.new.self.chosen
     ≡ chosen_calls c.args.self.now.marks (calls_in c.args.row.now c.args.run.now)
     (entries_of (between c.args.row.now.guarded c.args.run.now.entries (c.args.run.now.entries + (c.args.run.now.end - c.args.run.now.start))))
 chosen g c =
     chosen_from c.args.frame.now c.well_formed-2.ensures c.requires.row.0 c.args.row.now c.requires.row.1 c.args.run.now c.requires.run c.args.self.now.marks c.deref.result.now c.deref-2.result.now _
-    (c.deref.ensures.value ∙ ap (λ (r : Row). r.calls) c.row.view_is) (c.deref-2.ensures.value ∙ ap (λ (r : Row). r.guarded) c.row.view_is) c.choose-count.ensures.chosen
+    (c.deref.ensures.value ∙ ap (λ (r : ReadyRow). r.calls) c.row.view_is) (c.deref-2.ensures.value ∙ ap (λ (r : ReadyRow). r.guarded) c.row.view_is) c.choose-count.ensures.chosen
 
 -- the entries of the run lie in the row
 module _ (g : Over) (c : After-deref-2 g) where
   calls_here : between c.deref.result.now c.args.run.now.start c.args.run.now.end ≡ calls_in c.args.row.now c.args.run.now
-  calls_here = ap (λ (cs : List Call). between cs c.args.run.now.start c.args.run.now.end) (c.deref.ensures.value ∙ ap (λ (r : Row). r.calls) c.row.view_is)
+  calls_here = ap (λ (cs : List Call). between cs c.args.run.now.start c.args.run.now.end) (c.deref.ensures.value ∙ ap (λ (r : ReadyRow). r.calls) c.row.view_is)
 
   long_here : length (between c.deref.result.now c.args.run.now.start c.args.run.now.end) ≡ c.args.run.now.end - c.args.run.now.start
   long_here = ap length calls_here ∙ calls_long c.args.frame.now c.well_formed-2.ensures c.requires.row.0 c.args.row.now c.requires.row.1 c.args.run.now c.requires.run
 
   guarded_are : c.deref-2.result.now ≡ c.args.row.now.guarded
-  guarded_are = c.deref-2.ensures.value ∙ ap (λ (r : Row). r.guarded) c.row.view_is
+  guarded_are = c.deref-2.ensures.value ∙ ap (λ (r : ReadyRow). r.guarded) c.row.view_is
 
   within : c.args.run.now.entries + length (between c.deref.result.now c.args.run.now.start c.args.run.now.end) ≤ length c.deref-2.result.now
   within =
@@ -147,7 +147,7 @@ module _ (g : Over) (c : After-deref_mut g) where
       (entries_of (between c.args.row.now.guarded c.args.run.now.entries (c.args.run.now.entries + (c.args.run.now.end - c.args.run.now.start))))
   chosen_here =
       chosen_from c.args.frame.now c.well_formed-2.ensures c.requires.row.0 c.args.row.now c.requires.row.1 c.args.run.now c.requires.run c.args.self.now.marks c.deref.result.now c.deref-2.result.now _
-      (c.deref.ensures.value ∙ ap (λ (r : Row). r.calls) c.row.view_is) (c.deref-2.ensures.value ∙ ap (λ (r : Row). r.guarded) c.row.view_is) c.choose-count.ensures.chosen
+      (c.deref.ensures.value ∙ ap (λ (r : ReadyRow). r.calls) c.row.view_is) (c.deref-2.ensures.value ∙ ap (λ (r : ReadyRow). r.guarded) c.row.view_is) c.choose-count.ensures.chosen
 
   few_called : All (IsCallIn c.args.frame.now) few
   few_called = few_in c.args.frame.now c.well_formed-2.ensures c.requires.row.0 c.args.row.now c.requires.row.1 c.args.run.now c.requires.run c.requires.guarded c.args.self.now c.choose-count.new.self

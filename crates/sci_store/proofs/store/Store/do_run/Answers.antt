@@ -3,7 +3,7 @@ use Rattle.sci_bank.specs.declared.runs.Call.{Call}
 use Rattle.sci_store.specs.declared.row.Run.{Run}
 use Rattle.sci_store.specs.Frame.{Fixed}
 use Rattle.sci_store.specs.Store.{Standing}
-use Rattle.sci_store.specs.Rows.{Row, IsAlone, IsMarked, between, run_calls}
+use Rattle.sci_store.specs.Rows.{ReadyRow, IsAlone, IsMarked, between, run_calls}
 use Rattle.sci_store.specs.Runs.{IsCallIn, AreApart, AreOfKind, IsRunDone}
 use Rattle.sci_store.specs.contracts.store.Store.{the_view}
 use Rattle.sci_store.proofs.Calling.{run_call_in, run_apart, run_kind}
@@ -16,7 +16,7 @@ use Rattle.sci_store.proofs.store.Store.do_run.Goals.{After-deref, After-deref_m
 -- the calls that are handed on are those that the run makes
 calls_are : (g : Over) (c : After-deref g) → between c.deref.result.now c.args.run.now.start c.args.run.now.end ≡ run_calls c.args.row.now c.args.run.now c.args.self.now.marks
 calls_are g c =
-    ap (λ (cs : List Call). between cs c.args.run.now.start c.args.run.now.end) (c.deref.ensures.value ∙ ap (λ (r : Row). r.calls) c.row.view_is)
+    ap (λ (cs : List Call). between cs c.args.run.now.start c.args.run.now.end) (c.deref.ensures.value ∙ ap (λ (r : ReadyRow). r.calls) c.row.view_is)
     ∙ whole_are c.args.frame.now c.well_formed-2.ensures c.requires.row.0 c.args.row.now c.requires.row.1 c.args.run.now c.requires.run c.args.self.now.marks c.if-run.false
 
 pub do_alone-requires-clause-calls : goal.do_alone-requires-clause-calls
@@ -39,7 +39,7 @@ returns-then-not-run-clause-done g c =
 
 -- what the calls of the run are, where they are made together
 module _ (g : Over) (c : After-deref_mut g) where
-  abbrev row : Row
+  abbrev row : ReadyRow
   row = c.args.row.now
 
   abbrev run : Run
@@ -71,7 +71,7 @@ module _ (g : Over) (c : After-deref_mut g) where
 
   made : between c.deref.result.now run.start run.end ≡ calls
   made =
-      ap (λ (cs : List Call). between cs c.args.run.now.start c.args.run.now.end) (c.deref.ensures.value ∙ ap (λ (r : Row). r.calls) c.row.view_is)
+      ap (λ (cs : List Call). between cs c.args.run.now.start c.args.run.now.end) (c.deref.ensures.value ∙ ap (λ (r : ReadyRow). r.calls) c.row.view_is)
       ∙ whole_are c.args.frame.now c.well_formed-2.ensures c.requires.row.0 row c.requires.row.1 run c.requires.run s.marks c.if-run.false
 
   marked : All (IsMarked s.marks) calls

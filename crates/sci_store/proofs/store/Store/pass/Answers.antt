@@ -9,7 +9,7 @@ use Rattle.sci_store.specs.declared.row.Run.{Run}
 use Rattle.sci_store.specs.Frame.{IsFrame}
 use Rattle.sci_store.specs.Store.{ShowsMemory}
 use Rattle.sci_store.specs.Passed.{IsPassed}
-use Rattle.sci_store.specs.Rows.{Row, IsRowOf, KeepsBegun}
+use Rattle.sci_store.specs.Rows.{ReadyRow, IsRowOf, KeepsBegun}
 use Rattle.sci_store.specs.Runs.{lesser}
 use Rattle.sci_store.proofs.InPass.{IsInPass, pass_before, run_read, pass_next, pass_quiet, pass_behind, kept_behind, kept_last, stops_by}
 use Rattle.sci_store.proofs.store.Store.pass.Given.{Over}
@@ -39,7 +39,7 @@ do_run-found-requires-clause-values g c = (c.loop-run.invariant c.well_formed-2.
 
 pub do_run-found-requires-clause-begun : goal.do_run-found-requires-clause-begun
 do_run-found-requires-clause-begun g c off =
-    let items : c.deref-run-items.result.now ≡ c.args.row.now.runs = c.deref-run-items.ensures.value ∙ ap (λ (r : Row). r.runs) c.row.view_is in
+    let items : c.deref-run-items.result.now ≡ c.args.row.now.runs = c.deref-run-items.ensures.value ∙ ap (λ (r : ReadyRow). r.runs) c.row.view_is in
     let k = c.loop-run.run-index in
     let run = get_or c.deref-run-items.result.now c.loop-run.run-index no_run in
     let less = subst (λ (rs : List Run). c.loop-run.run-index < length rs) items c.loop-run-test.true in
@@ -49,7 +49,7 @@ do_run-found-requires-clause-begun g c off =
 -- behind one more run
 module _ (g : Over) (c : After-do_run-found g) where
   items : c.deref-run-items.result.now ≡ c.args.row.now.runs
-  items = c.deref-run-items.ensures.value ∙ ap (λ (r : Row). r.runs) c.row.view_is
+  items = c.deref-run-items.ensures.value ∙ ap (λ (r : ReadyRow). r.runs) c.row.view_is
 
   abbrev run : Run
   run = get_or c.deref-run-items.result.now c.loop-run.run-index no_run
@@ -122,7 +122,7 @@ loop-run-preserved g c = λ frame.
 
 pub returns-clause-passed : goal.returns-clause-passed
 returns-clause-passed g c source m free is shows memory =
-    let items : c.deref-run-items.result.now ≡ c.args.row.now.runs = c.deref-run-items.ensures.value ∙ ap (λ (r : Row). r.runs) c.row.view_is in
+    let items : c.deref-run-items.result.now ≡ c.args.row.now.runs = c.deref-run-items.ensures.value ∙ ap (λ (r : ReadyRow). r.runs) c.row.view_is in
     let all = subst (λ (rs : List Run). length rs ≤ c.loop-run.run-index) items c.loop-run-test.false in
     pass_behind c.args.frame.now c.well_formed-2.ensures c.args.inputs.now c.args.row.now c.loop-run.run-index c.args.self.now c.loop-run.self c.args.lib.now c.loop-run.lib c.loop-run.stop
     (c.loop-run.invariant c.well_formed-2.ensures) all c.requires.begun source m free is shows memory

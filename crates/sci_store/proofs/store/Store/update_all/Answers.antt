@@ -1,7 +1,7 @@
 use Rattle.std.proofs.Common.{◌≡◌, ◌∙◌, List, length, ap, arith}
 use Rattle.sci_store.specs.declared.row.Run.{Run}
 use Rattle.sci_store.specs.Store.{Standing}
-use Rattle.sci_store.specs.Rows.{Row}
+use Rattle.sci_store.specs.Rows.{ReadyRow}
 use Rattle.sci_store.specs.Runs.{called_blocks}
 use Rattle.sci_store.proofs.Updating.{stepped_begin, stepped_all, store_kept, values_kept}
 use Rattle.sci_store.proofs.StateRuns.{run_there, run_may_step, run_further, runs_stepped, remembering_among, begun_behind}
@@ -11,7 +11,7 @@ use Rattle.sci_store.proofs.store.Store.update_all.Goals.{At-loop-run}
 
 -- the runs that are gone through
 runs_are : (g : Over) (c : At-loop-run g) → c.deref-run-items.result.now ≡ c.args.row.now.state_runs
-runs_are g c = c.deref-run-items.ensures.value ∙ ap (λ (r : Row). r.state_runs) c.row.view_is
+runs_are g c = c.deref-run-items.ensures.value ∙ ap (λ (r : ReadyRow). r.state_runs) c.row.view_is
 
 pub loop-run-init : goal.loop-run-init
 loop-run-init g c = stepped_begin c.args.frame.now c.args.self.now _ c.requires.seated

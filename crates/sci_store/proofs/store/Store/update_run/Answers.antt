@@ -2,7 +2,7 @@ use Rattle.std.proofs.Common.{◌≡◌, ◌≤◌, ◌∙◌, ℕ, List, length
 use Rattle.sci_bank.specs.declared.runs.Call.{Call}
 use Rattle.sci_store.specs.Frame.{Fixed}
 use Rattle.sci_store.specs.Store.{Standing}
-use Rattle.sci_store.specs.Rows.{Row, between, active_calls, state_calls_in}
+use Rattle.sci_store.specs.Rows.{ReadyRow, between, active_calls, state_calls_in}
 use Rattle.sci_store.specs.Runs.{AreCalledOnce, called_blocks, AreStepped}
 use Rattle.sci_store.proofs.Few.{few_calls}
 use Rattle.sci_store.proofs.Stepping.{stepped_with_choice}
@@ -13,7 +13,7 @@ use Rattle.sci_store.proofs.store.Store.update_run.Goals.{After-deref, After-cho
 
 -- the calls that are taken out of the row
 calls_are : (g : Over) (c : After-deref g) → between c.deref.result.now c.args.run.now.start c.args.run.now.end ≡ state_calls_in c.args.row.now c.args.run.now
-calls_are g c = ap (λ (cs : List Call). between cs c.args.run.now.start c.args.run.now.end) (c.deref.ensures.value ∙ ap (λ (r : Row). r.state_calls) c.row.view_is)
+calls_are g c = ap (λ (cs : List Call). between cs c.args.run.now.start c.args.run.now.end) (c.deref.ensures.value ∙ ap (λ (r : ReadyRow). r.state_calls) c.row.view_is)
 
 pub update_alone-requires-clause-calls : goal.update_alone-requires-clause-calls
 update_alone-requires-clause-calls g c =
@@ -65,7 +65,7 @@ chosen_are : (g : Over) (c : After-choose_active-count g) (room : List Call) →
 chosen_are g c room e =
     ap (take c.choose_active-count.result) e
     ∙ (c.choose_active-count.ensures.chosen
-    ∙ ap (λ (cs : List Call). active_calls c.args.self.now.marks (between cs c.args.run.now.start c.args.run.now.end)) (c.deref.ensures.value ∙ ap (λ (r : Row). r.state_calls) c.row.view_is))
+    ∙ ap (λ (cs : List Call). active_calls c.args.self.now.marks (between cs c.args.run.now.start c.args.run.now.end)) (c.deref.ensures.value ∙ ap (λ (r : ReadyRow). r.state_calls) c.row.view_is))
 
 pub update_run-requires-then-count-gt0-clause-calls : goal.update_run-requires-then-count-gt0-clause-calls
 update_run-requires-then-count-gt0-clause-calls g c =

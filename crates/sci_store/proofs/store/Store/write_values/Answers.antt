@@ -5,12 +5,12 @@ use Rattle.sci_trace.specs.Lines.{text}
 use Rattle.sci_io.specs.Taken.{Writes}
 use Rattle.sci_store.specs.declared.row.Show.{Show}
 use Rattle.sci_store.specs.Store.{Standing}
-use Rattle.sci_store.specs.Rows.{Row, between, is_shown, IsShowOf}
+use Rattle.sci_store.specs.Rows.{ReadyRow, between, is_shown, IsShowOf}
 use Rattle.sci_store.specs.Runs.{lines_of}
 use Rattle.sci_store.specs.Written.{tallied, tallied_values}
-use Rattle.sci_store.specs.Paged.{paged}
+use Rattle.sci_lines.specs.Paged.{paged}
 use Rattle.sci_store.proofs.Writing.{IsLeft, left_begin, left_as, left_more, cut_in_more, left_same, same_then, all_counted, row_is_seen}
-use Rattle.sci_store.proofs.Paging.{none_kept, none_left_behind, last_given, on_ok}
+use Rattle.sci_lines.proofs.Paging.{none_kept, none_left_behind, last_given, on_ok}
 use Rattle.sci_store.proofs.ShownPieces.{piece_seen, pieces_seen}
 use Rattle.sci_store.proofs.ShownLines.{show_lines, show_tallied, piece_on, piece_off, pieces_next}
 use Rattle.sci_store.proofs.Covering.{row_blocks, row_shows, row_pieces}
@@ -26,14 +26,14 @@ no_show = record { start = 0; end = 0; asked = None }
 
 -- the pieces that are gone through
 shows_are : (g : Over) (c : At-loop-show g) → c.deref-show-items.result.now ≡ c.args.row.now.shows
-shows_are g c = c.deref-show-items.ensures.value ∙ ap (λ (r : Row). r.shows) c.row.view_is
+shows_are g c = c.deref-show-items.ensures.value ∙ ap (λ (r : ReadyRow). r.shows) c.row.view_is
 
 module _ (g : Over) (c : After-is_shown g) where
   abbrev piece : Show
   piece = get_or c.deref-show-items.result.now c.loop-show.show-index no_show
 
   items : c.deref-show-items.result.now ≡ c.args.row.now.shows
-  items = c.deref-show-items.ensures.value ∙ ap (λ (r : Row). r.shows) c.row.view_is
+  items = c.deref-show-items.ensures.value ∙ ap (λ (r : ReadyRow). r.shows) c.row.view_is
 
   there : c.loop-show.show-index < length c.args.row.now.shows
   there = subst (λ (ws : List Show). c.loop-show.show-index < length ws) items c.loop-show-test.true

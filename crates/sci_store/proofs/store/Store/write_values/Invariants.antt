@@ -1,5 +1,5 @@
 use Rattle.std.proofs.Common.{drop}
-use Rattle.sci_store.specs.Paged.{paged}
+use Rattle.sci_lines.specs.Paged.{paged}
 use Rattle.sci_store.proofs.Writing.{IsLeft}
 use Rattle.sci_store.proofs.ShownPieces.{pieces_seen}
 use Rattle.sci_store.proofs.store.Store.write_values.Given as goal

@@ -1,5 +1,0 @@
-use Rattle.c_ast.proofs.Assigning.{found_any}
-use Rattle.c_ast.proofs.bodies.has.Goals as goal
-
-pub returns : goal.returns
-returns c = found_any c.has.result c.args.number c.args.walk.now.found c.has.ensures

@@ -1,6 +1,0 @@
-use Rattle.std.proofs.Common.{◌≡◌}
-use Rattle.c_mean.specs.Calls.{latest}
-use Rattle.c_mean.proofs.functions.search.Given as goal
-
-abbrev pub invariant-loop-k : goal.invariant-loop-k
-invariant-loop-k l = latest l.name l.k l.routines ≡ latest l.name l.fn.from l.routines

@@ -1,0 +1,4 @@
+pub mod Naming
+pub mod Assigning
+pub mod Bodies
+pub mod Knowing

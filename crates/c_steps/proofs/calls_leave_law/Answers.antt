@@ -1,5 +1,0 @@
-use Rattle.c_steps.proofs.Programs.{functions_leave}
-use Rattle.c_steps.proofs.calls_leave_law.Goals as goal
-
-pub returns : goal.returns
-returns c may fs last most h = functions_leave may fs last most h

@@ -1,5 +1,0 @@
-use Rattle.c_steps.proofs.Steps.{number_after, run_joined}
-use Rattle.c_steps.proofs.joined_law.Goals as goal
-
-pub returns : goal.returns
-returns c env n a b w = (number_after a n, run_joined env a b n w)

@@ -1,5 +1,0 @@
-use Rattle.c_steps.proofs.Memory.{put_puts}
-use Rattle.c_steps.proofs.put_law.Goals as goal
-
-pub returns : goal.returns
-returns c w x i v h = put_puts w x i v h

@@ -1,5 +1,0 @@
-pub mod Places
-pub mod Texts
-pub mod Runs
-pub mod Programs
-pub mod Laws

@@ -1,0 +1,4 @@
+pub mod Coded
+pub mod Counting
+pub mod Ends
+pub mod Traced

@@ -1,8 +1,0 @@
-use Rattle.sci_commands.proofs.OneAnswer.{one_answer, one_answer_of_bytes}
-use Rattle.sci_commands.proofs.laws.one_answer_is_due.Goals as goal
-
-pub returns-clause-told : goal.returns-clause-told
-returns-clause-told c = one_answer
-
-pub returns-clause-bytes : goal.returns-clause-bytes
-returns-clause-bytes c = one_answer_of_bytes

@@ -1,8 +1,0 @@
-use Rattle.sci_commands.proofs.RunsDue.{save_is_due, dump_is_due}
-use Rattle.sci_commands.proofs.laws.runs_are_due.Goals as goal
-
-pub returns-clause-saved : goal.returns-clause-saved
-returns-clause-saved c = save_is_due
-
-pub returns-clause-dumped : goal.returns-clause-dumped
-returns-clause-dumped c = dump_is_due

@@ -1,0 +1,7 @@
+mod Counted
+mod Finished
+mod Giving
+mod Probing
+mod Rests
+mod Silent
+mod Verdicts

@@ -1,0 +1,38 @@
+use Rattle.std.proofs.Common.{rules, List}
+use Rattle.sci_bank.specs.Bank.{Meaning}
+use Rattle.sci_answers.specs.Counts.{CountsRun}
+use Rattle.sci_answers.specs.Simulate.{gives_trace}
+use Rattle.sci_words.specs.Words.{simulate}
+use Rattle.sci_files.specs.declared.look.LookStop.TheVariants.{Memory}
+use Rattle.sci_prepare.proofs.Looked.{stopped_looks}
+use Rattle.sci_files.proofs.RunFiles.{run_stops, run_lacks}
+use Rattle.sci_prepare.proofs.Simulated.{traced, ready_to_run}
+use Rattle.sci_prepare.proofs.prepare.for_simulate.Goals as goal
+
+pub returns-in_err-files-clause-looks : goal.returns-in_err-files-clause-looks
+returns-in_err-files-clause-looks g c =
+    let old = g.F.Folder.state c.args.folder.now in
+    let new = g.F.Folder.state c.look_at_run.new.folder in
+    stopped_looks old new _ (simulate c.args.file.now c.args.inputs_file.now c.args.until c.args.limit) c.from_residual.result _ (search rules)
+    (run_stops c.args.file.now c.args.inputs_file.now (gives_trace c.args.until c.args.limit) old new c.look_at_run.result _ c.in_err-files.was c.look_at_run.ensures.looked)
+
+pub returns-in_err-ready-clause-looks : goal.returns-in_err-ready-clause-looks
+returns-in_err-ready-clause-looks g c =
+    let old = g.F.Folder.state c.args.folder.now in
+    let new = g.F.Folder.state c.look_at_run.new.folder in
+    stopped_looks old new _ (simulate c.args.file.now c.args.inputs_file.now c.args.until c.args.limit) c.from_residual-in_err-ready.result Memory (search rules)
+    (run_lacks c.args.file.now c.args.inputs_file.now (gives_trace c.args.until c.args.limit) old new _ c.in_ok-files.ensures.looked)
+
+pub returns-clause-looks : goal.returns-clause-looks
+returns-clause-looks g c =
+    let old = g.F.Folder.state c.args.folder.now in
+    let new = g.F.Folder.state c.look_at_run.new.folder in
+    let ready = c.in_ok-ready.ready in
+    let files = c.in_ok-files.files in
+    let counted : List Meaning → Type 0 = λ after. CountsRun ready.fixed.net files.inputs c.args.until c.args.limit after in
+    record {
+      reaches = λ a is.
+          traced c.args.file.now c.args.inputs_file.now c.args.until c.args.limit old new files ready.fixed.net a counted c.in_ok-files.ensures.looked c.in_ok-ready.ensures.start.net is (λ after left. left);
+      prepared = ready_to_run old new c.args.file.now c.args.inputs_file.now files _ ready c.args.until c.args.limit c.in_ok-files.ensures.looked c.in_ok-ready.ensures.start c.requires.until c.requires.limit;
+      lacks = λ may. absurd may;
+    }

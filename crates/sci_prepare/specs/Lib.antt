@@ -1,0 +1,3 @@
+pub mod BulkCounted
+pub mod Defined
+pub mod Prepare

@@ -1,0 +1,3 @@
+mod Pieces
+mod Steps
+pub mod ValueLines

@@ -1,0 +1,4 @@
+pub mod Line
+pub mod Map
+pub mod Numbers
+pub mod Values
