@@ -15,8 +15,9 @@ import time
 from plain import plain_run
 
 TOP = os.path.join(os.path.dirname(os.path.abspath(__file__)), '..')
-CRATES = '# crates\nlow: smallvec\nleft: low  # a comment\nright: low smallvec\naside: low\nscicos: left right itoa\n'
-NAMES = ['low', 'left', 'right', 'scicos']
+CRATES = '# crates\nlow: smallvec\nleft: low  # a comment\nright: low smallvec\naside: low\nscicos: left right itoa\nranges: left\n'
+NAMES = ['low', 'left', 'right', 'scicos', 'ranges']
+BUILT = ['built scicos', 'built ranges']
 COMMANDS = 'sh env readlink find echo sed sort xargs sha256sum cut uname date mkdir mktemp mv rm dirname stat perl'.split()
 PROGRAM = '#!/bin/sh\n[ $# -eq 0 ] && { echo usage >&2; exit 2; }\necho "%s $*"\n'
 RT = r'''#!/usr/bin/env python3
@@ -40,10 +41,10 @@ if lacking:
     sys.exit('%s lacks %r' % (NAME, lacking))
 if sys.argv[1] == 'run':
     os.makedirs('out', exist_ok=True)
-    with open('out/scicos', 'w') as file:
+    with open('out/' + NAME, 'w') as file:
         file.write(open(TOP + '/program').read())
-    os.chmod('out/scicos', 0o755)
-    note('built')
+    os.chmod('out/' + NAME, 0o755)
+    note('built', NAME)
 elif not os.path.exists('out/rlib/stamp'):
     note('begin', NAME)
     os.makedirs('out/incremental', exist_ok=True)
@@ -79,6 +80,7 @@ def furnish(top):
         os.makedirs(os.path.join(top, name))
     for name in ('scicos', 'prove', os.path.join('tools', 'sources')):
         shutil.copy(os.path.join(TOP, name), os.path.join(top, name))
+    os.symlink('scicos', os.path.join(top, 'ranges'))
     script = re.sub(r'^EACH = .*$', 'EACH = 1', text(TOP, 'tools', 'prove'), flags=re.M).replace('len(os.sched_getaffinity(0))', '2')
     command(script, top, 'tools', 'prove')
     write(CRATES, top, 'crates.txt')
@@ -103,9 +105,10 @@ def sources(top):
 
 
 def release(top, program=PROGRAM % 'released'):
-    """Puts a program of the sources as they are into release/."""
-    command(program, top, 'release', 'scicos')
-    write('kit a stand-in\ncrates %s\nsources %s\nprogram %s\n' % (' '.join(NAMES), sources(top), hashlib.sha256(program.encode()).hexdigest()),
+    """Puts a program of the sources as they are into release/, by both names."""
+    for name in ('scicos', 'ranges'):
+        command(program, top, 'release', name)
+    write('kit a stand-in\ncrates %s\nsources %s\nprogram %s\nranges %s\n' % (' '.join(NAMES), sources(top), *2 * [hashlib.sha256(program.encode()).hexdigest()]),
           top, 'release', 'manifest')
 
 
@@ -129,7 +132,7 @@ def asked(top, *words, **how):
 def refused(given, *words):
     """Whether one line that has these words is all that was said, with 70."""
     out, err, status = given
-    return out == '' and err.count('\n') == 1 and err.startswith('scicos: ') and all(word in err for word in words) and status == 70
+    return out == '' and err.count('\n') == 1 and err.startswith(('scicos: ', 'ranges: ')) and all(word in err for word in words) and status == 70
 
 
 @contextlib.contextmanager
@@ -151,7 +154,13 @@ def wrong_release(top):
     if not os.path.exists(os.path.join(top, '.checked')):
         wrong.append('what was found is not kept')
     same = bare[0] == '' and bare[1].startswith('usage\n') and 'README.md' in bare[1] and bare[2] == 2
-    return wrong + ([] if same else ['without words: %r' % (bare,)])
+    wrong += [] if same else ['without words: %r' % (bare,)]
+    given = [asked(top, 'two', 'words', script='ranges'), asked(top, 'again', script='ranges')]
+    wrong += [] if given == [('released two words\n', '', 0), ('released again\n', '', 0)] else ['the other program: %r' % (given,)]
+    os.remove(os.path.join(top, 'release', 'ranges'))
+    given = asked(top, 'x', script='ranges'), asked(top, 'x')
+    told = refused(given[0], 'release/ranges', 'git checkout release') and given[1] == ('released x\n', '', 0)
+    return wrong + ([] if told else ['without the other program: %r' % (given,)])
 
 
 def wrong_sources(top):
@@ -263,8 +272,8 @@ def steps(lines):
 def wrong_order(lines):
     """Each crate that the program stands on is begun once, those below it being proved; two that don't wait for each other go on at one time."""
     given = steps(lines)
-    due = ['begin low', 'end low', 'begin left', 'begin right', 'end left', 'end right', 'built']
-    wrong = [] if sorted(given) == sorted(due) and given[:2] == due[:2] and given[-1:] == due[-1:] else ['the order: %r' % lines]
+    due = ['begin low', 'end low', 'begin left', 'begin right', 'end left', 'end right', *BUILT]
+    wrong = [] if sorted(given) == sorted(due) and given[:2] == due[:2] and given[-2:] == due[-2:] else ['the order: %r' % lines]
     return wrong + ([] if {line.split()[0] for line in given[2:4]} == {'begin'} else ['one at a time: %r' % lines])
 
 
@@ -274,12 +283,12 @@ def wrong_told(said):
     minutes = re.search(r'takes some\s+(\d+)\s+minutes on four processors', text(TOP, 'README.md')).group(1)
     lines = said.splitlines()
     at_work = r'(; at work: \w+ \(\d+ parts\)(, \w+ \(\d+ parts\))*)?'
-    found = [re.fullmatch(r'scicos: (\d) of 4 crates are proved, 0 minutes gone' + at_work, line) for line in lines[2:-1]]
+    found = [re.fullmatch(r'scicos: (\d) of 5 crates are proved, 0 minutes gone' + at_work, line) for line in lines[2:-2]]
     counts = [int(line.group(1)) if line else None for line in found]
-    head = ['scicos: proving and building the program, 4 crates; from nothing this takes some %s minutes on four processors' % minutes,
+    head = ['scicos: proving and building the programs, 5 crates; from nothing this takes some %s minutes on four processors' % minutes,
             'scicos: 2 jobs at a time, by the processors and the free memory']
-    same = lines[:2] == head and lines[-1] == 'scicos: the program is proved and built; its bytes are not those of release/scicos'
-    return [] if same and counts in ([0, 1, 2, 3], [0, 1, 3]) else ['it is said: %r' % said]
+    same = lines[:2] == head and lines[-2:] == ['scicos: %s is proved and built; its bytes are not those of release/%s' % (name, name) for name in NAMES[-2:]]
+    return [] if same and counts in ([0, 1, 2, 3, 4], [0, 1, 3, 4]) else ['it is said: %r' % said]
 
 
 def wrong_minutes():
@@ -316,10 +325,12 @@ def wrong_build(top):
     given = asked(top, 'x')
     wrong += [] if refused(given, 'other sources', './prove') else ['a source that changed again: %r' % (given,)]
     given, lines = asked(top, script='prove'), noted(top)
-    wrong += [] if steps(lines) == ['built'] and asked(top, 'x')[0] == 'built x\n' else ['built again: %r, %r' % (given, lines)]
+    both = [asked(top, 'x', script=name)[0] for name in ('scicos', 'ranges')]
+    wrong += [] if steps(lines) == BUILT and both == 2 * ['built x\n'] else ['built again: %r, %r' % (given, lines)]
     release(top, text(top, 'program'))
     given, lines = asked(top, script='prove'), noted(top)
-    return wrong + ([] if given[1].endswith('its bytes are those of release/scicos\n') else ['the same bytes: %r' % (given,)])
+    same = all('its bytes are those of release/%s\n' % name in given[1] for name in ('scicos', 'ranges'))
+    return wrong + ([] if same else ['the same bytes: %r' % (given,)])
 
 
 def wrong_end(top):
@@ -342,7 +353,7 @@ def wrong_end(top):
     until(os.path.join(top, 'notes'), 'begin right')
     write('changed twice', top, 'crates', 'low', 'src', 'lib.rt')
     given, lines = answer(run), noted(top)
-    same = steps(lines) == ['begin right', 'end right', 'built'] and 'has changed meanwhile' in given[1] and given[2] == 70
+    same = steps(lines) == ['begin right', 'end right', *BUILT] and 'has changed meanwhile' in given[1] and given[2] == 70
     wrong += [] if same and refused(asked(top, 'x'), './prove') else ['a source that changed meanwhile: %r, %r' % (given, lines)]
     given = asked(top, script='prove'), asked(top, 'x')
     return wrong + ([] if given[1] == ('built x\n', '', 0) else ['after it: %r' % (given,)])
@@ -353,7 +364,7 @@ def wrong_failure(top):
     write('', top, 'crates', 'left', 'src', 'wrong')
     write('', top, 'crates', 'right', 'src', 'slow')
     given, lines = asked(top, script='prove'), noted(top)
-    same = given[0] == '' and '== left\nfn left::f: not proved\n' in given[1] and given[2] == 70 and 'built' not in lines and not left_over(lines)
+    same = given[0] == '' and '== left\nfn left::f: not proved\n' in given[1] and given[2] == 70 and not set(BUILT) & set(lines) and not left_over(lines)
     return [] if same else ['a crate that is not proved: %r, %r, %r' % (given, lines, left_over(lines))]
 
 

@@ -200,15 +200,29 @@ def kinds_due():
     return 'start\n' + start + reaction % (0, -128, 64, LONGEST - 1) + reaction % (3, -127, 2**32 - 1, 0) + last
 
 
+def kinds_mapped():
+    """The map of these kinds, and their schedules: what constants reach at start, and what the clock activates, by depth."""
+    types = {3: 'int32', 5: 'int8', 6: 'uint32', 8: 'uint8'}
+    kinds = ''
+    for number, (gui, model) in enumerate(((thing['gui'], thing['model']) for thing in kinds_at_the_limits() if thing['obj'] == 'Block'), 1):
+        ports = zip(model.get('outtyp', []), model.get('out', []))
+        kinds += '%d %d %s%s\n' % (number, number, gui, ''.join(' %s[%dx1]' % (types[code], rows) for code, rows in ports))
+    always = '%d always\n'
+    return kinds, ('source start\n' + ''.join(always % k for k in (2, 10, 3, 8, 11, 4, 5, 6, 7)) + 'source 1.1\n'
+                   + ''.join(always % k for k in (1, 9, 12, 15, 13)) + '14 13.64\n16 13.63\n')
+
+
 def widest_kinds(program):
-    """As many ports, elements, parameters and columns as kinds may have, in one run by `simulate`, by its C, and by the others that look at it."""
+    """As many ports, elements, parameters and columns as kinds may have: each command that reads a diagram says what is due, and so do its C and its dump."""
     trace, inputs = kinds_due(), json.dumps([[]] * 254 + [[64, 2**32 - 1, 63]]).encode()
+    kinds, schedule = kinds_mapped()
     with tempfile.TemporaryDirectory() as work:
         put(work, d=content_of(kinds_at_the_limits()), i=inputs, t=trace.encode())
         put(work, c=answer(program, ['ccode', 'd'], work)[0], s=answer(program, ['save', 'd', 'i', '100', '100', '3'], work)[0],
             w=answer(program, ['vcd', 'd', 'i', '100', '100'], work)[0])
         out, *told = answer(program, ['vcdat', 'w', '4'], work)
-        wrong = wrong_lines(program, work, ('check d', whole('ok 16 2 16 2\n')), ('simulate d i 100 100', whole(trace)), ('crun c i 100 100', whole(trace)),
+        wrong = wrong_lines(program, work, ('check d', whole('ok 16 2 16 2\n')), ('map d', whole(kinds)), ('schedule d', whole(schedule)),
+                            ('simulate d i 100 100', whole(trace)), ('crun c i 100 100', whole(trace)),
                             ('judge d i t 100 100', whole('yes %d\n' % trace.count('\n'))),
                             ('resume d i s 100 100', whole(trace[trace.index('event 6'):])))
     held = dict(line.split() for line in out.decode().splitlines())
@@ -331,15 +345,15 @@ def wrong_inputs(program, inputs, count, dues):
 
 
 def longest_inputs(program):
-    """Input files of the greatest length, without a space that may be left out: one column of 8,388,606 values, and for two of the commands as many columns
-    as fit in; the last of the values is looked at too. One byte more is refused by each command."""
+    """Input files of the greatest length, without a space that may be left out: one column of 8,388,606 values, and as many columns as fit in; the last of
+    the values is looked at too. One byte more is refused by each command."""
     begin, end = '[[7,8,9', ']]'
     count = (INPUT_MOST - len(begin + end)) // 2
     column = begin + ',1' * count + end
     columns = begin + ']' + ',[]' * ((INPUT_MOST - len(begin + end)) // 3) + ']'
     outside = [refused('28 InputRange at 2 1 %d 999' % (count + 2))]
     wrong = []
-    for what, inputs, commands, dues in (('values', column, 6, None), ('columns', columns, 2, None),
+    for what, inputs, commands, dues in (('values', column, 6, None), ('columns', columns, 6, None),
                                          ('a value', begin + ',1' * (count - 2) + ',999' + end, 1, outside),
                                          ('a byte', column.ljust(INPUT_MOST + 1), 6, [refused('29 FileTooLong at - 2 16777216')] * 6)):
         wrong += ['%s, %s' % (what, told) for told in wrong_inputs(program, inputs.ljust(INPUT_MOST).encode(), commands, dues)]

@@ -1,4 +1,5 @@
-"""Mistakes that no other case would tell: in lists of pending events, in what a C text may have for a space, and in which files are asked for.
+"""Mistakes that no other case would tell: in lists of pending events, in what a C text may have for a space, in which files are asked for, and in how often
+something is written behind a fault.
 
 docs/MISTAKES.md names them, and what is due is written here by hand.
 """
@@ -151,6 +152,37 @@ def files_asked(program):
     return '; '.join(wrong)[:800]
 
 
+def written(program, words, work, **streams):
+    """Each call that a run makes to write something: on which stream, and how many bytes that took, or -1; and the status. None where strace can't tell."""
+    log = os.path.join(work, 'log')
+    ended = subprocess.run(['strace', '-f', '-qq', '-e', 'trace=write,writev,pwrite64,sendto', '-o', log, program] + words, cwd=work,
+                           stdin=subprocess.DEVNULL, timeout=120, **streams)
+    told = text(log).decode(errors='replace') if os.path.exists(log) else ''
+    return [(int(stream), int(count)) for stream, count in re.findall(r'\b(?:p?write\w*|sendto)\((\d+), .* = (-?\d+)', told)] or None, ended.returncode
+
+
+def nothing_behind_a_fault(program):
+    """Where a write to standard output fails, no other is tried there, and the fault is told by one write to standard error, which is not tried again
+    either; so it is where standard error fails first."""
+    what = 'how often the program writes'
+    if lacks(what, 'strace'):
+        return ''
+    undefined = HEAD_OF_C + UNDEFINED_C[0][0]
+    with tempfile.TemporaryDirectory() as work, open('/dev/full', 'wb') as full, open(os.devnull, 'wb') as null:
+        lines = [words for words, _ in meter(program, work)]
+        with open(os.path.join(work, 'u'), 'w') as file:
+            file.write(undefined)
+        if written(program, ['host'], work, stdout=null, stderr=null)[0] is None:
+            untried(what, 'a strace that may trace')
+            return ''
+        dues = [(words, streams, due) for words in lines for streams, due in (({'stdout': full, 'stderr': null}, [(1, -1), (2, len(b'write fault\n'))]),
+                                                                             ({'stdout': full, 'stderr': full}, [(1, -1), (2, -1)]))]
+        dues += [(words, {'stdout': null, 'stderr': full}, [(2, -1)])
+                 for words in (['check'], ['check', 'c'], ['check', 'x'], ['crun', 'u', 'i', '10', '10'], ['simulate', 'd', 'd', '30', '100'])]
+        given = [(words, due, written(program, words, work, **streams)) for words, streams, due in dues]
+    return '; '.join('%s: %r' % (' '.join(words), found) for words, due, found in given if found != (due, 4))[:800]
+
+
 def joined(*patterns):
     """The text of all files of these names."""
     return ''.join(text(path).decode() for pattern in patterns for path in sorted(glob.glob(os.path.join(TOP, *pattern))))
@@ -175,4 +207,5 @@ def page_of_mistakes(program):
     return ', '.join(wrong) or ('' if len(named) > 40 else 'too few names: %d' % len(named))
 
 
-OF_MISTAKES = [page_of_mistakes, removed_between_neighbours, far_events_in_order, events_in_many_chains, spaces_of_code, wrong_programs, files_asked]
+OF_MISTAKES = [page_of_mistakes, removed_between_neighbours, far_events_in_order, events_in_many_chains, spaces_of_code, wrong_programs, files_asked,
+               nothing_behind_a_fault]

@@ -8,6 +8,7 @@ import sys
 import tempfile
 
 from lacking import lacks, untried
+from ranges import beside
 
 TOP = os.path.join(os.path.dirname(os.path.abspath(__file__)), '..')
 LONGEST = 1500  # seconds for all tests of the package; each test has a limit of its own (python/tests/conftest.py)
@@ -61,7 +62,8 @@ def package(program):
         words = [python, '-m', 'pytest', '-v', '-rs', '--durations=10', '-p', 'no:cacheprovider', '--basetemp', os.path.join(work, 'tests'), 'tests']
         log = os.path.join(work, 'log')
         status = ended(words, log, LONGEST, cwd=os.path.join(TOP, 'python'),
-                       env=dict(os.environ, SCICOS=os.path.abspath(program), PYTHONDONTWRITEBYTECODE='1'))
+                       env=dict(os.environ, SCICOS=os.path.abspath(program), SCICOS_RANGES=beside(program),
+                                PYTHONDONTWRITEBYTECODE='1'))
         with open(log, encoding='utf-8', errors='replace') as file:
             text = file.read()
     if status is None:

@@ -11,6 +11,7 @@ import tempfile
 
 from lacking import lacks, untried
 from plain import in_folder
+from ranges import beside
 
 TOP = os.path.join(os.path.dirname(os.path.abspath(__file__)), '..')
 EXAMPLES = os.path.join(TOP, 'examples')
@@ -75,6 +76,8 @@ def furnish(program, work):
     os.mkdir(os.path.join(work, 'inputs'))
     for place in ('scicos', os.path.join('release', 'scicos'), os.path.join('crates', 'scicos', 'out', 'scicos')):
         os.symlink(program, os.path.join(work, place))
+    for place in ('ranges', os.path.join('release', 'ranges')):
+        os.symlink(beside(program), os.path.join(work, place))
     for folder in ('examples', 'tools', 'bench', 'cases', 'docs', 'python'):
         shutil.copytree(os.path.join(TOP, folder), os.path.join(work, folder))
     for name in ('scicos-kit', 'crates.txt'):
@@ -86,7 +89,7 @@ def furnish(program, work):
     shutil.copy(os.path.join(EXAMPLES, 'first.json'), os.path.join(work, 'my-diagram.json'))
     shutil.copy(os.path.join(EXAMPLES, 'watchdog', 'diagram.json'), os.path.join(work, 'd.json'))
     shown = ['\n'.join(lines) + '\n' for word, lines in blocks(text_of(TOP, 'docs', 'SHIPPING.md')) if word == 'c']
-    for name, content in zip(('stepped.c', 'ticks.c', 'host.c', 'board.c'), shown):
+    for name, content in zip(('stepped.c', 'ticks.c', 'task.c', 'plant.c', 'host.c', 'board.c'), shown):
         with open(os.path.join(work, name), 'w') as file:
             file.write(content)
     for name, gaps in (('one', [20, 70, -1]), ('two', [49, 51, 50, -1])):

@@ -16,7 +16,7 @@ HERE = os.path.dirname(os.path.abspath(__file__))
 TOP = os.path.join(HERE, '..')
 EXAMPLES = os.path.join(TOP, 'examples')
 FLAGS = ['-std=c99', '-Wall', '-Wextra', '-pedantic', '-Werror', '-O2']
-SPARE = ['-Wno-unused-function', '-Wno-unused-variable']
+SPARE = ['-Wno-unused-function']
 FROM_LOOPS = {'memcpy', 'memmove', 'memset'}  # what gcc makes of a loop that copies, moves or clears elements
 QUADRATURE = os.path.join(EXAMPLES, 'quadrature', 'diagram.json')  # which has two sensors
 PROGRAMS = sorted(glob.glob(os.path.join(EXAMPLES, '*', 'program.c')))
@@ -135,14 +135,17 @@ def program_names(program):
 
 
 def annotations(program):
-    """Without its lines of comments the annotated twin of each design's C is what `ccode` prints; the twin is C without a warning."""
+    """Without its lines of comments the annotated twin of each design's C is what `ccode` prints. Each variable, function, told value and state has one. The
+    twin is C without a warning.
+    """
     wrong, is_bare = [], lacks('the annotated C as C', 'gcc')
     with tempfile.TemporaryDirectory() as work:
         for path in DIAGRAMS:
             run = subprocess.run([os.path.join(TOP, 'tools', 'annotate'), path], capture_output=True, text=True, timeout=120)
             due = subprocess.run([program, 'ccode', path], capture_output=True, text=True, timeout=120).stdout
             bare, told = re.subn(r'^ */\* .* \*/\n', '', run.stdout, flags=re.M)
-            same = bare == due and told > len(re.findall(r'^static void [fs]\d+', due, re.M)) > 0 and not run.stderr
+            lines = r'static int64_t |(?:static )?void \w+\(void\) \{| *v2\[.*\] = | *sci_val\('
+            same = bare == due and told > 0 and not re.search(r'(?<! \*/\n)^(?:%s)' % lines, run.stdout, re.M) and not run.stderr
             wrong += [] if same else ['%s: %r' % (path, run.stderr)]
             with open(os.path.join(work, 'twin.c'), 'w') as file:
                 file.write(run.stdout)

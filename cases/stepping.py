@@ -1,5 +1,5 @@
-"""examples/step-host.h steps programs from outside: two designs in one program, each stepped in portions of time of its own, tell the values of their
-traces, the date of the next event behind each step, and how the run ends; sanitizers find nothing."""
+"""examples/step-host.h steps programs from outside: two designs in one program, or one twice, each stepped in portions of time of its own, tell the values of
+their traces, also of several events at one date, the date of the next event behind each step, and how the run ends; sanitizers find nothing."""
 import json
 import os
 import random
@@ -11,12 +11,14 @@ from lacking import lacks
 
 HERE = os.path.dirname(os.path.abspath(__file__))
 EXAMPLES = os.path.join(HERE, '..', 'examples')
-FLAGS = ['-std=c99', '-Wall', '-Wextra', '-pedantic', '-Werror', '-Wno-unused-function', '-Wno-unused-variable', '-O1', '-g']
+FLAGS = ['-std=c99', '-Wall', '-Wextra', '-pedantic', '-Werror', '-Wno-unused-function', '-O1', '-g']
 SANITIZERS = ['-fsanitize=undefined,address', '-fno-sanitize-recover=all']
 PAIRS = [[(EXAMPLES, 'thermostat', 'diagram.json', 'inputs.json'), (EXAMPLES, 'traffic-light', 'diagram.json', 'inputs.json')],
          [(EXAMPLES, 'watchdog', 'diagram.json', 'inputs.json'), (EXAMPLES, '', 'superblocks.json', 'no-inputs.json')],
          [(HERE, 'simulate-halt', 'd', 'i'), (HERE, 'simulate-quotient-int8-mode-2', 'd', 'i')],
-         [(HERE, 'simulate-product-uint32-mode-0', 'd', 'i'), (EXAMPLES, 'quadrature', 'diagram.json', 'inputs.json')]]
+         [(HERE, 'simulate-product-uint32-mode-0', 'd', 'i'), (EXAMPLES, 'quadrature', 'diagram.json', 'inputs.json')],
+         [(HERE, 'simulate-two-events-of-one-date', 'd', 'i'), (HERE, 'simulate-40-sources', 'd', 'i')],
+         [(EXAMPLES, 'traffic-light', 'diagram.json', 'inputs.json')] * 2]
 HOST = '''#include <stdint.h>
 #include <stdio.h>
 #define STEP(name) %(name)s_##name

@@ -21,7 +21,8 @@
 
    `init` and `step` answer how the run stands: STEP(goes_on), STEP(over) or STEP(stopped). `word` tells more: of a run that is over 0 where a HALT_f
    acted, 2 where nothing is pending any more, 3 where the next date is past 2^62; of one that has stopped 0 where a result didn't fit its type, 1 where a
-   divisor was 0, and `block` tells the block. From then on `step` does nothing. That a HALT_f acted is told when the next event is due. */
+   divisor was 0, and `block` tells the block. From then on `step` does nothing. That a HALT_f acted is told when the next event is due, and by `init`
+   where it acted at start. */
 #include <setjmp.h>
 #include <stdint.h>
 

@@ -7,6 +7,7 @@ import importlib.util
 import json
 import os
 import sys
+import types
 
 import plain_kinds as kinds
 
@@ -17,7 +18,7 @@ from scicos.flat import REGULAR, Flat  # noqa: E402
 from scicos.flat_wiring import Wiring  # noqa: E402
 
 
-def script(name):
+def script(name: str) -> types.ModuleType:
     """A script of this folder, as a module."""
     loader = importlib.machinery.SourceFileLoader(name, os.path.join(HERE, name))
     module = importlib.util.module_from_spec(importlib.util.spec_from_loader(name, loader))

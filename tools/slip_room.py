@@ -37,15 +37,15 @@ def read(path: str) -> str:
         return file.read()
 
 
-def read_slips() -> list[Slip]:
-    """The slips of slips.txt, in their order."""
+def read_slips(name: str = 'slips.txt', table: str = TABLE) -> list[Slip]:
+    """The slips of a list of this folder, in their order; those of kinds are in this table, where no other file is named."""
     slips: list[Slip] = []
     kinds: tuple[str, ...] = ()
-    values, definition = '', TABLE
-    for line in read('../tools/slips.txt').split('\n'):
+    values, definition = '', table
+    for line in read(f'../tools/{name}').split('\n'):
         word, _, rest = line.partition(': ')
         if word == 'kind':
-            kinds, definition = tuple(rest.split()), TABLE
+            kinds, definition = tuple(rest.split()), table
         elif word == 'values':
             kinds, values = (), rest
         elif word == 'definition':
@@ -63,7 +63,7 @@ def read_slips() -> list[Slip]:
         elif word == 'new':
             slips[-1] = slips[-1]._replace(new=rest)
         elif line.strip() and not line.startswith('#'):
-            sys.exit(f'slips.txt: {line}')
+            sys.exit(f'{name}: {line}')
     return slips
 
 

@@ -9,7 +9,7 @@
    gcc -DSCI_PROGRAM="$(cksum < program.c | cut -d' ' -f1)u" names of another diagram are an error. */
 #define SCI_BLOCKS 11
 #define SCI_COLUMNS 2
-#define SCI_CHECKSUM 1574150060u
+#define SCI_CHECKSUM 4036255265u
 #if defined SCI_PROGRAM
 #if SCI_PROGRAM != SCI_CHECKSUM
 #error "the names are of another diagram than the program: make them again by scicos-kit header"

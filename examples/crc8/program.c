@@ -11,23 +11,20 @@ extern int64_t sci_limit(void);
 static int64_t v1[17];
 static int64_t v2[2];
 static int64_t v3[20];
-static int64_t v4[20];
 static int64_t v5[20];
 static int64_t v6[2];
 static int64_t v7[2];
 static int64_t t1;
 static int64_t t2;
 static int64_t t3;
-static int64_t t4;
 static int64_t n1;
 static int64_t i1;
 static int64_t d2;
 static int64_t u1;
 static int64_t d1;
-static int64_t o1;
 static int64_t b1;
 static int64_t e1;
-static int64_t k1;
+static int64_t o1;
 static void f1(void) {
 }
 static void f2(void) {
@@ -44,16 +41,21 @@ static void f4(void) {
   v1[INT64_C(1)] = v2[INT64_C(0)];
 }
 static void f5(void) {
-  t2 = INT64_C(0);
-  t3 = INT64_C(1);
-  for (t4 = INT64_C(0); t4 < INT64_C(8); t4 = t4 + INT64_C(1)) {
-    t1 = INT64_C(0);
-    t1 = (t1 + (((((v1[INT64_C(1)] * t3) % INT64_C(256)) + INT64_C(256)) % INT64_C(256)) / INT64_C(128)));
-    t1 = (t1 + (((((v1[INT64_C(0)] * t3) % INT64_C(256)) + INT64_C(256)) % INT64_C(256)) / INT64_C(128)));
-    t2 = ((t2 * INT64_C(2)) + (int64_t)((t1 % INT64_C(2)) == INT64_C(1)));
-    t3 = (t3 * INT64_C(2));
+  t1 = (((v1[INT64_C(1)] % INT64_C(256)) + INT64_C(256)) % INT64_C(256));
+  t2 = (((v1[INT64_C(0)] % INT64_C(256)) + INT64_C(256)) % INT64_C(256));
+  for (t3 = INT64_C(0); t3 < INT64_C(4); t3 = t3 + INT64_C(1)) {
+    if (((t1 + t2) % INT64_C(2))) {
+      t1 = (t1 + INT64_C(256));
+    }
+    t1 = (t1 / INT64_C(2));
+    t2 = (t2 / INT64_C(2));
+    if (((t1 + t2) % INT64_C(2))) {
+      t1 = (t1 + INT64_C(256));
+    }
+    t1 = (t1 / INT64_C(2));
+    t2 = (t2 / INT64_C(2));
   }
-  v1[INT64_C(2)] = (INT64_C(0) + ((((t2 - INT64_C(0)) % INT64_C(256)) + INT64_C(256)) % INT64_C(256)));
+  v1[INT64_C(2)] = (INT64_C(0) + ((((t1 - INT64_C(0)) % INT64_C(256)) + INT64_C(256)) % INT64_C(256)));
 }
 static void f6(void) {
   v1[INT64_C(3)] = (INT64_C(0) + (((((v1[INT64_C(1)] * INT64_C(2)) - INT64_C(0)) % INT64_C(256)) + INT64_C(256)) % INT64_C(256)));
@@ -62,16 +64,21 @@ static void f7(void) {
   v1[INT64_C(4)] = INT64_C(7);
 }
 static void f8(void) {
-  t2 = INT64_C(0);
-  t3 = INT64_C(1);
-  for (t4 = INT64_C(0); t4 < INT64_C(8); t4 = t4 + INT64_C(1)) {
-    t1 = INT64_C(0);
-    t1 = (t1 + (((((v1[INT64_C(3)] * t3) % INT64_C(256)) + INT64_C(256)) % INT64_C(256)) / INT64_C(128)));
-    t1 = (t1 + (((((v1[INT64_C(4)] * t3) % INT64_C(256)) + INT64_C(256)) % INT64_C(256)) / INT64_C(128)));
-    t2 = ((t2 * INT64_C(2)) + (int64_t)((t1 % INT64_C(2)) == INT64_C(1)));
-    t3 = (t3 * INT64_C(2));
+  t1 = (((v1[INT64_C(3)] % INT64_C(256)) + INT64_C(256)) % INT64_C(256));
+  t2 = (((v1[INT64_C(4)] % INT64_C(256)) + INT64_C(256)) % INT64_C(256));
+  for (t3 = INT64_C(0); t3 < INT64_C(4); t3 = t3 + INT64_C(1)) {
+    if (((t1 + t2) % INT64_C(2))) {
+      t1 = (t1 + INT64_C(256));
+    }
+    t1 = (t1 / INT64_C(2));
+    t2 = (t2 / INT64_C(2));
+    if (((t1 + t2) % INT64_C(2))) {
+      t1 = (t1 + INT64_C(256));
+    }
+    t1 = (t1 / INT64_C(2));
+    t2 = (t2 / INT64_C(2));
   }
-  v1[INT64_C(5)] = (INT64_C(0) + ((((t2 - INT64_C(0)) % INT64_C(256)) + INT64_C(256)) % INT64_C(256)));
+  v1[INT64_C(5)] = (INT64_C(0) + ((((t1 - INT64_C(0)) % INT64_C(256)) + INT64_C(256)) % INT64_C(256)));
 }
 static void f9(void) {
   if ((int64_t)(v1[INT64_C(1)] >= INT64_C(128))) {
@@ -129,15 +136,11 @@ static void f20(void) {
   v1[INT64_C(16)] = v1[INT64_C(7)];
 }
 static void g3(void) {
-  b1 = (-INT64_C(1));
-  for (k1 = INT64_C(0); k1 < INT64_C(2); k1 = k1 + INT64_C(1)) {
-    if ((int64_t)((int64_t)(v6[k1] >= INT64_C(0)) && (int64_t)((int64_t)(b1 < INT64_C(0)) || (int64_t)((int64_t)(v6[k1] < v6[b1]) || (int64_t)((int64_t)(v6[k1] == v6[b1]) && (int64_t)(v7[k1] < v7[b1])))))) {
-      b1 = k1;
-    }
-  }
-  d2 = (-INT64_C(1));
-  if ((int64_t)(b1 >= INT64_C(0))) {
-    d2 = v6[b1];
+  b1 = INT64_C(0);
+  d2 = v6[INT64_C(0)];
+  if ((int64_t)((int64_t)((int64_t)(d2 < INT64_C(0)) || (int64_t)(v6[INT64_C(1)] <= d2)) && (int64_t)((int64_t)(v6[INT64_C(1)] >= INT64_C(0)) && (int64_t)((int64_t)(v6[INT64_C(1)] != d2) || (int64_t)(v7[INT64_C(1)] < v7[b1]))))) {
+    b1 = INT64_C(1);
+    d2 = v6[INT64_C(1)];
   }
 }
 static void s0(void) {
@@ -156,7 +159,6 @@ static void s0(void) {
 static void s1(void) {
   sci_event(d1, INT64_C(1), INT64_C(1));
   v5[INT64_C(18)] = INT64_C(0);
-  v4[INT64_C(19)] = INT64_C(0);
   f1();
   f2();
   f3();
@@ -175,9 +177,6 @@ static void s1(void) {
   v3[INT64_C(9)] = INT64_C(1);
   f10();
   if ((int64_t)(v5[INT64_C(18)] == INT64_C(2))) {
-    v4[INT64_C(19)] = INT64_C(1);
-  }
-  if (v4[INT64_C(19)]) {
     f20();
   }
   sci_val(INT64_C(3), INT64_C(1), INT64_C(1), v1[INT64_C(0)]);
@@ -191,7 +190,7 @@ static void s1(void) {
   sci_val(INT64_C(13), INT64_C(1), INT64_C(1), v1[INT64_C(10)]);
   sci_val(INT64_C(15), INT64_C(1), INT64_C(1), v1[INT64_C(12)]);
   sci_val(INT64_C(18), INT64_C(1), INT64_C(1), v1[INT64_C(15)]);
-  if (v4[INT64_C(19)]) {
+  if ((int64_t)(v5[INT64_C(18)] == INT64_C(2))) {
     sci_val(INT64_C(20), INT64_C(1), INT64_C(1), v1[INT64_C(16)]);
   }
   v6[INT64_C(0)] = (d1 + INT64_C(10));
@@ -209,7 +208,6 @@ static void s1(void) {
 static void s2(void) {
   sci_event(d1, INT64_C(2), INT64_C(1));
   v5[INT64_C(18)] = INT64_C(0);
-  v4[INT64_C(19)] = INT64_C(0);
   f2();
   f4();
   f11();
@@ -226,9 +224,6 @@ static void s2(void) {
   v3[INT64_C(9)] = INT64_C(2);
   f10();
   if ((int64_t)(v5[INT64_C(18)] == INT64_C(2))) {
-    v4[INT64_C(19)] = INT64_C(1);
-  }
-  if (v4[INT64_C(19)]) {
     f20();
   }
   sci_val(INT64_C(4), INT64_C(1), INT64_C(1), v1[INT64_C(1)]);
@@ -241,7 +236,7 @@ static void s2(void) {
   sci_val(INT64_C(13), INT64_C(1), INT64_C(1), v1[INT64_C(10)]);
   sci_val(INT64_C(15), INT64_C(1), INT64_C(1), v1[INT64_C(12)]);
   sci_val(INT64_C(18), INT64_C(1), INT64_C(1), v1[INT64_C(15)]);
-  if (v4[INT64_C(19)]) {
+  if ((int64_t)(v5[INT64_C(18)] == INT64_C(2))) {
     sci_val(INT64_C(20), INT64_C(1), INT64_C(1), v1[INT64_C(16)]);
   }
   e1 = (((int64_t)(v1[INT64_C(15)] >= INT64_C(0)) * (((int64_t)(v1[INT64_C(15)] <= INT64_C(2147483647)) * v1[INT64_C(15)]) + ((int64_t)(v1[INT64_C(15)] > INT64_C(2147483647)) * INT64_C(2147483647)))) - (int64_t)(v1[INT64_C(15)] < INT64_C(0)));

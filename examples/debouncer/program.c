@@ -21,10 +21,9 @@ static int64_t i1;
 static int64_t d2;
 static int64_t u1;
 static int64_t d1;
-static int64_t o1;
 static int64_t b1;
 static int64_t e1;
-static int64_t k1;
+static int64_t o1;
 static void f1(void) {
 }
 static void f2(void) {
@@ -155,15 +154,11 @@ static void f28(void) {
   }
 }
 static void g3(void) {
-  b1 = (-INT64_C(1));
-  for (k1 = INT64_C(0); k1 < INT64_C(2); k1 = k1 + INT64_C(1)) {
-    if ((int64_t)((int64_t)(v6[k1] >= INT64_C(0)) && (int64_t)((int64_t)(b1 < INT64_C(0)) || (int64_t)((int64_t)(v6[k1] < v6[b1]) || (int64_t)((int64_t)(v6[k1] == v6[b1]) && (int64_t)(v7[k1] < v7[b1])))))) {
-      b1 = k1;
-    }
-  }
-  d2 = (-INT64_C(1));
-  if ((int64_t)(b1 >= INT64_C(0))) {
-    d2 = v6[b1];
+  b1 = INT64_C(0);
+  d2 = v6[INT64_C(0)];
+  if ((int64_t)((int64_t)((int64_t)(d2 < INT64_C(0)) || (int64_t)(v6[INT64_C(1)] <= d2)) && (int64_t)((int64_t)(v6[INT64_C(1)] >= INT64_C(0)) && (int64_t)((int64_t)(v6[INT64_C(1)] != d2) || (int64_t)(v7[INT64_C(1)] < v7[b1]))))) {
+    b1 = INT64_C(1);
+    d2 = v6[INT64_C(1)];
   }
 }
 static void s0(void) {
@@ -194,9 +189,7 @@ static void s1(void) {
   v5[INT64_C(14)] = INT64_C(0);
   v4[INT64_C(17)] = INT64_C(0);
   v4[INT64_C(18)] = INT64_C(0);
-  v4[INT64_C(19)] = INT64_C(0);
   v4[INT64_C(27)] = INT64_C(0);
-  v4[INT64_C(21)] = INT64_C(0);
   f1();
   f2();
   f3();
@@ -231,9 +224,6 @@ static void s1(void) {
     f19();
   }
   if ((int64_t)(v5[INT64_C(14)] == INT64_C(3))) {
-    v4[INT64_C(19)] = INT64_C(1);
-  }
-  if (v4[INT64_C(19)]) {
     f20();
   }
   v3[INT64_C(27)] = INT64_C(0);
@@ -245,9 +235,6 @@ static void s1(void) {
     f28();
   }
   if ((int64_t)(v5[INT64_C(14)] == INT64_C(3))) {
-    v4[INT64_C(21)] = INT64_C(1);
-  }
-  if (v4[INT64_C(21)]) {
     f22();
   }
   sci_val(INT64_C(2), INT64_C(1), INT64_C(1), v1[INT64_C(0)]);
@@ -262,10 +249,10 @@ static void s1(void) {
   if (v4[INT64_C(17)]) {
     sci_val(INT64_C(18), INT64_C(1), INT64_C(1), v1[INT64_C(15)]);
   }
-  if (v4[INT64_C(19)]) {
+  if ((int64_t)(v5[INT64_C(14)] == INT64_C(3))) {
     sci_val(INT64_C(20), INT64_C(1), INT64_C(1), v1[INT64_C(16)]);
   }
-  if (v4[INT64_C(21)]) {
+  if ((int64_t)(v5[INT64_C(14)] == INT64_C(3))) {
     sci_val(INT64_C(22), INT64_C(1), INT64_C(1), v1[INT64_C(18)]);
   }
   if (v4[INT64_C(27)]) {
@@ -284,7 +271,7 @@ static void s1(void) {
   }
   v2[INT64_C(0)] = v1[INT64_C(5)];
   v2[INT64_C(1)] = v1[INT64_C(10)];
-  if (v4[INT64_C(19)]) {
+  if ((int64_t)(v5[INT64_C(14)] == INT64_C(3))) {
     v2[INT64_C(2)] = v1[INT64_C(18)];
   }
 }

@@ -21,10 +21,8 @@ static int64_t i1;
 static int64_t d2;
 static int64_t u1;
 static int64_t d1;
-static int64_t o1;
 static int64_t b1;
-static int64_t e1;
-static int64_t k1;
+static int64_t o1;
 static void f1(void) {
 }
 static void f2(void) {
@@ -207,15 +205,11 @@ static void f37(void) {
   v1[INT64_C(32)] = t1;
 }
 static void g3(void) {
-  b1 = (-INT64_C(1));
-  for (k1 = INT64_C(0); k1 < INT64_C(2); k1 = k1 + INT64_C(1)) {
-    if ((int64_t)((int64_t)(v6[k1] >= INT64_C(0)) && (int64_t)((int64_t)(b1 < INT64_C(0)) || (int64_t)((int64_t)(v6[k1] < v6[b1]) || (int64_t)((int64_t)(v6[k1] == v6[b1]) && (int64_t)(v7[k1] < v7[b1])))))) {
-      b1 = k1;
-    }
-  }
-  d2 = (-INT64_C(1));
-  if ((int64_t)(b1 >= INT64_C(0))) {
-    d2 = v6[b1];
+  b1 = INT64_C(0);
+  d2 = v6[INT64_C(0)];
+  if ((int64_t)((int64_t)((int64_t)(d2 < INT64_C(0)) || (int64_t)(v6[INT64_C(1)] <= d2)) && (int64_t)((int64_t)(v6[INT64_C(1)] >= INT64_C(0)) && (int64_t)((int64_t)(v6[INT64_C(1)] != d2) || (int64_t)(v7[INT64_C(1)] < v7[b1]))))) {
+    b1 = INT64_C(1);
+    d2 = v6[INT64_C(1)];
   }
 }
 static void s0(void) {
@@ -260,15 +254,10 @@ static void s0(void) {
 static void s1(void) {
   sci_event(d1, INT64_C(1), INT64_C(1));
   v5[INT64_C(7)] = INT64_C(0);
-  v4[INT64_C(10)] = INT64_C(0);
-  v4[INT64_C(13)] = INT64_C(0);
-  v4[INT64_C(16)] = INT64_C(0);
-  v4[INT64_C(18)] = INT64_C(0);
   v4[INT64_C(20)] = INT64_C(0);
   v4[INT64_C(31)] = INT64_C(0);
   v4[INT64_C(33)] = INT64_C(0);
   v5[INT64_C(27)] = INT64_C(0);
-  v4[INT64_C(28)] = INT64_C(0);
   f1();
   f2();
   f3();
@@ -281,27 +270,15 @@ static void s1(void) {
   v5[INT64_C(7)] = (((int64_t)(v1[INT64_C(5)] >= INT64_C(1)) * (((int64_t)(v1[INT64_C(5)] <= INT64_C(4)) * v1[INT64_C(5)]) + ((int64_t)(v1[INT64_C(5)] > INT64_C(4)) * INT64_C(4)))) + (int64_t)(v1[INT64_C(5)] < INT64_C(1)));
   f26();
   if ((int64_t)(v5[INT64_C(7)] == INT64_C(1))) {
-    v4[INT64_C(10)] = INT64_C(1);
-  }
-  if (v4[INT64_C(10)]) {
     f11();
   }
   if ((int64_t)(v5[INT64_C(7)] == INT64_C(2))) {
-    v4[INT64_C(13)] = INT64_C(1);
-  }
-  if (v4[INT64_C(13)]) {
     f14();
   }
   if ((int64_t)(v5[INT64_C(7)] == INT64_C(4))) {
-    v4[INT64_C(16)] = INT64_C(1);
-  }
-  if (v4[INT64_C(16)]) {
     f17();
   }
   if ((int64_t)(v5[INT64_C(7)] == INT64_C(4))) {
-    v4[INT64_C(18)] = INT64_C(1);
-  }
-  if (v4[INT64_C(18)]) {
     f19();
   }
   v3[INT64_C(20)] = INT64_C(0);
@@ -360,9 +337,6 @@ static void s1(void) {
   v5[INT64_C(27)] = (INT64_C(2) - (int64_t)(v1[INT64_C(24)] > INT64_C(0)));
   f36();
   if ((int64_t)(v5[INT64_C(27)] == INT64_C(1))) {
-    v4[INT64_C(28)] = INT64_C(1);
-  }
-  if (v4[INT64_C(28)]) {
     f29();
   }
   f37();
@@ -371,16 +345,16 @@ static void s1(void) {
   sci_val(INT64_C(4), INT64_C(1), INT64_C(1), v1[INT64_C(2)]);
   sci_val(INT64_C(5), INT64_C(1), INT64_C(1), v1[INT64_C(3)]);
   sci_val(INT64_C(7), INT64_C(1), INT64_C(1), v1[INT64_C(5)]);
-  if (v4[INT64_C(10)]) {
+  if ((int64_t)(v5[INT64_C(7)] == INT64_C(1))) {
     sci_val(INT64_C(11), INT64_C(1), INT64_C(1), v1[INT64_C(8)]);
   }
-  if (v4[INT64_C(13)]) {
+  if ((int64_t)(v5[INT64_C(7)] == INT64_C(2))) {
     sci_val(INT64_C(14), INT64_C(1), INT64_C(1), v1[INT64_C(11)]);
   }
-  if (v4[INT64_C(16)]) {
+  if ((int64_t)(v5[INT64_C(7)] == INT64_C(4))) {
     sci_val(INT64_C(17), INT64_C(1), INT64_C(1), v1[INT64_C(14)]);
   }
-  if (v4[INT64_C(18)]) {
+  if ((int64_t)(v5[INT64_C(7)] == INT64_C(4))) {
     sci_val(INT64_C(19), INT64_C(1), INT64_C(1), v1[INT64_C(16)]);
   }
   if (v4[INT64_C(20)]) {
@@ -402,7 +376,7 @@ static void s1(void) {
   v6[INT64_C(0)] = (d1 + INT64_C(200));
   v7[INT64_C(0)] = o1;
   o1 = (o1 + INT64_C(1));
-  if (v4[INT64_C(28)]) {
+  if ((int64_t)(v5[INT64_C(27)] == INT64_C(1))) {
     v6[INT64_C(1)] = (d1 + INT64_C(3000));
     v7[INT64_C(1)] = o1;
     o1 = (o1 + INT64_C(1));

@@ -10,10 +10,7 @@ extern int64_t sci_until(void);
 extern int64_t sci_limit(void);
 static int64_t v1[50];
 static int64_t v2[8];
-static int64_t v3[10];
-static int64_t v4[10];
 static int64_t v6[1];
-static int64_t v7[1];
 static int64_t t1;
 static int64_t t2;
 static int64_t n1;
@@ -21,10 +18,6 @@ static int64_t i1;
 static int64_t d2;
 static int64_t u1;
 static int64_t d1;
-static int64_t o1;
-static int64_t b1;
-static int64_t e1;
-static int64_t k1;
 static void f1(void) {
 }
 static void f2(void) {
@@ -37,13 +30,11 @@ static void f2(void) {
 }
 static void f3(void) {
   t1 = v1[INT64_C(0)];
-  if ((int64_t)(t1 < (-INT64_C(2147483648)))) {
+  if ((int64_t)((int64_t)(t1 < (-INT64_C(2147483648))) || (int64_t)(t1 > INT64_C(2147483647)))) {
     sci_stop(INT64_C(0), INT64_C(3), INT64_C(0));
+  } else {
+    v1[INT64_C(1)] = t1;
   }
-  if ((int64_t)(t1 > INT64_C(2147483647))) {
-    sci_stop(INT64_C(0), INT64_C(3), INT64_C(0));
-  }
-  v1[INT64_C(1)] = t1;
 }
 static void f4(void) {
   for (t1 = INT64_C(0); t1 < INT64_C(8); t1 = t1 + INT64_C(1)) {
@@ -82,13 +73,11 @@ static void f7(void) {
 static void f8(void) {
   for (t2 = INT64_C(0); t2 < INT64_C(8); t2 = t2 + INT64_C(1)) {
     t1 = (v1[(t2 + INT64_C(17))] * v1[(t2 + INT64_C(25))]);
-    if ((int64_t)(t1 < (-INT64_C(2147483648)))) {
+    if ((int64_t)((int64_t)(t1 < (-INT64_C(2147483648))) || (int64_t)(t1 > INT64_C(2147483647)))) {
       sci_stop(INT64_C(0), INT64_C(8), INT64_C(0));
+    } else {
+      v1[(t2 + INT64_C(33))] = t1;
     }
-    if ((int64_t)(t1 > INT64_C(2147483647))) {
-      sci_stop(INT64_C(0), INT64_C(8), INT64_C(0));
-    }
-    v1[(t2 + INT64_C(33))] = t1;
   }
 }
 static void f9(void) {
@@ -106,13 +95,11 @@ static void f10(void) {
   t1 = (t1 + v1[INT64_C(46)]);
   t1 = (t1 + v1[INT64_C(47)]);
   t1 = (t1 + v1[INT64_C(48)]);
-  if ((int64_t)(t1 < (-INT64_C(2147483648)))) {
+  if ((int64_t)((int64_t)(t1 < (-INT64_C(2147483648))) || (int64_t)(t1 > INT64_C(2147483647)))) {
     sci_stop(INT64_C(0), INT64_C(10), INT64_C(0));
+  } else {
+    v1[INT64_C(49)] = t1;
   }
-  if ((int64_t)(t1 > INT64_C(2147483647))) {
-    sci_stop(INT64_C(0), INT64_C(10), INT64_C(0));
-  }
-  v1[INT64_C(49)] = t1;
 }
 static void g3(void) {
   d2 = v6[INT64_C(0)];
@@ -159,8 +146,6 @@ static void s1(void) {
   sci_val(INT64_C(9), INT64_C(8), INT64_C(1), v1[INT64_C(48)]);
   sci_val(INT64_C(10), INT64_C(1), INT64_C(1), v1[INT64_C(49)]);
   v6[INT64_C(0)] = (d1 + INT64_C(1));
-  v7[INT64_C(0)] = o1;
-  o1 = (o1 + INT64_C(1));
   for (t1 = INT64_C(0); t1 < INT64_C(8); t1 = t1 + INT64_C(1)) {
     v2[(t1 + INT64_C(0))] = v1[(t1 + INT64_C(17))];
   }
@@ -180,7 +165,6 @@ static void g4(void) {
   }
 }
 void sci_main(void) {
-  o1 = INT64_C(1);
   u1 = sci_until();
   n1 = sci_limit();
   s0();

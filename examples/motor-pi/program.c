@@ -10,8 +10,6 @@ extern int64_t sci_until(void);
 extern int64_t sci_limit(void);
 static int64_t v1[26];
 static int64_t v2[2];
-static int64_t v3[29];
-static int64_t v4[29];
 static int64_t v6[3];
 static int64_t v7[3];
 static int64_t t1;
@@ -20,10 +18,9 @@ static int64_t i1;
 static int64_t d2;
 static int64_t u1;
 static int64_t d1;
-static int64_t o1;
 static int64_t b1;
 static int64_t e1;
-static int64_t k1;
+static int64_t o1;
 static void f1(void) {
 }
 static void f2(void) {
@@ -69,36 +66,30 @@ static void f9(void) {
   t1 = INT64_C(0);
   t1 = (t1 + v1[INT64_C(4)]);
   t1 = (t1 - v1[INT64_C(22)]);
-  if ((int64_t)(t1 < (-INT64_C(2147483648)))) {
+  if ((int64_t)((int64_t)(t1 < (-INT64_C(2147483648))) || (int64_t)(t1 > INT64_C(2147483647)))) {
     sci_stop(INT64_C(0), INT64_C(9), INT64_C(0));
+  } else {
+    v1[INT64_C(5)] = t1;
   }
-  if ((int64_t)(t1 > INT64_C(2147483647))) {
-    sci_stop(INT64_C(0), INT64_C(9), INT64_C(0));
-  }
-  v1[INT64_C(5)] = t1;
 }
 static void f10(void) {
   t1 = (INT64_C(819) * v1[INT64_C(5)]);
-  if ((int64_t)(t1 < (-INT64_C(2147483648)))) {
+  if ((int64_t)((int64_t)(t1 < (-INT64_C(2147483648))) || (int64_t)(t1 > INT64_C(2147483647)))) {
     sci_stop(INT64_C(0), INT64_C(10), INT64_C(0));
+  } else {
+    v1[INT64_C(6)] = t1;
   }
-  if ((int64_t)(t1 > INT64_C(2147483647))) {
-    sci_stop(INT64_C(0), INT64_C(10), INT64_C(0));
-  }
-  v1[INT64_C(6)] = t1;
 }
 static void f11(void) {
   v1[INT64_C(7)] = ((v1[INT64_C(6)] - (((v1[INT64_C(6)] % INT64_C(4096)) + INT64_C(4096)) % INT64_C(4096))) / INT64_C(4096));
 }
 static void f12(void) {
   t1 = (INT64_C(131) * v1[INT64_C(5)]);
-  if ((int64_t)(t1 < (-INT64_C(2147483648)))) {
+  if ((int64_t)((int64_t)(t1 < (-INT64_C(2147483648))) || (int64_t)(t1 > INT64_C(2147483647)))) {
     sci_stop(INT64_C(0), INT64_C(12), INT64_C(0));
+  } else {
+    v1[INT64_C(8)] = t1;
   }
-  if ((int64_t)(t1 > INT64_C(2147483647))) {
-    sci_stop(INT64_C(0), INT64_C(12), INT64_C(0));
-  }
-  v1[INT64_C(8)] = t1;
 }
 static void f13(void) {
   v1[INT64_C(9)] = v2[INT64_C(0)];
@@ -110,13 +101,11 @@ static void f15(void) {
   t1 = INT64_C(0);
   t1 = (t1 + v1[INT64_C(7)]);
   t1 = (t1 + v1[INT64_C(10)]);
-  if ((int64_t)(t1 < (-INT64_C(2147483648)))) {
+  if ((int64_t)((int64_t)(t1 < (-INT64_C(2147483648))) || (int64_t)(t1 > INT64_C(2147483647)))) {
     sci_stop(INT64_C(0), INT64_C(15), INT64_C(0));
+  } else {
+    v1[INT64_C(11)] = t1;
   }
-  if ((int64_t)(t1 > INT64_C(2147483647))) {
-    sci_stop(INT64_C(0), INT64_C(15), INT64_C(0));
-  }
-  v1[INT64_C(11)] = t1;
 }
 static void f16(void) {
   t1 = v1[INT64_C(11)];
@@ -132,13 +121,11 @@ static void f17(void) {
   t1 = INT64_C(0);
   t1 = (t1 + v1[INT64_C(11)]);
   t1 = (t1 - v1[INT64_C(12)]);
-  if ((int64_t)(t1 < (-INT64_C(2147483648)))) {
+  if ((int64_t)((int64_t)(t1 < (-INT64_C(2147483648))) || (int64_t)(t1 > INT64_C(2147483647)))) {
     sci_stop(INT64_C(0), INT64_C(17), INT64_C(0));
+  } else {
+    v1[INT64_C(13)] = t1;
   }
-  if ((int64_t)(t1 > INT64_C(2147483647))) {
-    sci_stop(INT64_C(0), INT64_C(17), INT64_C(0));
-  }
-  v1[INT64_C(13)] = t1;
 }
 static void f18(void) {
   v1[INT64_C(14)] = ((int64_t)(v1[INT64_C(13)] > INT64_C(0)) - (int64_t)(v1[INT64_C(13)] < INT64_C(0)));
@@ -148,13 +135,11 @@ static void f19(void) {
 }
 static void f20(void) {
   t1 = (v1[INT64_C(14)] * v1[INT64_C(15)]);
-  if ((int64_t)(t1 < (-INT64_C(2147483648)))) {
+  if ((int64_t)((int64_t)(t1 < (-INT64_C(2147483648))) || (int64_t)(t1 > INT64_C(2147483647)))) {
     sci_stop(INT64_C(0), INT64_C(20), INT64_C(0));
+  } else {
+    v1[INT64_C(16)] = t1;
   }
-  if ((int64_t)(t1 > INT64_C(2147483647))) {
-    sci_stop(INT64_C(0), INT64_C(20), INT64_C(0));
-  }
-  v1[INT64_C(16)] = t1;
 }
 static void f21(void) {
   v1[INT64_C(17)] = INT64_C(0);
@@ -170,23 +155,19 @@ static void f23(void) {
   t1 = INT64_C(0);
   t1 = (t1 + v1[INT64_C(9)]);
   t1 = (t1 + v1[INT64_C(18)]);
-  if ((int64_t)(t1 < (-INT64_C(2147483648)))) {
+  if ((int64_t)((int64_t)(t1 < (-INT64_C(2147483648))) || (int64_t)(t1 > INT64_C(2147483647)))) {
     sci_stop(INT64_C(0), INT64_C(23), INT64_C(0));
+  } else {
+    v1[INT64_C(19)] = t1;
   }
-  if ((int64_t)(t1 > INT64_C(2147483647))) {
-    sci_stop(INT64_C(0), INT64_C(23), INT64_C(0));
-  }
-  v1[INT64_C(19)] = t1;
 }
 static void f24(void) {
   t1 = (INT64_C(30) * v1[INT64_C(12)]);
-  if ((int64_t)(t1 < (-INT64_C(2147483648)))) {
+  if ((int64_t)((int64_t)(t1 < (-INT64_C(2147483648))) || (int64_t)(t1 > INT64_C(2147483647)))) {
     sci_stop(INT64_C(0), INT64_C(24), INT64_C(0));
+  } else {
+    v1[INT64_C(20)] = t1;
   }
-  if ((int64_t)(t1 > INT64_C(2147483647))) {
-    sci_stop(INT64_C(0), INT64_C(24), INT64_C(0));
-  }
-  v1[INT64_C(20)] = t1;
 }
 static void f25(void) {
   v1[INT64_C(21)] = v2[INT64_C(1)];
@@ -199,46 +180,40 @@ static void f27(void) {
   t1 = (t1 + v1[INT64_C(20)]);
   t1 = (t1 - v1[INT64_C(3)]);
   t1 = (t1 - v1[INT64_C(22)]);
-  if ((int64_t)(t1 < (-INT64_C(2147483648)))) {
+  if ((int64_t)((int64_t)(t1 < (-INT64_C(2147483648))) || (int64_t)(t1 > INT64_C(2147483647)))) {
     sci_stop(INT64_C(0), INT64_C(27), INT64_C(0));
+  } else {
+    v1[INT64_C(23)] = t1;
   }
-  if ((int64_t)(t1 > INT64_C(2147483647))) {
-    sci_stop(INT64_C(0), INT64_C(27), INT64_C(0));
-  }
-  v1[INT64_C(23)] = t1;
 }
 static void f28(void) {
   t1 = (INT64_C(164) * v1[INT64_C(23)]);
-  if ((int64_t)(t1 < (-INT64_C(2147483648)))) {
+  if ((int64_t)((int64_t)(t1 < (-INT64_C(2147483648))) || (int64_t)(t1 > INT64_C(2147483647)))) {
     sci_stop(INT64_C(0), INT64_C(28), INT64_C(0));
+  } else {
+    v1[INT64_C(24)] = t1;
   }
-  if ((int64_t)(t1 > INT64_C(2147483647))) {
-    sci_stop(INT64_C(0), INT64_C(28), INT64_C(0));
-  }
-  v1[INT64_C(24)] = t1;
 }
 static void f29(void) {
   t1 = INT64_C(0);
   t1 = (t1 + v1[INT64_C(21)]);
   t1 = (t1 + v1[INT64_C(24)]);
-  if ((int64_t)(t1 < (-INT64_C(2147483648)))) {
+  if ((int64_t)((int64_t)(t1 < (-INT64_C(2147483648))) || (int64_t)(t1 > INT64_C(2147483647)))) {
     sci_stop(INT64_C(0), INT64_C(29), INT64_C(0));
+  } else {
+    v1[INT64_C(25)] = t1;
   }
-  if ((int64_t)(t1 > INT64_C(2147483647))) {
-    sci_stop(INT64_C(0), INT64_C(29), INT64_C(0));
-  }
-  v1[INT64_C(25)] = t1;
 }
 static void g3(void) {
-  b1 = (-INT64_C(1));
-  for (k1 = INT64_C(0); k1 < INT64_C(3); k1 = k1 + INT64_C(1)) {
-    if ((int64_t)((int64_t)(v6[k1] >= INT64_C(0)) && (int64_t)((int64_t)(b1 < INT64_C(0)) || (int64_t)((int64_t)(v6[k1] < v6[b1]) || (int64_t)((int64_t)(v6[k1] == v6[b1]) && (int64_t)(v7[k1] < v7[b1])))))) {
-      b1 = k1;
-    }
+  b1 = INT64_C(0);
+  d2 = v6[INT64_C(0)];
+  if ((int64_t)((int64_t)((int64_t)(d2 < INT64_C(0)) || (int64_t)(v6[INT64_C(1)] <= d2)) && (int64_t)((int64_t)(v6[INT64_C(1)] >= INT64_C(0)) && (int64_t)((int64_t)(v6[INT64_C(1)] != d2) || (int64_t)(v7[INT64_C(1)] < v7[b1]))))) {
+    b1 = INT64_C(1);
+    d2 = v6[INT64_C(1)];
   }
-  d2 = (-INT64_C(1));
-  if ((int64_t)(b1 >= INT64_C(0))) {
-    d2 = v6[b1];
+  if ((int64_t)((int64_t)((int64_t)(d2 < INT64_C(0)) || (int64_t)(v6[INT64_C(2)] <= d2)) && (int64_t)((int64_t)(v6[INT64_C(2)] >= INT64_C(0)) && (int64_t)((int64_t)(v6[INT64_C(2)] != d2) || (int64_t)(v7[INT64_C(2)] < v7[b1]))))) {
+    b1 = INT64_C(2);
+    d2 = v6[INT64_C(2)];
   }
 }
 static void s0(void) {

@@ -10,20 +10,13 @@ extern int64_t sci_until(void);
 extern int64_t sci_limit(void);
 static int64_t v1[10];
 static int64_t v2[1];
-static int64_t v3[11];
-static int64_t v4[11];
 static int64_t v6[1];
-static int64_t v7[1];
 static int64_t t1;
 static int64_t n1;
 static int64_t i1;
 static int64_t d2;
 static int64_t u1;
 static int64_t d1;
-static int64_t o1;
-static int64_t b1;
-static int64_t e1;
-static int64_t k1;
 static void f1(void) {
 }
 static void f2(void) {
@@ -146,8 +139,6 @@ static void s1(void) {
   sci_val(INT64_C(10), INT64_C(1), INT64_C(1), v1[INT64_C(8)]);
   sci_val(INT64_C(11), INT64_C(1), INT64_C(1), v1[INT64_C(9)]);
   v6[INT64_C(0)] = (d1 + INT64_C(10));
-  v7[INT64_C(0)] = o1;
-  o1 = (o1 + INT64_C(1));
   v2[INT64_C(0)] = v1[INT64_C(9)];
 }
 static void g4(void) {
@@ -165,7 +156,6 @@ static void g4(void) {
   }
 }
 void sci_main(void) {
-  o1 = INT64_C(1);
   u1 = sci_until();
   n1 = sci_limit();
   s0();

@@ -10,21 +10,14 @@ extern int64_t sci_until(void);
 extern int64_t sci_limit(void);
 static int64_t v1[3];
 static int64_t v2[1];
-static int64_t v3[5];
-static int64_t v4[5];
 static int64_t v5[5];
 static int64_t v6[1];
-static int64_t v7[1];
 static int64_t t1;
 static int64_t n1;
 static int64_t i1;
 static int64_t d2;
 static int64_t u1;
 static int64_t d1;
-static int64_t o1;
-static int64_t b1;
-static int64_t e1;
-static int64_t k1;
 static void f1(void) {
 }
 static void f2(void) {
@@ -52,26 +45,20 @@ static void s0(void) {
 static void s1(void) {
   sci_event(d1, INT64_C(1), INT64_C(1));
   v5[INT64_C(2)] = INT64_C(0);
-  v4[INT64_C(3)] = INT64_C(0);
   f1();
   f2();
   f3();
   v5[INT64_C(2)] = (INT64_C(2) - (int64_t)(v1[INT64_C(0)] > INT64_C(0)));
   if ((int64_t)(v5[INT64_C(2)] == INT64_C(2))) {
-    v4[INT64_C(3)] = INT64_C(1);
-  }
-  if (v4[INT64_C(3)]) {
     f4();
   }
   f5();
   sci_val(INT64_C(2), INT64_C(1), INT64_C(1), v1[INT64_C(0)]);
-  if (v4[INT64_C(3)]) {
+  if ((int64_t)(v5[INT64_C(2)] == INT64_C(2))) {
     sci_val(INT64_C(4), INT64_C(1), INT64_C(1), v1[INT64_C(1)]);
   }
   sci_val(INT64_C(5), INT64_C(1), INT64_C(1), v1[INT64_C(2)]);
   v6[INT64_C(0)] = (d1 + INT64_C(1));
-  v7[INT64_C(0)] = o1;
-  o1 = (o1 + INT64_C(1));
   v2[INT64_C(0)] = ((int64_t)((v2[INT64_C(0)] + INT64_C(1)) < INT64_C(8)) * (v2[INT64_C(0)] + INT64_C(1)));
 }
 static void g4(void) {
@@ -89,7 +76,6 @@ static void g4(void) {
   }
 }
 void sci_main(void) {
-  o1 = INT64_C(1);
   u1 = sci_until();
   n1 = sci_limit();
   s0();

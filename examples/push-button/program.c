@@ -10,21 +10,14 @@ extern int64_t sci_until(void);
 extern int64_t sci_limit(void);
 static int64_t v1[8];
 static int64_t v2[4];
-static int64_t v3[9];
-static int64_t v4[9];
 static int64_t v5[9];
 static int64_t v6[1];
-static int64_t v7[1];
 static int64_t t1;
 static int64_t n1;
 static int64_t i1;
 static int64_t d2;
 static int64_t u1;
 static int64_t d1;
-static int64_t o1;
-static int64_t b1;
-static int64_t e1;
-static int64_t k1;
 static void f1(void) {
 }
 static void f2(void) {
@@ -139,8 +132,6 @@ static void s0(void) {
 static void s1(void) {
   sci_event(d1, INT64_C(1), INT64_C(1));
   v5[INT64_C(6)] = INT64_C(0);
-  v4[INT64_C(7)] = INT64_C(0);
-  v4[INT64_C(8)] = INT64_C(0);
   f1();
   f2();
   f3();
@@ -150,15 +141,9 @@ static void s1(void) {
   f7();
   v5[INT64_C(6)] = (INT64_C(2) - (int64_t)(v1[INT64_C(5)] > INT64_C(0)));
   if ((int64_t)(v5[INT64_C(6)] == INT64_C(1))) {
-    v4[INT64_C(7)] = INT64_C(1);
-  }
-  if (v4[INT64_C(7)]) {
     f8();
   }
   if ((int64_t)(v5[INT64_C(6)] == INT64_C(1))) {
-    v4[INT64_C(8)] = INT64_C(1);
-  }
-  if (v4[INT64_C(8)]) {
     f9();
   }
   sci_val(INT64_C(2), INT64_C(1), INT64_C(1), v1[INT64_C(0)]);
@@ -167,19 +152,17 @@ static void s1(void) {
   sci_val(INT64_C(5), INT64_C(1), INT64_C(1), v1[INT64_C(3)]);
   sci_val(INT64_C(6), INT64_C(1), INT64_C(1), v1[INT64_C(4)]);
   sci_val(INT64_C(6), INT64_C(2), INT64_C(1), v1[INT64_C(5)]);
-  if (v4[INT64_C(7)]) {
+  if ((int64_t)(v5[INT64_C(6)] == INT64_C(1))) {
     sci_val(INT64_C(8), INT64_C(1), INT64_C(1), v1[INT64_C(6)]);
   }
-  if (v4[INT64_C(8)]) {
+  if ((int64_t)(v5[INT64_C(6)] == INT64_C(1))) {
     sci_val(INT64_C(9), INT64_C(1), INT64_C(1), v1[INT64_C(7)]);
   }
   v6[INT64_C(0)] = (d1 + INT64_C(5));
-  v7[INT64_C(0)] = o1;
-  o1 = (o1 + INT64_C(1));
   v2[INT64_C(0)] = v1[INT64_C(0)];
   v2[INT64_C(1)] = v1[INT64_C(1)];
   v2[INT64_C(2)] = v1[INT64_C(4)];
-  if (v4[INT64_C(7)]) {
+  if ((int64_t)(v5[INT64_C(6)] == INT64_C(1))) {
     v2[INT64_C(3)] = v1[INT64_C(7)];
   }
 }
@@ -198,7 +181,6 @@ static void g4(void) {
   }
 }
 void sci_main(void) {
-  o1 = INT64_C(1);
   u1 = sci_until();
   n1 = sci_limit();
   s0();

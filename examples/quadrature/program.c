@@ -10,20 +10,13 @@ extern int64_t sci_until(void);
 extern int64_t sci_limit(void);
 static int64_t v1[9];
 static int64_t v2[3];
-static int64_t v3[8];
-static int64_t v4[8];
 static int64_t v6[1];
-static int64_t v7[1];
 static int64_t t1;
 static int64_t n1;
 static int64_t i1;
 static int64_t d2;
 static int64_t u1;
 static int64_t d1;
-static int64_t o1;
-static int64_t b1;
-static int64_t e1;
-static int64_t k1;
 static void f1(void) {
 }
 static void f2(void) {
@@ -180,8 +173,6 @@ static void s1(void) {
   sci_val(INT64_C(7), INT64_C(1), INT64_C(1), v1[INT64_C(7)]);
   sci_val(INT64_C(8), INT64_C(1), INT64_C(1), v1[INT64_C(8)]);
   v6[INT64_C(0)] = (d1 + INT64_C(1));
-  v7[INT64_C(0)] = o1;
-  o1 = (o1 + INT64_C(1));
   v2[INT64_C(0)] = v1[INT64_C(0)];
   v2[INT64_C(1)] = v1[INT64_C(1)];
   v2[INT64_C(2)] = v1[INT64_C(7)];
@@ -201,7 +192,6 @@ static void g4(void) {
   }
 }
 void sci_main(void) {
-  o1 = INT64_C(1);
   u1 = sci_until();
   n1 = sci_limit();
   s0();

@@ -10,8 +10,6 @@ extern int64_t sci_until(void);
 extern int64_t sci_limit(void);
 static int64_t v1[11];
 static int64_t v2[1];
-static int64_t v3[13];
-static int64_t v4[13];
 static int64_t v6[2];
 static int64_t v7[2];
 static int64_t t1;
@@ -20,10 +18,9 @@ static int64_t i1;
 static int64_t d2;
 static int64_t u1;
 static int64_t d1;
-static int64_t o1;
 static int64_t b1;
 static int64_t e1;
-static int64_t k1;
+static int64_t o1;
 static void f1(void) {
 }
 static void f2(void) {
@@ -93,15 +90,11 @@ static void f12(void) {
 static void f13(void) {
 }
 static void g3(void) {
-  b1 = (-INT64_C(1));
-  for (k1 = INT64_C(0); k1 < INT64_C(2); k1 = k1 + INT64_C(1)) {
-    if ((int64_t)((int64_t)(v6[k1] >= INT64_C(0)) && (int64_t)((int64_t)(b1 < INT64_C(0)) || (int64_t)((int64_t)(v6[k1] < v6[b1]) || (int64_t)((int64_t)(v6[k1] == v6[b1]) && (int64_t)(v7[k1] < v7[b1])))))) {
-      b1 = k1;
-    }
-  }
-  d2 = (-INT64_C(1));
-  if ((int64_t)(b1 >= INT64_C(0))) {
-    d2 = v6[b1];
+  b1 = INT64_C(0);
+  d2 = v6[INT64_C(0)];
+  if ((int64_t)((int64_t)((int64_t)(d2 < INT64_C(0)) || (int64_t)(v6[INT64_C(1)] <= d2)) && (int64_t)((int64_t)(v6[INT64_C(1)] >= INT64_C(0)) && (int64_t)((int64_t)(v6[INT64_C(1)] != d2) || (int64_t)(v7[INT64_C(1)] < v7[b1]))))) {
+    b1 = INT64_C(1);
+    d2 = v6[INT64_C(1)];
   }
 }
 static void s0(void) {

@@ -21,10 +21,8 @@ static int64_t i1;
 static int64_t d2;
 static int64_t u1;
 static int64_t d1;
-static int64_t o1;
 static int64_t b1;
-static int64_t e1;
-static int64_t k1;
+static int64_t o1;
 static void f1(void) {
 }
 static void f2(void) {
@@ -242,15 +240,11 @@ static void f35(void) {
   v1[INT64_C(30)] = t1;
 }
 static void g3(void) {
-  b1 = (-INT64_C(1));
-  for (k1 = INT64_C(0); k1 < INT64_C(2); k1 = k1 + INT64_C(1)) {
-    if ((int64_t)((int64_t)(v6[k1] >= INT64_C(0)) && (int64_t)((int64_t)(b1 < INT64_C(0)) || (int64_t)((int64_t)(v6[k1] < v6[b1]) || (int64_t)((int64_t)(v6[k1] == v6[b1]) && (int64_t)(v7[k1] < v7[b1])))))) {
-      b1 = k1;
-    }
-  }
-  d2 = (-INT64_C(1));
-  if ((int64_t)(b1 >= INT64_C(0))) {
-    d2 = v6[b1];
+  b1 = INT64_C(0);
+  d2 = v6[INT64_C(0)];
+  if ((int64_t)((int64_t)((int64_t)(d2 < INT64_C(0)) || (int64_t)(v6[INT64_C(1)] <= d2)) && (int64_t)((int64_t)(v6[INT64_C(1)] >= INT64_C(0)) && (int64_t)((int64_t)(v6[INT64_C(1)] != d2) || (int64_t)(v7[INT64_C(1)] < v7[b1]))))) {
+    b1 = INT64_C(1);
+    d2 = v6[INT64_C(1)];
   }
 }
 static void s0(void) {
@@ -269,11 +263,6 @@ static void s0(void) {
 static void s1(void) {
   sci_event(d1, INT64_C(1), INT64_C(1));
   v5[INT64_C(8)] = INT64_C(0);
-  v4[INT64_C(9)] = INT64_C(0);
-  v4[INT64_C(10)] = INT64_C(0);
-  v4[INT64_C(12)] = INT64_C(0);
-  v4[INT64_C(11)] = INT64_C(0);
-  v4[INT64_C(13)] = INT64_C(0);
   v4[INT64_C(14)] = INT64_C(0);
   f1();
   f3();
@@ -282,33 +271,18 @@ static void s1(void) {
   f9();
   v5[INT64_C(8)] = (((int64_t)(v1[INT64_C(5)] >= INT64_C(1)) * (((int64_t)(v1[INT64_C(5)] <= INT64_C(3)) * v1[INT64_C(5)]) + ((int64_t)(v1[INT64_C(5)] > INT64_C(3)) * INT64_C(3)))) + (int64_t)(v1[INT64_C(5)] < INT64_C(1)));
   if ((int64_t)(v5[INT64_C(8)] == INT64_C(1))) {
-    v4[INT64_C(9)] = INT64_C(1);
-  }
-  if (v4[INT64_C(9)]) {
     f10();
   }
   if ((int64_t)(v5[INT64_C(8)] == INT64_C(2))) {
-    v4[INT64_C(10)] = INT64_C(1);
-  }
-  if (v4[INT64_C(10)]) {
     f11();
   }
   if ((int64_t)(v5[INT64_C(8)] == INT64_C(3))) {
-    v4[INT64_C(12)] = INT64_C(1);
-  }
-  if (v4[INT64_C(12)]) {
     f13();
   }
   if ((int64_t)(v5[INT64_C(8)] == INT64_C(2))) {
-    v4[INT64_C(11)] = INT64_C(1);
-  }
-  if (v4[INT64_C(11)]) {
     f12();
   }
   if ((int64_t)(v5[INT64_C(8)] == INT64_C(3))) {
-    v4[INT64_C(13)] = INT64_C(1);
-  }
-  if (v4[INT64_C(13)]) {
     f14();
   }
   v3[INT64_C(14)] = INT64_C(0);
@@ -330,19 +304,19 @@ static void s1(void) {
   sci_val(INT64_C(3), INT64_C(1), INT64_C(1), v1[INT64_C(0)]);
   sci_val(INT64_C(4), INT64_C(1), INT64_C(1), v1[INT64_C(1)]);
   sci_val(INT64_C(8), INT64_C(1), INT64_C(1), v1[INT64_C(5)]);
-  if (v4[INT64_C(9)]) {
+  if ((int64_t)(v5[INT64_C(8)] == INT64_C(1))) {
     sci_val(INT64_C(10), INT64_C(1), INT64_C(1), v1[INT64_C(6)]);
   }
-  if (v4[INT64_C(10)]) {
+  if ((int64_t)(v5[INT64_C(8)] == INT64_C(2))) {
     sci_val(INT64_C(11), INT64_C(1), INT64_C(1), v1[INT64_C(7)]);
   }
-  if (v4[INT64_C(11)]) {
+  if ((int64_t)(v5[INT64_C(8)] == INT64_C(2))) {
     sci_val(INT64_C(12), INT64_C(1), INT64_C(1), v1[INT64_C(8)]);
   }
-  if (v4[INT64_C(12)]) {
+  if ((int64_t)(v5[INT64_C(8)] == INT64_C(3))) {
     sci_val(INT64_C(13), INT64_C(1), INT64_C(1), v1[INT64_C(9)]);
   }
-  if (v4[INT64_C(13)]) {
+  if ((int64_t)(v5[INT64_C(8)] == INT64_C(3))) {
     sci_val(INT64_C(14), INT64_C(1), INT64_C(1), v1[INT64_C(10)]);
   }
   if (v4[INT64_C(14)]) {
@@ -356,7 +330,6 @@ static void s1(void) {
 static void s2(void) {
   sci_event(d1, INT64_C(2), INT64_C(1));
   v5[INT64_C(17)] = INT64_C(0);
-  v4[INT64_C(28)] = INT64_C(0);
   v4[INT64_C(30)] = INT64_C(0);
   f2();
   f16();
@@ -370,9 +343,6 @@ static void s2(void) {
   f19();
   f23();
   if ((int64_t)(v5[INT64_C(17)] == INT64_C(3))) {
-    v4[INT64_C(28)] = INT64_C(1);
-  }
-  if (v4[INT64_C(28)]) {
     f29();
   }
   f20();
@@ -409,7 +379,7 @@ static void s2(void) {
   sci_val(INT64_C(26), INT64_C(1), INT64_C(1), v1[INT64_C(21)]);
   sci_val(INT64_C(27), INT64_C(1), INT64_C(1), v1[INT64_C(22)]);
   sci_val(INT64_C(28), INT64_C(1), INT64_C(1), v1[INT64_C(23)]);
-  if (v4[INT64_C(28)]) {
+  if ((int64_t)(v5[INT64_C(17)] == INT64_C(3))) {
     sci_val(INT64_C(29), INT64_C(1), INT64_C(1), v1[INT64_C(24)]);
   }
   if (v4[INT64_C(30)]) {

@@ -9,7 +9,6 @@ extern int64_t sci_input(int64_t a);
 extern int64_t sci_until(void);
 extern int64_t sci_limit(void);
 static int64_t v1[22];
-static int64_t v2[1];
 static int64_t v3[13];
 static int64_t v4[13];
 static int64_t v5[13];
@@ -21,10 +20,8 @@ static int64_t i1;
 static int64_t d2;
 static int64_t u1;
 static int64_t d1;
-static int64_t o1;
 static int64_t b1;
-static int64_t e1;
-static int64_t k1;
+static int64_t o1;
 static void f1(void) {
 }
 static void f2(void) {
@@ -95,94 +92,49 @@ static void f12(void) {
 }
 static void f13(void) {
 }
-static void g2(void) {
-  if (v4[INT64_C(4)]) {
-    sci_val(INT64_C(5), INT64_C(1), INT64_C(1), v1[INT64_C(0)]);
-  }
-  if (v4[INT64_C(6)]) {
-    for (t1 = INT64_C(0); t1 < INT64_C(4); t1 = t1 + INT64_C(1)) {
-      sci_val(INT64_C(7), INT64_C(1), (t1 + INT64_C(1)), v1[(t1 + INT64_C(1))]);
-    }
-  }
-  if (v4[INT64_C(7)]) {
-    for (t1 = INT64_C(0); t1 < INT64_C(4); t1 = t1 + INT64_C(1)) {
-      sci_val(INT64_C(8), INT64_C(1), (t1 + INT64_C(1)), v1[(t1 + INT64_C(5))]);
-    }
-  }
-  if (v4[INT64_C(8)]) {
-    for (t1 = INT64_C(0); t1 < INT64_C(4); t1 = t1 + INT64_C(1)) {
-      sci_val(INT64_C(9), INT64_C(1), (t1 + INT64_C(1)), v1[(t1 + INT64_C(9))]);
-    }
-  }
-  if (v4[INT64_C(9)]) {
-    for (t1 = INT64_C(0); t1 < INT64_C(4); t1 = t1 + INT64_C(1)) {
-      sci_val(INT64_C(10), INT64_C(1), (t1 + INT64_C(1)), v1[(t1 + INT64_C(13))]);
-    }
-  }
-  if (v4[INT64_C(10)]) {
-    for (t1 = INT64_C(0); t1 < INT64_C(4); t1 = t1 + INT64_C(1)) {
-      sci_val(INT64_C(11), INT64_C(1), (t1 + INT64_C(1)), v1[(t1 + INT64_C(17))]);
-    }
-  }
-  if (v4[INT64_C(11)]) {
-    sci_val(INT64_C(12), INT64_C(1), INT64_C(1), v1[INT64_C(21)]);
-  }
-  if (v4[INT64_C(0)]) {
-    v6[INT64_C(0)] = (d1 + INT64_C(10));
-    v7[INT64_C(0)] = o1;
-    o1 = (o1 + INT64_C(1));
-  }
-  if (v4[INT64_C(1)]) {
-    v6[INT64_C(1)] = (d1 + INT64_C(3));
-    v7[INT64_C(1)] = o1;
-    o1 = (o1 + INT64_C(1));
-  }
-  if (v4[INT64_C(2)]) {
-    v6[INT64_C(2)] = (d1 + INT64_C(12));
-    v7[INT64_C(2)] = o1;
-    o1 = (o1 + INT64_C(1));
-  }
-  if (v4[INT64_C(3)]) {
-    v6[INT64_C(3)] = (d1 + INT64_C(2));
-    v7[INT64_C(3)] = o1;
-    o1 = (o1 + INT64_C(1));
-  }
-}
-static void g1(void) {
-  for (k1 = INT64_C(0); k1 < INT64_C(13); k1 = k1 + INT64_C(1)) {
-    v4[k1] = INT64_C(0);
-    v5[k1] = INT64_C(0);
-  }
-}
 static void g3(void) {
-  b1 = (-INT64_C(1));
-  for (k1 = INT64_C(0); k1 < INT64_C(4); k1 = k1 + INT64_C(1)) {
-    if ((int64_t)((int64_t)(v6[k1] >= INT64_C(0)) && (int64_t)((int64_t)(b1 < INT64_C(0)) || (int64_t)((int64_t)(v6[k1] < v6[b1]) || (int64_t)((int64_t)(v6[k1] == v6[b1]) && (int64_t)(v7[k1] < v7[b1])))))) {
-      b1 = k1;
-    }
+  b1 = INT64_C(0);
+  d2 = v6[INT64_C(0)];
+  if ((int64_t)((int64_t)((int64_t)(d2 < INT64_C(0)) || (int64_t)(v6[INT64_C(1)] <= d2)) && (int64_t)((int64_t)(v6[INT64_C(1)] >= INT64_C(0)) && (int64_t)((int64_t)(v6[INT64_C(1)] != d2) || (int64_t)(v7[INT64_C(1)] < v7[b1]))))) {
+    b1 = INT64_C(1);
+    d2 = v6[INT64_C(1)];
   }
-  d2 = (-INT64_C(1));
-  if ((int64_t)(b1 >= INT64_C(0))) {
-    d2 = v6[b1];
+  if ((int64_t)((int64_t)((int64_t)(d2 < INT64_C(0)) || (int64_t)(v6[INT64_C(2)] <= d2)) && (int64_t)((int64_t)(v6[INT64_C(2)] >= INT64_C(0)) && (int64_t)((int64_t)(v6[INT64_C(2)] != d2) || (int64_t)(v7[INT64_C(2)] < v7[b1]))))) {
+    b1 = INT64_C(2);
+    d2 = v6[INT64_C(2)];
+  }
+  if ((int64_t)((int64_t)((int64_t)(d2 < INT64_C(0)) || (int64_t)(v6[INT64_C(3)] <= d2)) && (int64_t)((int64_t)(v6[INT64_C(3)] >= INT64_C(0)) && (int64_t)((int64_t)(v6[INT64_C(3)] != d2) || (int64_t)(v7[INT64_C(3)] < v7[b1]))))) {
+    b1 = INT64_C(3);
+    d2 = v6[INT64_C(3)];
   }
 }
 static void s0(void) {
   sci_start();
-  v4[INT64_C(6)] = INT64_C(1);
   f7();
-  v4[INT64_C(7)] = INT64_C(1);
   f8();
-  v4[INT64_C(8)] = INT64_C(1);
   f9();
-  v4[INT64_C(9)] = INT64_C(1);
   f10();
-  g2();
+  for (t1 = INT64_C(0); t1 < INT64_C(4); t1 = t1 + INT64_C(1)) {
+    sci_val(INT64_C(7), INT64_C(1), (t1 + INT64_C(1)), v1[(t1 + INT64_C(1))]);
+  }
+  for (t1 = INT64_C(0); t1 < INT64_C(4); t1 = t1 + INT64_C(1)) {
+    sci_val(INT64_C(8), INT64_C(1), (t1 + INT64_C(1)), v1[(t1 + INT64_C(5))]);
+  }
+  for (t1 = INT64_C(0); t1 < INT64_C(4); t1 = t1 + INT64_C(1)) {
+    sci_val(INT64_C(9), INT64_C(1), (t1 + INT64_C(1)), v1[(t1 + INT64_C(9))]);
+  }
+  for (t1 = INT64_C(0); t1 < INT64_C(4); t1 = t1 + INT64_C(1)) {
+    sci_val(INT64_C(10), INT64_C(1), (t1 + INT64_C(1)), v1[(t1 + INT64_C(13))]);
+  }
 }
 static void s1(void) {
   sci_event(d1, INT64_C(1), INT64_C(1));
-  v4[INT64_C(4)] = INT64_C(1);
+  v5[INT64_C(5)] = INT64_C(0);
+  v4[INT64_C(10)] = INT64_C(0);
+  v4[INT64_C(11)] = INT64_C(0);
+  v4[INT64_C(12)] = INT64_C(0);
+  v5[INT64_C(12)] = INT64_C(0);
   f5();
-  v4[INT64_C(5)] = INT64_C(1);
   f6();
   v5[INT64_C(5)] = (INT64_C(2) - (int64_t)(v1[INT64_C(0)] > INT64_C(0)));
   v3[INT64_C(10)] = INT64_C(0);
@@ -217,138 +169,181 @@ static void s1(void) {
     v5[INT64_C(12)] = (((int64_t)(v1[INT64_C(21)] >= INT64_C(1)) * (((int64_t)(v1[INT64_C(21)] <= INT64_C(4)) * v1[INT64_C(21)]) + ((int64_t)(v1[INT64_C(21)] > INT64_C(4)) * INT64_C(4)))) + (int64_t)(v1[INT64_C(21)] < INT64_C(1)));
   }
   if ((int64_t)(v5[INT64_C(12)] == INT64_C(1))) {
-    v4[INT64_C(0)] = INT64_C(1);
-  }
-  if (v4[INT64_C(0)]) {
     f1();
   }
   if ((int64_t)(v5[INT64_C(12)] == INT64_C(2))) {
-    v4[INT64_C(1)] = INT64_C(1);
-  }
-  if (v4[INT64_C(1)]) {
     f2();
   }
   if ((int64_t)(v5[INT64_C(12)] == INT64_C(3))) {
-    v4[INT64_C(2)] = INT64_C(1);
-  }
-  if (v4[INT64_C(2)]) {
     f3();
   }
   if ((int64_t)(v5[INT64_C(12)] == INT64_C(4))) {
-    v4[INT64_C(3)] = INT64_C(1);
-  }
-  if (v4[INT64_C(3)]) {
     f4();
   }
-  g2();
+  sci_val(INT64_C(5), INT64_C(1), INT64_C(1), v1[INT64_C(0)]);
+  if (v4[INT64_C(10)]) {
+    for (t1 = INT64_C(0); t1 < INT64_C(4); t1 = t1 + INT64_C(1)) {
+      sci_val(INT64_C(11), INT64_C(1), (t1 + INT64_C(1)), v1[(t1 + INT64_C(17))]);
+    }
+  }
+  if (v4[INT64_C(11)]) {
+    sci_val(INT64_C(12), INT64_C(1), INT64_C(1), v1[INT64_C(21)]);
+  }
+  if ((int64_t)(v5[INT64_C(12)] == INT64_C(1))) {
+    v6[INT64_C(0)] = (d1 + INT64_C(10));
+    v7[INT64_C(0)] = o1;
+    o1 = (o1 + INT64_C(1));
+  }
+  if ((int64_t)(v5[INT64_C(12)] == INT64_C(2))) {
+    v6[INT64_C(1)] = (d1 + INT64_C(3));
+    v7[INT64_C(1)] = o1;
+    o1 = (o1 + INT64_C(1));
+  }
+  if ((int64_t)(v5[INT64_C(12)] == INT64_C(3))) {
+    v6[INT64_C(2)] = (d1 + INT64_C(12));
+    v7[INT64_C(2)] = o1;
+    o1 = (o1 + INT64_C(1));
+  }
+  if ((int64_t)(v5[INT64_C(12)] == INT64_C(4))) {
+    v6[INT64_C(3)] = (d1 + INT64_C(2));
+    v7[INT64_C(3)] = o1;
+    o1 = (o1 + INT64_C(1));
+  }
 }
 static void s2(void) {
   sci_event(d1, INT64_C(2), INT64_C(1));
-  v4[INT64_C(10)] = INT64_C(1);
+  v5[INT64_C(12)] = INT64_C(0);
   v3[INT64_C(10)] = INT64_C(4);
   f11();
-  v4[INT64_C(11)] = INT64_C(1);
   f12();
-  v4[INT64_C(12)] = INT64_C(1);
   f13();
   v5[INT64_C(12)] = (((int64_t)(v1[INT64_C(21)] >= INT64_C(1)) * (((int64_t)(v1[INT64_C(21)] <= INT64_C(4)) * v1[INT64_C(21)]) + ((int64_t)(v1[INT64_C(21)] > INT64_C(4)) * INT64_C(4)))) + (int64_t)(v1[INT64_C(21)] < INT64_C(1)));
   if ((int64_t)(v5[INT64_C(12)] == INT64_C(1))) {
-    v4[INT64_C(0)] = INT64_C(1);
-  }
-  if (v4[INT64_C(0)]) {
     f1();
   }
   if ((int64_t)(v5[INT64_C(12)] == INT64_C(2))) {
-    v4[INT64_C(1)] = INT64_C(1);
-  }
-  if (v4[INT64_C(1)]) {
     f2();
   }
   if ((int64_t)(v5[INT64_C(12)] == INT64_C(3))) {
-    v4[INT64_C(2)] = INT64_C(1);
-  }
-  if (v4[INT64_C(2)]) {
     f3();
   }
   if ((int64_t)(v5[INT64_C(12)] == INT64_C(4))) {
-    v4[INT64_C(3)] = INT64_C(1);
-  }
-  if (v4[INT64_C(3)]) {
     f4();
   }
-  g2();
+  for (t1 = INT64_C(0); t1 < INT64_C(4); t1 = t1 + INT64_C(1)) {
+    sci_val(INT64_C(11), INT64_C(1), (t1 + INT64_C(1)), v1[(t1 + INT64_C(17))]);
+  }
+  sci_val(INT64_C(12), INT64_C(1), INT64_C(1), v1[INT64_C(21)]);
+  if ((int64_t)(v5[INT64_C(12)] == INT64_C(1))) {
+    v6[INT64_C(0)] = (d1 + INT64_C(10));
+    v7[INT64_C(0)] = o1;
+    o1 = (o1 + INT64_C(1));
+  }
+  if ((int64_t)(v5[INT64_C(12)] == INT64_C(2))) {
+    v6[INT64_C(1)] = (d1 + INT64_C(3));
+    v7[INT64_C(1)] = o1;
+    o1 = (o1 + INT64_C(1));
+  }
+  if ((int64_t)(v5[INT64_C(12)] == INT64_C(3))) {
+    v6[INT64_C(2)] = (d1 + INT64_C(12));
+    v7[INT64_C(2)] = o1;
+    o1 = (o1 + INT64_C(1));
+  }
+  if ((int64_t)(v5[INT64_C(12)] == INT64_C(4))) {
+    v6[INT64_C(3)] = (d1 + INT64_C(2));
+    v7[INT64_C(3)] = o1;
+    o1 = (o1 + INT64_C(1));
+  }
 }
 static void s3(void) {
   sci_event(d1, INT64_C(3), INT64_C(1));
-  v4[INT64_C(10)] = INT64_C(1);
+  v5[INT64_C(12)] = INT64_C(0);
   v3[INT64_C(10)] = INT64_C(8);
   f11();
-  v4[INT64_C(11)] = INT64_C(1);
   f12();
-  v4[INT64_C(12)] = INT64_C(1);
   f13();
   v5[INT64_C(12)] = (((int64_t)(v1[INT64_C(21)] >= INT64_C(1)) * (((int64_t)(v1[INT64_C(21)] <= INT64_C(4)) * v1[INT64_C(21)]) + ((int64_t)(v1[INT64_C(21)] > INT64_C(4)) * INT64_C(4)))) + (int64_t)(v1[INT64_C(21)] < INT64_C(1)));
   if ((int64_t)(v5[INT64_C(12)] == INT64_C(1))) {
-    v4[INT64_C(0)] = INT64_C(1);
-  }
-  if (v4[INT64_C(0)]) {
     f1();
   }
   if ((int64_t)(v5[INT64_C(12)] == INT64_C(2))) {
-    v4[INT64_C(1)] = INT64_C(1);
-  }
-  if (v4[INT64_C(1)]) {
     f2();
   }
   if ((int64_t)(v5[INT64_C(12)] == INT64_C(3))) {
-    v4[INT64_C(2)] = INT64_C(1);
-  }
-  if (v4[INT64_C(2)]) {
     f3();
   }
   if ((int64_t)(v5[INT64_C(12)] == INT64_C(4))) {
-    v4[INT64_C(3)] = INT64_C(1);
-  }
-  if (v4[INT64_C(3)]) {
     f4();
   }
-  g2();
+  for (t1 = INT64_C(0); t1 < INT64_C(4); t1 = t1 + INT64_C(1)) {
+    sci_val(INT64_C(11), INT64_C(1), (t1 + INT64_C(1)), v1[(t1 + INT64_C(17))]);
+  }
+  sci_val(INT64_C(12), INT64_C(1), INT64_C(1), v1[INT64_C(21)]);
+  if ((int64_t)(v5[INT64_C(12)] == INT64_C(1))) {
+    v6[INT64_C(0)] = (d1 + INT64_C(10));
+    v7[INT64_C(0)] = o1;
+    o1 = (o1 + INT64_C(1));
+  }
+  if ((int64_t)(v5[INT64_C(12)] == INT64_C(2))) {
+    v6[INT64_C(1)] = (d1 + INT64_C(3));
+    v7[INT64_C(1)] = o1;
+    o1 = (o1 + INT64_C(1));
+  }
+  if ((int64_t)(v5[INT64_C(12)] == INT64_C(3))) {
+    v6[INT64_C(2)] = (d1 + INT64_C(12));
+    v7[INT64_C(2)] = o1;
+    o1 = (o1 + INT64_C(1));
+  }
+  if ((int64_t)(v5[INT64_C(12)] == INT64_C(4))) {
+    v6[INT64_C(3)] = (d1 + INT64_C(2));
+    v7[INT64_C(3)] = o1;
+    o1 = (o1 + INT64_C(1));
+  }
 }
 static void s4(void) {
   sci_event(d1, INT64_C(4), INT64_C(1));
-  v4[INT64_C(10)] = INT64_C(1);
+  v5[INT64_C(12)] = INT64_C(0);
   v3[INT64_C(10)] = INT64_C(1);
   f11();
-  v4[INT64_C(11)] = INT64_C(1);
   f12();
-  v4[INT64_C(12)] = INT64_C(1);
   f13();
   v5[INT64_C(12)] = (((int64_t)(v1[INT64_C(21)] >= INT64_C(1)) * (((int64_t)(v1[INT64_C(21)] <= INT64_C(4)) * v1[INT64_C(21)]) + ((int64_t)(v1[INT64_C(21)] > INT64_C(4)) * INT64_C(4)))) + (int64_t)(v1[INT64_C(21)] < INT64_C(1)));
   if ((int64_t)(v5[INT64_C(12)] == INT64_C(1))) {
-    v4[INT64_C(0)] = INT64_C(1);
-  }
-  if (v4[INT64_C(0)]) {
     f1();
   }
   if ((int64_t)(v5[INT64_C(12)] == INT64_C(2))) {
-    v4[INT64_C(1)] = INT64_C(1);
-  }
-  if (v4[INT64_C(1)]) {
     f2();
   }
   if ((int64_t)(v5[INT64_C(12)] == INT64_C(3))) {
-    v4[INT64_C(2)] = INT64_C(1);
-  }
-  if (v4[INT64_C(2)]) {
     f3();
   }
   if ((int64_t)(v5[INT64_C(12)] == INT64_C(4))) {
-    v4[INT64_C(3)] = INT64_C(1);
-  }
-  if (v4[INT64_C(3)]) {
     f4();
   }
-  g2();
+  for (t1 = INT64_C(0); t1 < INT64_C(4); t1 = t1 + INT64_C(1)) {
+    sci_val(INT64_C(11), INT64_C(1), (t1 + INT64_C(1)), v1[(t1 + INT64_C(17))]);
+  }
+  sci_val(INT64_C(12), INT64_C(1), INT64_C(1), v1[INT64_C(21)]);
+  if ((int64_t)(v5[INT64_C(12)] == INT64_C(1))) {
+    v6[INT64_C(0)] = (d1 + INT64_C(10));
+    v7[INT64_C(0)] = o1;
+    o1 = (o1 + INT64_C(1));
+  }
+  if ((int64_t)(v5[INT64_C(12)] == INT64_C(2))) {
+    v6[INT64_C(1)] = (d1 + INT64_C(3));
+    v7[INT64_C(1)] = o1;
+    o1 = (o1 + INT64_C(1));
+  }
+  if ((int64_t)(v5[INT64_C(12)] == INT64_C(3))) {
+    v6[INT64_C(2)] = (d1 + INT64_C(12));
+    v7[INT64_C(2)] = o1;
+    o1 = (o1 + INT64_C(1));
+  }
+  if ((int64_t)(v5[INT64_C(12)] == INT64_C(4))) {
+    v6[INT64_C(3)] = (d1 + INT64_C(2));
+    v7[INT64_C(3)] = o1;
+    o1 = (o1 + INT64_C(1));
+  }
 }
 static void g4(void) {
   if ((int64_t)(d2 < INT64_C(0))) {
@@ -359,7 +354,6 @@ static void g4(void) {
     } else {
       d1 = v6[b1];
       v6[b1] = (-INT64_C(1));
-      g1();
       if ((int64_t)(b1 < INT64_C(2))) {
         if ((int64_t)(b1 < INT64_C(1))) {
           s1();

@@ -15,14 +15,17 @@ from .flat_wiring import Wiring
 from .lint_facts import Facts, Finding
 from .message_parts import Told
 from .program import Program, Refusal, design_file, find
+from .ranges import Ranges
 from .reports import schedules
 
 CHECKS: dict[str, Callable[[Facts], Iterator[Finding]]] = {**lint_activation.CHECKS, **lint_values.CHECKS}
 """The kinds of warning, each with its check."""
 
 
-def lint(design: Design, program: Program | None = None, granted: bool = False) -> list[Finding]:
-    """The warnings of a diagram, in the order of its file; with `granted` those too that it grants.
+def lint(design: Design, program: Program | None = None, granted: bool = False,
+         ranges: Ranges | None = None) -> list[Finding]:
+    """The warnings of a diagram, in the order of its file; with `granted` those too that it grants, and with
+    its `ranges` what may stop a run.
 
     Raises `Refused` where the program refuses the diagram.
 
@@ -33,15 +36,16 @@ def lint(design: Design, program: Program | None = None, granted: bool = False) 
     program = find(program)
     with design_file(design) as path:
         flat = read(path)
-        facts = Facts(flat, Wiring(flat), schedules(program, path), granted)
+        facts = Facts(flat, Wiring(flat), schedules(program, path), granted, ranges)
     found = [finding for check in CHECKS.values() for finding in check(facts)]
     return sorted((finding for finding in found if granted or not is_granted(flat, finding)),
                   key=lambda finding: finding.place)
 
 
-def lines(design: Design, program: Program | None = None, granted: bool = False) -> list[str]:
+def lines(design: Design, program: Program | None = None, granted: bool = False,
+          ranges: Ranges | None = None) -> list[str]:
     """The warnings of a diagram as `scicos-kit lint` prints them, and grants of kinds that there are not."""
-    found, flat = lint(design, program, granted), read(design)
+    found, flat = lint(design, program, granted, ranges), read(design)
     return [line_of(flat, finding) for finding in [*found, *unknown_grants(flat)]]
 
 

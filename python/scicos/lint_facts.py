@@ -9,6 +9,7 @@ from dataclasses import dataclass
 from .flat import ACTIVATION, REGULAR, Block, Flat, Place
 from .flat_wiring import End, Wiring
 from .kinds import KINDS
+from .ranges import Ranges
 from .reports import Source
 
 START = (0, 0)
@@ -37,6 +38,8 @@ class Facts:
     schedule: dict[Source, dict[int, Guards]]
     granted: bool = False
     """Whether what the diagram grants is told too."""
+    ranges: Ranges | None = None
+    """What signals may be, where that was asked for."""
 
     def grants(self, block: Block) -> set[str]:
         """The warnings that a block grants, none where they are told all the same."""

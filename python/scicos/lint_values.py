@@ -10,6 +10,7 @@ from .lint_facts import CONDITIONS, START, Facts, Finding
 from .reports import Source
 from .rings import components
 
+STOPS = {"overflow": "its exact result may be outside of its type", "zero": "its divisor may be 0"}
 ALIKE = ("SUMMATION", "MAXMIN", "LOGICAL_OP", "RELATIONALOP", "SELECT_m", "MUX")
 
 
@@ -198,6 +199,14 @@ def old_value(facts: Facts) -> Iterator[Finding]:
                               "meant")
 
 
+def may_stop(facts: Facts) -> Iterator[Finding]:
+    """Blocks that may stop a run by an overflow or a divisor of 0, where the ranges of signals are known."""
+    for number, word in facts.ranges.stopping if facts.ranges else []:
+        block = facts.flat.block(number)
+        if block and word in STOPS:
+            yield Finding("may stop", block.place, f"may stop a run, as {STOPS[word]}")
+
+
 def _read(facts: Facts, block: Block) -> dict[End, set[Source]]:
     """What feeds a block, with the events at which it is read; by a `SELECT_m` only where its input may be
     chosen."""
@@ -213,4 +222,5 @@ def _read(facts: Facts, block: Block) -> dict[End, set[Source]]:
 
 CHECKS: dict[str, Callable[[Facts], Iterator[Finding]]] = {
     "not taken": not_taken, "not fed": not_fed, "shown nowhere": shown_nowhere, "same input": same_input,
-    "same block": same_block, "decided": decided, "constant": constant, "old value": old_value}
+    "same block": same_block, "decided": decided, "constant": constant, "old value": old_value,
+    "may stop": may_stop}

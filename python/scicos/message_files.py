@@ -35,12 +35,13 @@ COMMANDS: dict[str, tuple[Word, ...]] = {
     "save": (D, I, T, N, Word("K", "the reaction", 1, MOST_EVENTS + 1)),
     "resume": (D, I, Word("S", "the image"), T, N), "vcd": (D, I, T, N),
     "vcdat": (Word("V", "the dump"), Word("K", "the tick", 0, LAST_DATE))}
+RANGES = {"ranges": (D, I)}  # the program of its own, which has no other command
 
 
 def files_of(words: tuple[str, ...]) -> list[tuple[Word, str]]:
     """The files of a command line, in their order."""
-    return [(word, given) for word, given in zip(COMMANDS.get(words[0] if words else "", ()), words[1:])
-            if word.most is None]
+    due = {**COMMANDS, **RANGES}.get(words[0] if words else "", ())
+    return [(word, given) for word, given in zip(due, words[1:]) if word.most is None]
 
 
 def wrong_words(words: tuple[str, ...]) -> str:

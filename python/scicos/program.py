@@ -117,17 +117,19 @@ def unread(words: tuple[str, ...]) -> str:
     return f"a file of `{' '.join(words)}` can't be read"
 
 
-def error_of(words: tuple[str, ...], status: int, err: str) -> ScicosError:
-    """The exception for a status that isn't one of success."""
+def error_of(words: tuple[str, ...], status: int, err: str, line: str = "") -> ScicosError:
+    """The exception for a status that isn't one of success; `line` is the command line, where it isn't `scicos`
+    and these words."""
+    line = line or f"scicos {' '.join(words)}"
     if status < 0:
-        return ProgramError(f"`scicos {' '.join(words)}` was ended by signal {-status}", 128 - status, err)
+        return ProgramError(f"`{line}` was ended by signal {-status}", 128 - status, err)
     refusal = refusal_of(err) if status == 1 else None
     if refusal:
         return Refused(refusal, words)
     if status == 3:
         return ReadError(unread(words))
     told = WHAT.get(status) or err.strip().replace("\n", "; ") or "it gives no reason"
-    return ProgramError(f"`scicos {' '.join(words)}` ended with status {status}: {told}", status, err)
+    return ProgramError(f"`{line}` ended with status {status}: {told}", status, err)
 
 
 class Stream:

@@ -20,7 +20,7 @@ from scicos.runs import simulate
 TOP = Path(__file__).resolve().parents[2]
 FOLDER = TOP / "examples" / "closed-loop"
 FLAGS = ["-std=c99", "-Wall", "-Wextra", "-pedantic", "-Werror", "-O2"]
-SPARE = ["-Wno-unused-function", "-Wno-unused-variable"]
+SPARE = ["-Wno-unused-function"]
 NAMES = ["wanted", "motor.speed", "controller.error", "controller.integral", "controller.drive"]
 
 Row = tuple[int, ...]

@@ -111,10 +111,10 @@ def test_a_tick_that_is_none(examples: Path, program: Program) -> None:
 
 @pytest.mark.skipif(not shutil.which("vcd2fst") or not shutil.which("fst2vcd"), reason="vcd2fst isn't installed: apt-get install gtkwave")
 def test_viewers_read_the_copy(examples: Path, program: Program, tmp_path: Path) -> None:
-    (tmp_path / "run.vcd").write_text(copy(examples, program, "pi-controller", until=100))
+    (tmp_path / "run.vcd").write_text(copy(examples, program, "pi-controller", until=80))
     subprocess.run(["vcd2fst", "run.vcd", "run.fst"], cwd=tmp_path, check=True, capture_output=True)
     read = subprocess.run(["fst2vcd", "run.fst"], cwd=tmp_path, check=True, capture_output=True, text=True).stdout
-    own = dump.read(program.ask("vcd", examples / "pi-controller" / "diagram.json", examples / "pi-controller" / "inputs.json", 100, 1000000).out)
+    own = dump.read(program.ask("vcd", examples / "pi-controller" / "diagram.json", examples / "pi-controller" / "inputs.json", 80, 1000000).out)
     assert len(re.findall(r"^\$var", read, re.M)) == len(own.signals) and read.count("$scope") == (tmp_path / "run.vcd").read_text().count("$scope")
     last = {}
     for line in read.split("$enddefinitions $end")[1].splitlines():

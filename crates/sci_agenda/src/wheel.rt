@@ -1,5 +1,5 @@
 // The agenda by a wheel.
-ghost use Rattle.std.specs.Prelude.{◌≡◌, ◌≢◌, ℕ, ◌<◌, ◌≤◌, ◌+◌, ◌/◌, ◌*◌, ◌⊎◌, true, Some, None, List, [], length, IfOk, IfSome};
+ghost use Rattle.std.specs.Prelude.{◌≡◌, ◌≢◌, ℕ, ◌<◌, ◌≤◌, ◌+◌, ◌/◌, ◌*◌, ◌%◌, ◌⊎◌, true, Some, None, List, [], length, IfOk, IfSome};
 ghost use Rattle.sci_links.specs.Table.{Table, IsTable, chain, empty, has, list_of};
 ghost use Rattle.sci_agenda.specs.Firing.{Meaning};
 ghost use Rattle.sci_agenda.specs.Chained.{date_at};
@@ -98,19 +98,34 @@ fn list_at(now: u64, rank: u32) -> u32
     }
 }
 
-// The first list with an event, in the order in which they fire. None before the digit of now has one.
-fn first_list(links: &Links, now: u64) -> Option<u32>
+// The first list of the last level with an event, where those of the other levels have none.
+fn first_far(links: &Links, now: u64) -> Option<u32>
     requires table { IsTable links.now }
     requires lists { length links.now.lists ≡ 1024 }
+    requires near { (q x : ℕ) → now % 256 ≤ q → q < 768 → has x (chain links.now (list_at now q)) ≡ true → ⊥ }
     ensures { IsFirstList links.now now result }
 {
-    for rank in (now % 256) as u32..1024 {
+    for rank in 768..1024 {
         let list = list_at(now, rank);
         if links.front(list).is_some() {
             return Some(list);
         }
     }
     None
+}
+
+// The first list with an event, in the order in which they fire. None before the digit of now has one. Up to the last level each stands at its number.
+fn first_list(links: &Links, now: u64) -> Option<u32>
+    requires table { IsTable links.now }
+    requires lists { length links.now.lists ≡ 1024 }
+    ensures { IsFirstList links.now now result }
+{
+    for list in (now % 256) as u32..768 {
+        if links.front(list).is_some() {
+            return Some(list);
+        }
+    }
+    first_far(links, now)
 }
 
 fn nearer(dates: &[u64], best: u32, node: u32) -> u32

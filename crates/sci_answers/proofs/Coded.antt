@@ -4,10 +4,10 @@ use Rattle.sci_net.specs.Parts.{Parts}
 use Rattle.sci_net.specs.Net.{IsNet}
 use Rattle.sci_reaction.specs.Schedule.{Entry, IsSchedule}
 use Rattle.sci_run.specs.Laws.{AreLoopFree}
-use Rattle.sci_cgen.specs.Program.{program}
-use Rattle.sci_cgen.proofs.Run.{program_means_run, program_can_step}
-use Rattle.sci_cgen.proofs.Whole.{program_is_whole}
-use Rattle.sci_cgen.proofs.Blocks.{program_has_block_functions}
+use Rattle.sci_program.specs.Program.{program}
+use Rattle.sci_program_laws.proofs.Run.{program_means_run, program_can_step}
+use Rattle.sci_program_laws.proofs.Whole.{program_is_whole}
+use Rattle.sci_program_laws.proofs.Blocks.{program_has_block_functions}
 use Rattle.sci_cgen_laws.proofs.Kept.{program_keeps_values}
 use Rattle.sci_cgen_laws.proofs.Placed.{program_has_places}
 use Rattle.sci_verdict.proofs.Verdicts.{given_is_net}

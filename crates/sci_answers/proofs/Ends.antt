@@ -6,8 +6,8 @@ use Rattle.c_run.specs.declared.start.CEnd.{CEnd}
 use Rattle.c_run.specs.declared.start.CEnd.TheVariants.{End, Stop, Undefined}
 use Rattle.c_mean.specs.Meaning.{meaning}
 use Rattle.c_run.specs.Answering.{end_of}
-use Rattle.sci_words.specs.Words.{Request, report, simulate, judge, save, resume, code, run_c, host, bulk, dump, dump_at, files_of}
-use Rattle.sci_answers.specs.Answer.{Answer, IsDone}
+use Rattle.sci_words.specs.Words.{Request, simulate, judge, save, resume, code, run_c, bulk, dump, files_of}
+use Rattle.sci_answers.specs.Answer.{Answer, IsDone, prints}
 use Rattle.sci_answers.specs.RunC.{c_status}
 use Rattle.sci_answers.specs.Simulate.{run_status}
 use Rattle.sci_net.specs.Parts.{Parts}
@@ -62,6 +62,9 @@ closes_save : (n : Parts) (i : Columns) (until limit k : ℕ) (a : Answer) → I
 closes_save n i until limit k a (saves m h told) = inl (status-is told)
 closes_save n i until limit k a (ended count h told) = inr (inr (inr (inr (status-is told, out-is told))))
 
+closes_printed : (t : List ℕ) (a : Answer) → a ≡ prints t → Closes a
+closes_printed t a is = inl (status-is is)
+
 -- whatever passes, these files are read, and the command is done, or refused behind them
 abbrev pub Ends : Course → List (List ℕ) → Type 0
 Ends (gives due) files = (files ≡ []) × ((a : Answer) → due a → Closes a)
@@ -69,18 +72,17 @@ Ends (makes due) files = (files ≡ []) × ((a : Answer) → due a → IsDone a.
 Ends (reads A slot d accepts breaks next) [] = ⊥
 Ends (reads A slot d accepts breaks next) (f ∷ files) = (f ≡ d) × ((made : A) → Ends (next made) files)
 
+-- where no run, verdict or program has a status of its own, the answer is a text that is printed
 pub ends_of : (c : Request) → Ends (course_of c) (files_of c)
-ends_of (report r d) = (refl, λ p. (refl, λ a is. inl (status-is is)))
 ends_of (simulate d i until limit) = (refl, λ p. (refl, λ columns. (refl, λ a is. closes a (done_by (status-is is.2) (done_run (stops is.0))))))
 ends_of (judge d i v until limit) = (refl, λ p. (refl, λ columns. (refl, λ file. (refl, λ a is. closes a (done_by (status-is is.4) (done_verdict is.2))))))
 ends_of (save d i until limit k) = (refl, λ p. (refl, λ columns. (refl, λ a is. closes_save p.net columns until limit k a is)))
 ends_of (resume d i s until limit) = (refl, λ p. (refl, λ columns. (refl, λ m. (refl, λ a is. closes a (done_by (status-is is.2) (done_run (stops is.0)))))))
 ends_of (code d) = (refl, λ p. (refl, λ a is. inl (status-is is.told)))
 ends_of (run_c c i until limit) = (refl, λ program. (refl, λ columns. (refl, λ a is. closes a (done_by (status-is is) (done_c (end_of (meaning program columns (pos until) (pos limit)).how))))))
-ends_of host = (refl, λ a is. inl (status-is is))
 ends_of (bulk seed size) = (refl, λ a is. inl (status-is is.2))
 ends_of (dump d i until limit) = (refl, λ p. (refl, λ columns. (refl, λ a is. closes a (done_by (status-is is.4) (done_run (stops is.2))))))
-ends_of (dump_at v tick) = (refl, λ w. (refl, λ a is. inl (status-is is)))
+ends_of c = search closes_printed
 
 -- An answer that is due tells that all files were read and the command is done, or refuses, with nothing on out.
 pub data EndKind (files names : List (List ℕ)) (a : Answer) : Type 0 where

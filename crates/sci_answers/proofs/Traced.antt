@@ -12,7 +12,7 @@ use Rattle.sci_net.specs.Sources.{source_of}
 use Rattle.sci_run.specs.Observed.{blocks_seen, stop_seen}
 use Rattle.sci_run.specs.Run.{State, first_state, ReactionOutcome, Leads, StopsWith, IsOutcome, Then, IsRest, IsRun}
 use Rattle.sci_run.specs.Finish.{Ending, ByEnd, ByStop, Finish, ended, stopped, stopped_at_start}
-use Rattle.sci_cgen.specs.Laws.{answer_by}
+use Rattle.sci_program.specs.Laws.{answer_by}
 use Rattle.sci_answers.specs.Answer.{Answer}
 use Rattle.sci_answers.specs.RunC.{c_ran}
 use Rattle.sci_answers.specs.Simulate.{ran, run_status}

@@ -2,6 +2,7 @@
 use Rattle.std.specs.Prelude.{ℕ, ◌≡◌, ◌⊎◌, List, [], codes}
 use Rattle.sci_base.specs.Plain.{Violation}
 use Rattle.sci_print.specs.Line.{refused_line}
+use Rattle.sci_words.specs.Words.{usage_line}
 
 -- a command was done, or run to its end: done, stopped, where a C program has no meaning, or where a file isn't the trace
 abbrev pub IsDone : ℕ → Type 0
@@ -15,9 +16,6 @@ pub record Answer : Type 0 where
 -- a text on err alone
 abbrev pub says : ℕ → List ℕ → Answer
 says status text = record { out = []; err = text; status = status }
-
-unfoldable pub usage_line : List ℕ
-usage_line = codes "usage: scicos check D | map D | schedule D | simulate D I T N | ccode D | crun C I T N | host | bulk SEED SIZE | judge D I V T N | save D I T N K | resume D I S T N | vcd D I T N | vcdat V K\n"
 
 unfoldable pub read_fault_line : List ℕ
 read_fault_line = codes "read fault\n"

@@ -12,8 +12,8 @@ use Rattle.c_ast.specs.Spelling.{spelling}
 use Rattle.c_ast.specs.Bounds.{IsWhole}
 use Rattle.c_ast.specs.Rules.{KeepsRules}
 use Rattle.c_mean.specs.Meaning.{meaning}
-use Rattle.sci_cgen.specs.Laws.{answer_by, HasBlockFunctions}
-use Rattle.sci_cgen.specs.Stepping.{Steps}
+use Rattle.sci_program.specs.Laws.{answer_by, HasBlockFunctions}
+use Rattle.sci_program.specs.Stepping.{Steps}
 use Rattle.sci_cgen_laws.specs.Values.{KeepsValues}
 use Rattle.sci_cgen_laws.specs.Places.{HasPlaces}
 use Rattle.sci_verdict.specs.Verdict.{Plan, Accepts, Breaks}
@@ -29,9 +29,9 @@ MeansRun n p =
     → meaning p i (pos until) (pos limit) ≡ record { seen = os; how = answer_by how }
 
 -- A program for a net and its schedule: one of the subset of C, which keeps its bounds and its static rules and means the trace of the net, run by main or
--- stepped by its host, one call an event; with a function for each block, which as many calls name as the schedule has entries of the block. Values are assigned
--- by these functions and by the assignments with which main begins, and no others are shown as values; each function does what its block does, on places of its
--- own.
+-- stepped by its host, one call an event; with a function for each block, which as many calls name as the schedule has entries of the block. Values are
+-- assigned by these functions and by the assignments with which main begins, and no others are shown as values; each function does what its block does, on
+-- places of its own.
 pub record IsCode (n : Parts) (rows : List (List Entry)) (p : Whole) : Type 0 where
   pub whole : IsWhole p
   pub rules : KeepsRules p

@@ -21,7 +21,7 @@ use Rattle.sci_sim.specs.Steps.{IsFiring}
 use Rattle.sci_verdict.specs.Verdict.{Plan, Accepts, TreeAccepts}
 use Rattle.sci_bulk.specs.Bulk.{bulk as bulk_tree}
 use Rattle.sci_answers.specs.Inputs.{AcceptsColumns}
-use Rattle.sci_words.specs.Words.{Request, report, simulate, judge, save, resume, code, run_c, host, bulk, dump, dump_at, Spells}
+use Rattle.sci_words.specs.Words.{Request, simulate, bulk, dump, Spells}
 
 -- The run ended behind this state: each bank has counted how many blocks of its kind were active, over all reactions.
 pub record CountsEnded (n : Parts) (i : Columns) (until limit : ℕ) (banks : List Meaning) : Type 0 where
@@ -65,17 +65,10 @@ CountsBulk seed size banks = (p : Plan) × TreeAccepts (bulk_tree seed size) p �
 
 -- the banks have counted the run of `simulate`, of `vcd` and of `bulk`; nothing is said of other commands
 abbrev pub CountsRunOf : Request → (bytes : List (List ℕ)) → List Meaning → Type 0
-CountsRunOf (report r d) bytes banks = Unit {0}
 CountsRunOf (simulate d i until limit) bytes banks = CountsSimulation until limit bytes banks
-CountsRunOf (judge d i v until limit) bytes banks = Unit {0}
-CountsRunOf (save d i until limit k) bytes banks = Unit {0}
-CountsRunOf (resume d i s until limit) bytes banks = Unit {0}
-CountsRunOf (code d) bytes banks = Unit {0}
-CountsRunOf (run_c c i until limit) bytes banks = Unit {0}
-CountsRunOf host bytes banks = Unit {0}
 CountsRunOf (bulk seed size) bytes banks = CountsBulk seed size banks
 CountsRunOf (dump d i until limit) bytes banks = CountsSimulation until limit bytes banks
-CountsRunOf (dump_at v tick) bytes banks = Unit {0}
+CountsRunOf _ bytes banks = Unit {0}
 
 -- the same of the command that these words spell
 abbrev pub HaveCounted : (words bytes : List (List ℕ)) → List Meaning → Type 0

@@ -1,7 +1,7 @@
 -- Which text `ccode` gives, of those that are due: that of the program that is defined.
 use Rattle.std.specs.Prelude.{ℕ, ◌≡◌, List}
 use Rattle.c_ast.specs.Spelling.{spelling}
-use Rattle.sci_cgen.specs.Program.{program}
+use Rattle.sci_program.specs.Program.{program}
 use Rattle.sci_verdict.specs.Verdict.{Plan, Accepts, Breaks}
 use Rattle.sci_answers.specs.Answer.{Answer, prints}
 use Rattle.sci_answers.specs.Code.{IsCodeOf}

@@ -30,24 +30,27 @@ pub struct BulkCounts {
 pub struct SavedRun {
     /// The net behind the reaction.
     pub ready: Ready,
+    /// What is saved of it.
     pub image: Image,
 }
 
 /// A run of a net, before it begins.
 #[derive(Drop)]
 pub struct Simulation {
+    /// The net before start's reaction, or behind the last one.
     pub ready: Ready,
     /// The columns of the input file.
     pub inputs: Inputs,
-    /// The last date.
+    /// The last date in ticks, up to 2^62.
     pub until: u64,
-    /// The most events.
+    /// The most events, up to 1,000,000.
     pub limit: u64,
 }
 
 /// A run that goes on from what was saved, before it does.
 #[derive(Drop)]
 pub struct ResumedRun {
+    /// What was saved.
     pub image: Image,
     /// The run behind the reaction of which this was saved.
     pub run: Simulation,
@@ -56,14 +59,19 @@ pub struct ResumedRun {
 /// A command with all that it needs, before it writes.
 #[derive(Drop)]
 pub enum Prepared {
+    /// The words are no command.
     Usage,
+    /// The first rule that a file breaks.
     Refused(Refusal),
+    /// A read of a file failed.
     ReadFault,
+    /// Memory fell short.
     Memory,
     /// A text to be printed.
     Print(&'static str),
     /// What is told of a diagram.
     Report(Told),
+    /// A run whose trace is written.
     Simulate(Simulation),
     /// The verdict on a trace.
     Judge(Verdict),
@@ -73,7 +81,7 @@ pub enum Prepared {
     Resume(ResumedRun),
     /// The C program of a diagram.
     Code(Program),
-    /// A C program with the columns of its input file, the last date and the most events.
+    /// A C program with the columns of its input file, the last date in ticks (up to 2^62) and the most events (up to 1,000,000).
     RunC(Program, Inputs, u64, u64),
     /// What is counted of a bulk diagram.
     Bulk(BulkCounts),

@@ -96,6 +96,10 @@ pub record Held : Type 0 where
   pub rows : List Instance
   pub outs : ℕ
 
+-- a bank of this kind that holds this
+abbrev pub bank_with : Kind → Held → Meaning
+bank_with kind h = record { kind = kind; rows = h.rows; outs = h.outs }
+
 -- a typed spec of this kind
 pub record IsOfKind (kind : Kind) (s : Spec) : Type 0 where
   pub kind_is : s.kind ≡ kind

@@ -1,7 +1,7 @@
 //! What a spec and the inputs' values say, read by the banks. A read past the end gives 0, as in the table of meanings.
 ghost use Rattle.std.specs.Prelude.{◌≡◌, ◌<◌, ◌≤◌, ◌*ℤ◌, length};
 ghost use Rattle.sci_base.specs.declared.limits.TheConstants.{PORT_ELEMENTS};
-ghost use Rattle.sci_base.specs.Fit.{fit, int_eq, InRange};
+ghost use Rattle.sci_base.specs.Fit.{fit, InRange};
 ghost use Rattle.sci_base.specs.Lists.{at};
 ghost use Rattle.sci_forms.specs.Ports.{total, Fills};
 ghost use Rattle.sci_forms.specs.Words.{param, out_type, size};
@@ -9,8 +9,7 @@ ghost use Rattle.sci_kinds.specs.Asks.{IsAlikeSpec};
 ghost use Rattle.sci_kinds.specs.Table.{mode_of, fitted, quotient_cell, input};
 
 use sci_base::{Mode, Ty, fit, mul_fit};
-use sci_forms::values::is_equal;
-use sci_kinds::{Cell, Spec};
+use sci_kinds::{Cell, Spec, mode_of};
 use sci_span::Entering;
 use std::marker::Model;
 
@@ -47,7 +46,7 @@ impl Words {
         let ty = port.kind_of_type();
         Words {
             ty,
-            mode: mode_of(spec.params.at(0)),
+            mode: mode_of(spec.param(0)),
             low: ty.low(),
             high: ty.high(),
             size: port.elements() as usize,
@@ -112,19 +111,6 @@ pub fn size(spec: &Words) -> usize
     spec.size
 }
 
-/// The mode of a code: 0 wraps, 1 saturates, 2 stops.
-fn mode_of(code: i64) -> Mode
-    ensures { result ≡ mode_of code }
-{
-    if is_equal(code, 0) {
-        Mode::Wrap
-    } else if is_equal(code, 1) {
-        Mode::Saturate
-    } else {
-        Mode::Stop
-    }
-}
-
 /// The mode that parameter 0 names.
 pub fn mode(spec: &Words) -> Mode
     ensures { result ≡ mode_of (param spec.now 0) }
@@ -136,7 +122,7 @@ pub fn mode(spec: &Words) -> Mode
 pub fn param(spec: &Words, k: usize) -> i64
     ensures { result ≡ param spec.now k }
 {
-    spec.spec.params.at(k)
+    spec.spec.param(k)
 }
 
 /// Element `e` of all the inputs' values.

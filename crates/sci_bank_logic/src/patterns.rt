@@ -7,20 +7,9 @@ ghost use Rattle.sci_kinds.specs.Table.{number, truth};
 
 use sci_bank::words::{Words, param};
 use sci_base::Ty;
-use sci_base::bits::two_to;
+use sci_base::bits::{span, two_to};
 use sci_forms::values::is_equal;
 use sci_kinds::Cell;
-
-/// How many patterns a type has.
-pub fn span(t: Ty) -> u64
-    ensures { result ≡ span t }
-{
-    match t {
-        Ty::I32 | Ty::U32 => 4294967296,
-        Ty::I16 | Ty::U16 => 65536,
-        Ty::I8 | Ty::U8 => 256,
-    }
-}
 
 /// The pattern with all bits of a type.
 pub fn ones(t: Ty) -> u64

@@ -61,10 +61,11 @@ pub fn turned_left(t: Ty, p: u64, k: u32) -> u64
     ensures { result ≡ turned_left t p k }
 {
     let moved = p * two_to(k);
-    moved % span_of(t) + moved / span_of(t)
+    moved % span(t) + moved / span(t)
 }
 
-fn span_of(t: Ty) -> u64
+/// How many numbers a type has, which are as many as its patterns.
+pub fn span(t: Ty) -> u64
     ensures { result ≡ span t }
 {
     match t {

@@ -1,17 +1,15 @@
 -- The functions of a program, put into one list.
-use Rattle.std.proofs.Common.{arith, ◌≡◌, ℕ, zero, suc, ◌+◌, ◌<◌, ◌++◌, ◌∷◌, List, [], map, length, slice_index_or, get_or, Bool, false, Vec, All, sym, ap, subst, ◌∙◌, refl}
-use Rattle.std.specs.declared.alloc.Global.{Global}
-use Rattle.std.proofs.lemmas.List.{map-append, append_assoc, append-nil, get_or-map}
+use Rattle.std.proofs.Common.{arith, ◌≡◌, ℕ, zero, suc, ◌+◌, ◌<◌, ◌++◌, ◌∷◌, List, [], map, length, slice_index_or, Bool, false, All, sym, ap, subst, ◌∙◌, refl}
+use Rattle.std.proofs.lemmas.List.{map-append, append_assoc, append-nil}
 use Rattle.std.proofs.lemmas.List.Elements.{All-get_or}
 use Rattle.c_ast.specs.declared.Func.{Func}
 use Rattle.c_ast.specs.Syntax.{Function}
 use Rattle.c_ast.specs.View.{function_of}
 use Rattle.sci_net.specs.Parts.{Parts}
 use Rattle.sci_reaction.specs.Schedule.{Entry}
-use Rattle.sci_reaction.specs.declared.entry.Entry.{Entry as Kept}
-use Rattle.sci_sched.specs.Plain.{row_of, lists_of}
-use Rattle.sci_cgen.specs.Program.{functions_upto, block_function}
-use Rattle.sci_cgen.specs.Built.{AreMarked, AreNamed, marked_function}
+use Rattle.sci_program.specs.Program.{functions_upto, block_function}
+use Rattle.sci_cgen_base.specs.Layouts.{AreMarked, AreNamed}
+use Rattle.sci_cgen.specs.Built.{marked_function}
 
 -- one function more
 pub function_pushed : (xs ys : List Func) (x : Func) (f : Function) → ys ≡ xs ++ x ∷ [] → function_of x ≡ f → map function_of ys ≡ map function_of xs ++ f ∷ []
@@ -40,9 +38,6 @@ marked_same n rows marks are =
     (λ k l. ap (λ t. marked_function n t (suc k)) (are.each (suc k) (record { least = omega arith; most = omega (arith, l) })))
 
 -- ---- rows
-
-pub row_at : (rows : List (Vec Kept Global)) (i : ℕ) (v d : Vec Kept Global) → i < length rows → v ≡ get_or rows i d → row_of v.items ≡ slice_index_or (lists_of rows) i []
-row_at rows i v d l e = ap (λ (u : Vec Kept Global). row_of u.items) e ∙ sym (get_or-map (λ (u : Vec Kept Global). row_of u.items) rows i d [] l)
 
 pub named_at : (n : Parts) (rows : List (List Entry)) (i : ℕ) (row : List Entry) → i < length rows → All (AreNamed n) rows → row ≡ slice_index_or rows i [] → AreNamed n row
 named_at n rows i row l all e = subst (AreNamed n) (sym e) (All-get_or (AreNamed n) rows i [] l all)

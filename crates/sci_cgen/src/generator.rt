@@ -1,31 +1,28 @@
 // The whole program.
-ghost use Rattle.std.specs.Prelude.{◌≡◌, suc, [], ◌∷◌, false, not, nat_lt, ◌<◌, ◌++◌, map, length, slice_index_or, All, IfOk, OnOk};
+ghost use Rattle.std.specs.Prelude.{◌≡◌, suc, [], ◌∷◌, false, not, nat_lt, ◌++◌, map, length, slice_index_or, All, IfOk, OnOk};
 ghost use Rattle.c_ast.specs.View.{function_of, statements_of, whole_of};
 ghost use Rattle.sci_net.specs.Parts.{IsBlock, spec_of};
-ghost use Rattle.sci_net.specs.Sources.{sources_of, source_of};
-ghost use Rattle.sci_sched.specs.Plain.{row_of, rows_of};
+ghost use Rattle.sci_net.specs.Sources.{sources_of};
+ghost use Rattle.sci_sched.specs.Plain.{rows_of};
 ghost use Rattle.sci_sched.specs.Answer.{IsPlan};
 ghost use Rattle.sci_cgen_blocks.specs.Texts.{body_text};
-ghost use Rattle.sci_cgen.specs.Names.{source_name, settle_name, clear_name, choose_name};
-ghost use Rattle.sci_cgen.specs.Program.{text_where, places_of, has_own as has_own_of, functions_upto, functions_where, shared_functions, source_function as source_function_of, other_functions};
-ghost use Rattle.sci_cgen.specs.Program.{row_text as row_text_of, called_functions as called_functions_of, event_function as event_function_of};
-ghost use Rattle.sci_cgen.specs.Program.{port_count as port_count_of, shared_text, clear_text as clear_text_of, choose_text as choose_text_of};
-ghost use Rattle.sci_cgen.specs.Program.{functions as functions_of, program};
-ghost use Rattle.sci_cgen.specs.Built.{AreLaid, AreNamed, AreMarked, marked_function};
+ghost use Rattle.sci_program.specs.Names.{clear_name, choose_name};
+ghost use Rattle.sci_program.specs.Program.{text_where, places_of, has_own as has_own_of, functions_upto, functions_where, shared_functions};
+ghost use Rattle.sci_program.specs.Program.{source_function as source_function_of, other_functions, called_functions as called_functions_of};
+ghost use Rattle.sci_program.specs.Program.{event_function as event_function_of, port_count as port_count_of, clear_text as clear_text_of};
+ghost use Rattle.sci_program.specs.Program.{choose_text as choose_text_of, functions as functions_of, full_program as full_program_of, program};
+ghost use Rattle.sci_cgen_base.specs.Layouts.{AreLaid, AreNamed, AreMarked};
+ghost use Rattle.sci_cgen.specs.Built.{marked_function};
 
-use crate::block_layouts::{layouts, row, scheduled};
-use crate::declared_names::{declarations, port_count};
-use crate::names;
-use crate::parts::{has_own, marked_taking};
-use crate::pieces::layout;
-use crate::row_texts::row_text;
-use crate::run_texts::{choose_text, clear_text, main_text, turn_text};
-use crate::settle_texts::push_settle;
 use c_ast::{Func, Program, Stmt};
+use c_trim::trim;
 use sci_base::NoMemory;
+use sci_cgen_base::{layout, layouts, names, port_count, row, scheduled};
 use sci_cgen_blocks::{BlockLayout, block_body};
+use sci_cgen_run::{choose_text, clear_text, declarations, main_text, turn_text};
+use sci_cgen_sources::{has_own, settle_function, source_function};
 use sci_net::Net;
-use sci_sched::{Entry, Schedule};
+use sci_sched::Schedule;
 use std::alloc::Global;
 
 /// The statements of a block's values, where the schedule has an entry of it.
@@ -82,20 +79,6 @@ fn push_block_functions(
         funcs.push(block_function(alloc, net, layouts, at + 1, marks[at as usize])?)?;
     }
     Ok(())
-}
-
-/// What follows each reaction, in one text for all sources.
-fn settle_function(alloc: Global, net: &Net, layouts: &[BlockLayout]) -> Result<Func, NoMemory>
-    requires { AreLaid net.now layouts.now }
-    ensures { IfOk result (λ f. function_of f ≡ record { name = settle_name; body = shared_text net.now }) }
-{
-    let taking = marked_taking(alloc);
-    let mut body = Vec::new(alloc);
-    push_settle(alloc, &mut body, net, layouts, &taking)?;
-    Ok(Func {
-        name: names::settle(),
-        body,
-    })
 }
 
 /// What comes before each reaction, where events fire.
@@ -159,26 +142,6 @@ fn push_other_functions(
     push_shared_functions(alloc, funcs, net, layouts, own)?;
     push_choose_function(alloc, funcs, net)?;
     Ok(())
-}
-
-/// The function of a source.
-fn source_function(
-    alloc: Global,
-    net: &Net,
-    layouts: &[BlockLayout],
-    own: bool,
-    source: u32,
-    row: &[Entry],
-) -> Result<Func, NoMemory>
-    requires laid { AreLaid net.now layouts.now }
-    requires source { source < length (sources_of net.now) }
-    requires named { AreNamed net.now (row_of row.now) }
-    ensures { IfOk result (λ f. function_of f ≡ record { name = source_name source; body = row_text_of own net.now (source_of net.now source) (row_of row.now) }) }
-{
-    Ok(Func {
-        name: names::source_function(source),
-        body: row_text(alloc, net, layouts, own, net.source(source), row)?,
-    })
 }
 
 /// The functions of all sources.
@@ -257,12 +220,10 @@ fn functions(
     Ok(funcs)
 }
 
-/// The C program of a net and its schedule: for each block a function of its values, for each source a function that calls those of its row in the order of the
-/// schedule, a function of one event, and `sci_main`, which calls it again and again. Its trace is that of the net (`program_law`), and so is what a host
-/// observes that calls the function of one event itself (`steps_law`).
-pub fn emit(alloc: Global, net: &Net, schedule: &Schedule) -> Result<Program, NoMemory>
+/// The program with all variables.
+fn full_program(alloc: Global, net: &Net, schedule: &Schedule) -> Result<Program, NoMemory>
     requires { IsPlan net.now (rows_of schedule.now) }
-    ensures { IfOk result (λ p. whole_of p ≡ program net.now (rows_of schedule.now)) }
+    ensures { IfOk result (λ p. whole_of p ≡ full_program_of net.now (rows_of schedule.now)) }
 {
     net.well_formed();
     let layouts = layouts(alloc, net)?;
@@ -272,4 +233,15 @@ pub fn emit(alloc: Global, net: &Net, schedule: &Schedule) -> Result<Program, No
         funcs: functions(alloc, net, &layouts, &marks, schedule)?,
         main: main_text(alloc, net, &layouts)?,
     })
+}
+
+/// The C program of a net and its schedule: for each block a function of its values, for each source a function that calls those of its row in the order of the
+/// schedule, a function of one event, and `sci_main`, which calls it again and again. It declares what its statements name, and nothing else. Its trace is that
+/// of the net (`program_law`), and so is what a host observes that calls the function of one event itself (`steps_law`).
+pub fn emit(alloc: Global, net: &Net, schedule: &Schedule) -> Result<Program, NoMemory>
+    requires { IsPlan net.now (rows_of schedule.now) }
+    ensures { IfOk result (λ p. whole_of p ≡ program net.now (rows_of schedule.now)) }
+{
+    let full = full_program(alloc, net, schedule)?;
+    trim(alloc, full)
 }

@@ -14,7 +14,7 @@ use Rattle.c_mean.specs.Texts.{May, upto, statement_within, block_within}
 use Rattle.c_mean.proofs.Texts.{upto_within}
 use Rattle.sci_cgen_blocks.specs.Terms.{Work, assign, assign_if, Step, change, stop_if, repeat, Recipe, Way, each, all, decide, is_looped}
 use Rattle.sci_cgen_blocks.specs.Recipes.{way_of, next_alike}
-use Rattle.sci_cgen_blocks.specs.Texts.{fixed, counted_by, Places, written, values, work_statement, works_text, step_statement, steps_text, recipe_text, looped_text, way_text, values_text, body_text, next_value_text, next_loop, next_text}
+use Rattle.sci_cgen_blocks.specs.Texts.{fixed, counted_by, Places, written, values, work_statement, works_text, step_text, steps_text, recipe_text, looped_text, way_text, values_text, body_text, next_value_text, next_loop, next_text}
 use Rattle.sci_cgen_blocks.proofs.Bodies.{values_are}
 use Rattle.sci_cgen_blocks.proofs.Sensing.{is_kind}
 use Rattle.sci_cgen_blocks.specs.Meant.{takes_input, body_may, next_may}
@@ -32,14 +32,14 @@ module _ (takes : Bool) (p : Places) where
   works_within [] = refl
   works_within (x ∷ ws) = and_from _ _ (work_within x) (works_within ws)
 
-  step_within : (x : Step) → statement_within (may_values takes) (step_statement p x) ≡ true
-  step_within (change x) = work_within x
-  step_within (stop_if c word) = refl
-  step_within (repeat n k ws) = works_within ws
+  step_within : (x : Step) (rest : Block) → block_within (may_values takes) rest ≡ true → block_within (may_values takes) (step_text p x rest) ≡ true
+  step_within (change x) rest h = and_from _ _ (work_within x) h
+  step_within (stop_if c word) rest h = and_from _ _ (and_from _ _ refl h) refl
+  step_within (repeat n k ws) rest h = and_from _ _ (works_within ws) h
 
   steps_within : (xs : List Step) (rest : Block) → block_within (may_values takes) rest ≡ true → block_within (may_values takes) (steps_text p xs rest) ≡ true
   steps_within [] rest h = h
-  steps_within (x ∷ xs) rest h = and_from _ _ (step_within x) (steps_within xs rest h)
+  steps_within (x ∷ xs) rest h = step_within x (steps_text p xs rest) (steps_within xs rest h)
 
   recipe_within : (x : Recipe) → block_within (may_values takes) (recipe_text p x) ≡ true
   recipe_within x = steps_within x.steps _ refl

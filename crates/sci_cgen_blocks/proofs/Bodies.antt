@@ -69,7 +69,7 @@ pub holds_on : (s : Spec) (p : Places) (x : List ℤ) (m : ℕ) (u : List ℤ) (
 holds_on s p x m u w w' apart h k = record {
   ins = λ i e a b f. k.same values (input_place p i e) (record { kept = refl; apart = λ q. apart i e a b f }) ∙ h.ins i e a b f;
   state = λ i l. k.same states (p.state + i) (record { kept = refl; apart = λ q. absurd (true≢false (sym q)) }) ∙ h.state i l;
-  mask = k.same masks p.mask (record { kept = refl; apart = λ q. absurd (true≢false (sym q)) }) ∙ h.mask;
+  mask = λ f. k.same masks p.mask (record { kept = refl; apart = λ q. absurd (true≢false (sym q)) }) ∙ h.mask f;
   outs = λ e l. k.there values (p.outs + e) (h.outs e l);
 }
 

@@ -17,13 +17,14 @@ use Rattle.sci_forms.specs.Typed.{typed}
 use Rattle.c_ast.specs.Syntax.{Exp, num, var, element, neg, not, bin, Block, done, next}
 use Rattle.c_ast.specs.Bounds.{Fits, IsExp, StatementFits, BlockFits, IsName}
 use Rattle.c_mean.specs.Texts.{joined, upto}
-use Rattle.sci_cgen_blocks.specs.Terms.{Term, constant, input, along, state, state_along, state_behind, mask, scratch, both, Work, assign, assign_if, Step, change, stop_if, repeat, Recipe, Way, each, all, decide, is_looped, Readable, TermFits, WorkFits, WorksFit, StepFits, StepsFit, RecipeFits, WayFits}
+use Rattle.sci_cgen_blocks.specs.Terms.{Term, constant, input, along, state, state_along, state_behind, mask, scratch, both, Work, assign, assign_if, Step, change, stop_if, repeat, Recipe, Way, each, all, decide, is_looped, Readable, TermFits, WorkFits, WorksFit, StepsFit, RecipeFits, WayFits}
 use Rattle.sci_cgen_blocks.specs.Recipes.{way_of, next_term, next_alike, next_along, delay_term, branch_term, worked_of, is_alike, scratch_of, fed, from_value, inputs}
 use Rattle.sci_cgen_blocks.specs.Laws.{CellReadsLaw, NextReadsLaw, NextAlongReadsLaw}
-use Rattle.sci_cgen_blocks.specs.Texts.{Which, fixed, counted_by, Places, written, scratch_name, input_start, input_place, element_place, expression, work_statement, works_text, step_statement, steps_text, recipe_text, looped_text, way_text, sensor_text, body_text, next_value_text, next_loop, next_text, delay_expression, branch_expression}
+use Rattle.sci_cgen_blocks.specs.Texts.{Which, fixed, counted_by, Places, written, scratch_name, input_start, input_place, element_place, expression, work_statement, works_text, steps_text, recipe_text, looped_text, way_text, sensor_text, body_text, next_value_text, next_loop, next_text, delay_expression, branch_expression}
 use Rattle.sci_cgen_blocks.specs.Meant.{AreInBounds}
 use Rattle.sci_cgen_blocks.proofs.Effects.{delay_term_law, branch_term_law}
 use Rattle.sci_cgen_blocks.proofs.Bodies.{values_are}
+use Rattle.sci_cgen_blocks.proofs.Shallow.{deepened, deepened_sum, AreShallow, way_shallow}
 use Rattle.sci_cgen_blocks.proofs.Sensing.{sensor_values, sensor_column, sensor_out, is_kind}
 
 -- ---- expressions
@@ -104,20 +105,28 @@ module _ (p : Places) (r : Readable) (h : HasBounds p r) where
   works_fit d [] f = tt
   works_fit d (x ∷ ws) f = (work_fits d x f.0, works_fit d ws f.1)
 
-  step_fits : (d : ℕ) (x : Step) → StepFits r x → StatementFits (suc (suc (suc d))) (step_statement p x)
-  step_fits d (change x) f = work_fits (suc d) x f
-  step_fits d (stop_if c word) f =
-      (is_exp p r h c f.0, ((number_is_exp word (omega (arith, f.1)), number_is_exp p.number h.number, number_is_exp 0 (omega arith)), tt), tt)
-  step_fits d (repeat n k ws) f = (scratch_is_name p r n h f.0.1, omega (arith, f.1), works_fit d ws f.2)
-
   steps_fit : (d : ℕ) (xs : List Step) (rest : Block) → StepsFit r xs → BlockFits (suc (suc (suc d))) rest
-      → BlockFits (suc (suc (suc d))) (steps_text p xs rest)
+      → BlockFits (suc (suc (suc (deepened xs d)))) (steps_text p xs rest)
   steps_fit d [] rest f q = q
-  steps_fit d (x ∷ xs) rest f q = (step_fits d x f.0, steps_fit d xs rest f.1 q)
+  steps_fit d (change x ∷ xs) rest f q = (work_fits (suc (deepened xs d)) x f.0, steps_fit d xs rest f.1 q)
+  steps_fit d (stop_if c word ∷ xs) rest f q = (
+    (
+      is_exp p r h c f.0.0,
+      ((number_is_exp word (omega (arith, f.0.1)), number_is_exp p.number h.number, number_is_exp 0 (omega arith)), tt),
+      steps_fit d xs rest f.1 q,
+    ),
+    tt,
+  )
+  steps_fit d (repeat n k ws ∷ xs) rest f q =
+      ((scratch_is_name p r n h f.0.0.1, omega (arith, f.0.1), works_fit (deepened xs d) ws f.0.2), steps_fit d xs rest f.1 q)
 
-  recipe_fits : (d : ℕ) (x : Recipe) → RecipeFits r x → p.outs + r.element < 2 ^ 63 → BlockFits (suc (suc (suc d))) (recipe_text p x)
-  recipe_fits d x f q =
-      steps_fit d x.steps _ f.0 ((((refl, omega arith), place_is_exp p.which r.element p.outs h.which q), is_exp p r h x.value f.1), tt)
+  recipe_fits : (d : ℕ) (x : Recipe) → RecipeFits r x → deepened x.steps 0 ≤ 2 → p.outs + r.element < 2 ^ 63
+      → BlockFits (suc (suc (suc (suc (suc d))))) (recipe_text p x)
+  recipe_fits d x f few q =
+      let left : ℕ = (2 - deepened x.steps 0) + d in
+      let deep : deepened x.steps left ≡ suc (suc d) = omega (arith, few, deepened_sum x.steps left) in
+      subst (λ (i : ℕ). BlockFits (suc (suc (suc i))) (recipe_text p x)) deep
+      (steps_fit left x.steps _ f.0 ((((refl, omega arith), place_is_exp p.which r.element p.outs h.which q), is_exp p r h x.value f.1), tt))
 
 pub joined_fits : (d : ℕ) (a b : Block) → BlockFits d a → BlockFits d b → BlockFits d (joined a b)
 joined_fits d done b p q = q
@@ -149,50 +158,52 @@ some_looped n h = let more : 2 < n = ltb-true 2 n h in omega (arith, more)
 -- decisions nest as deep as they are one in the other, and a loop stands in the innermost
 module _ (p : Places) (r : Readable) (h : HasBounds (written p (fixed 0)) r) (n : ℕ) (places : p.outs + n ≤ 2 ^ 63) (count : n < 2 ^ 63) where
   each_fits : (f : ℕ → Recipe) (j d : ℕ) → j ≤ r.scratch → ((e : ℕ) → e < n → RecipeFits (works_on r j e) (f e))
-      → BlockFits (suc (suc (suc d))) (upto (λ e. recipe_text (written p (fixed e)) (f e)) n)
-  each_fits f j d few fits =
-      upto_fits (suc (suc (suc d))) _ n (λ e l.
-      recipe_fits (written p (fixed e)) (works_on r j e) (numbered_bounds p r (fixed e) j e h few refl) d (f e) (fits e l) (omega (arith, l, places)))
+      → ((e : ℕ) → e < n → deepened (f e).steps 0 ≤ 2) → BlockFits (suc (suc (suc (suc (suc d))))) (upto (λ e. recipe_text (written p (fixed e)) (f e)) n)
+  each_fits f j d few fits shallow =
+      upto_fits (suc (suc (suc (suc (suc d))))) _ n (λ e l.
+      recipe_fits (written p (fixed e)) (works_on r j e) (numbered_bounds p r (fixed e) j e h few refl) d (f e) (fits e l) (shallow e l) (omega (arith, l, places)))
 
   -- one element of the loop stands for all
-  looped_fits : (x : Recipe) (j d : ℕ) → suc j ≤ r.scratch → 0 < n → RecipeFits (works_on r j 0) x → BlockFits (suc (suc (suc (suc d)))) (looped_text p n (suc j) x)
-  looped_fits x j d few some fits =
+  looped_fits : (x : Recipe) (j d : ℕ) → suc j ≤ r.scratch → 0 < n → RecipeFits (works_on r j 0) x → deepened x.steps 0 ≤ 2
+      → BlockFits (suc (suc (suc (suc (suc (suc d)))))) (looped_text p n (suc j) x)
+  looped_fits x j d few some fits shallow =
       let small : suc j < 2 ^ 32 = omega (arith, few, h.scratch) in (
         (
           (refl, small),
           count,
-          recipe_fits (written p (counted_by (suc j))) (works_on r j 0) (numbered_bounds p r (counted_by (suc j)) j 0 h (omega (arith, few)) small) d x fits
+          recipe_fits (written p (counted_by (suc j))) (works_on r j 0) (numbered_bounds p r (counted_by (suc j)) j 0 h (omega (arith, few)) small) d x fits shallow
               (omega (arith, some, places)),
         ),
         tt,
       )
 
-  way_fits : (y : Way) (k d : ℕ) → WayFits r n y k → BlockFits (k + suc (suc (suc (suc d)))) (way_text p n y)
-  way_fits (each f) k d fits =
-      let deep : suc (suc (suc (suc (k + d)))) ≡ k + suc (suc (suc (suc d))) = omega arith in
-      subst (λ (i : ℕ). BlockFits i (way_text p n (each f))) deep (each_fits f r.scratch (suc (k + d)) (omega arith) fits)
-  way_fits (all j x) k d fits =
-      let deep : suc (suc (suc (suc (k + d)))) ≡ k + suc (suc (suc (suc d))) = omega arith in
+  way_fits : (y : Way) (k d : ℕ) → WayFits r n y k → AreShallow n y → BlockFits (k + (6 + d)) (way_text p n y)
+  way_fits (each f) k d fits shallow =
+      let deep : suc (suc (suc (suc (suc (suc (k + d)))))) ≡ k + (6 + d) = omega arith in
+      subst (λ (i : ℕ). BlockFits i (way_text p n (each f))) deep (each_fits f r.scratch (suc (k + d)) (omega arith) fits shallow)
+  way_fits (all j x) k d fits shallow =
+      let deep : suc (suc (suc (suc (suc (suc (k + d)))))) ≡ k + (6 + d) = omega arith in
       subst (λ (i : ℕ). BlockFits i (way_text p n (all j x))) deep (by_size (is_looped n) refl fits.1)
     where
       by_size : (b : Bool) → is_looped n ≡ b → (b ≡ true → suc j ≤ r.scratch)
-          → BlockFits (suc (suc (suc (suc (k + d))))) (if b then looped_text p n (suc j) x else upto (λ e. recipe_text (written p (fixed e)) x) n)
-      by_size true is room = let some : 0 < n = some_looped n is in looped_fits x j (k + d) (room refl) some (fits.2 0 some)
-      by_size false is room = each_fits (λ e. x) j (suc (k + d)) fits.0 fits.2
-  way_fits (decide c a b) zero d fits = absurd fits
-  way_fits (decide c a b) (suc k) d fits =
-      let deep : suc (k + suc (suc (suc (suc d)))) ≡ suc k + suc (suc (suc (suc d))) = omega arith in
+          → BlockFits (suc (suc (suc (suc (suc (suc (k + d))))))) (if b then looped_text p n (suc j) x else upto (λ e. recipe_text (written p (fixed e)) x) n)
+      by_size true is room = let some : 0 < n = some_looped n is in looped_fits x j (k + d) (room refl) some (fits.2 0 some) shallow
+      by_size false is room = each_fits (λ e. x) j (suc (k + d)) fits.0 fits.2 (λ e l. shallow)
+  way_fits (decide c a b) zero d fits shallow = absurd fits
+  way_fits (decide c a b) (suc k) d fits shallow =
+      let deep : suc (k + (6 + d)) ≡ suc k + (6 + d) = omega arith in
       subst (λ (i : ℕ). BlockFits i (way_text p n (decide c a b))) deep
-      ((is_exp (written p (fixed 0)) r h c fits.0, way_fits a k d fits.1, way_fits b k d fits.2), tt)
+      ((is_exp (written p (fixed 0)) r h c fits.0, way_fits a k d fits.1 shallow.0, way_fits b k d fits.2 shallow.1), tt)
 
 -- ---- blocks
 
 pub worked_few : (c : Kind) (s : Spec) → worked_of c s ≤ 4
-worked_few LogicalOp s = by_test _
+worked_few LogicalOp s = by_tests _ _
   where
-    by_test : (b : Bool) → (if b then 1 else 4) ≤ 4
-    by_test true = omega arith
-    by_test false = omega arith
+    by_tests : (b more : Bool) → (if b then 1 else if more then 3 else 1) ≤ 4
+    by_tests true more = omega arith
+    by_tests false true = omega arith
+    by_tests false false = omega arith
 worked_few Shift s = by_test _
   where
     by_test : (b : Bool) → (if b then 0 else 1) ≤ 4
@@ -290,12 +301,13 @@ module _ (s : Spec) (p : Places) (places : AreInBounds s p) where
           )
       by_size false e = upto_fits (suc (suc d)) (next_value_text s p) (state_len_of s.kind s) (λ i l. next_value_fits reads is_typed (suc d) i l)
 
-  pub values_fit : CellReadsLaw → typed s ≡ true → s.kind ≢ Sensor → (d : ℕ) → BlockFits (12 + d) (body_text s p)
+  pub values_fit : CellReadsLaw → typed s ≡ true → s.kind ≢ Sensor → (d : ℕ) → BlockFits (14 + d) (body_text s p)
   values_fit reads is_typed other d =
-      let deep : 8 + suc (suc (suc (suc d))) ≡ 12 + d = omega arith in
-      subst (BlockFits (12 + d)) (sym (values_are s.kind s p other))
+      let deep : 8 + (6 + d) ≡ 14 + d = omega arith in
+      subst (BlockFits (14 + d)) (sym (values_are s.kind s p other))
       (subst (λ (i : ℕ). BlockFits i (way_text p (total s.outs) (way_of s.kind s))) deep
-      (way_fits p (fed s) fed_bounds (total s.outs) places.outs places.count (way_of s.kind s) 8 d (reads s is_typed other)))
+      (way_fits p (fed s) fed_bounds (total s.outs) places.outs places.count (way_of s.kind s) 8 d (reads s is_typed other)
+      (way_shallow (total s.outs) s.kind s)))
 
   pub senses_fit : typed s ≡ true → s.kind ≡ Sensor → (d : ℕ) → BlockFits (suc (suc d)) (body_text s p)
   senses_fit is_typed kind d =
@@ -304,13 +316,13 @@ module _ (s : Spec) (p : Places) (places : AreInBounds s p) where
       subst (BlockFits (suc (suc d))) (sym (sensor_values s.kind s p kind ∙ ap (sensor_text p) c.1.0))
       (sensor_fits d (suc c.0) (omega (arith, c.1.1)) (omega (arith, one, places.outs)))
 
-  -- The text of the values is nested at most twelve deep.
-  pub body_fits : CellReadsLaw → typed s ≡ true → (d : ℕ) → BlockFits (12 + d) (body_text s p)
+  -- The text of the values is nested at most fourteen deep.
+  pub body_fits : CellReadsLaw → typed s ≡ true → (d : ℕ) → BlockFits (14 + d) (body_text s p)
   body_fits reads is_typed d = by_kind (is_kind s.kind)
     where
-      by_kind : ((s.kind ≡ Sensor) ⊎ (s.kind ≢ Sensor)) → BlockFits (12 + d) (body_text s p)
+      by_kind : ((s.kind ≡ Sensor) ⊎ (s.kind ≢ Sensor)) → BlockFits (14 + d) (body_text s p)
       by_kind (inl e) =
-          let deep : suc (suc (10 + d)) ≡ 12 + d = omega arith in subst (λ (i : ℕ). BlockFits i (body_text s p)) deep (senses_fit is_typed e (10 + d))
+          let deep : suc (suc (12 + d)) ≡ 14 + d = omega arith in subst (λ (i : ℕ). BlockFits i (body_text s p)) deep (senses_fit is_typed e (12 + d))
       by_kind (inr n) = values_fit reads is_typed n d
 
   pub delay_fits : TermFits (inputs s) 32 (delay_term s.kind s) → IsExp (delay_expression s p)

@@ -12,7 +12,7 @@ use Rattle.sci_forms.specs.declared.spec.Spec.{Spec}
 use Rattle.sci_forms.specs.Ports.{elements, total, before, IsAlike}
 use Rattle.sci_forms.specs.Words.{out_type, size, state_len_of}
 use Rattle.sci_forms.specs.Forms.{fed as fed_at, all_to}
-use Rattle.sci_forms.specs.Form.{feeds}
+use Rattle.sci_forms.specs.Form.{feeds, reads_mask}
 use Rattle.sci_forms.specs.Typed.{typed}
 use Rattle.sci_forms.proofs.TestLemmas.{both_true, all_to_at}
 use Rattle.sci_kinds.specs.Table.{input}
@@ -69,7 +69,13 @@ spelled_in t u r = let b = small t u r in (omega (arith, ints, b.0), omega (arit
 
 -- what a block of kind k may read for its values
 abbrev pub fed_of : Kind → Spec → Readable
-fed_of k s = record { input = λ i e. IsElement s i e × (truth_at s.feed i ≡ true); state = λ i. i < state_len_of k s; scratch = scratch_of k s; element = 0 }
+fed_of k s = record {
+  input = λ i e. IsElement s i e × (truth_at s.feed i ≡ true);
+  state = λ i. i < state_len_of k s;
+  mask = reads_mask k;
+  scratch = scratch_of k s;
+  element = 0;
+}
 
 -- and where its recipe works out this element
 abbrev pub fed_for : Kind → Spec → ℕ → Readable

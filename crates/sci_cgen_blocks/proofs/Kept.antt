@@ -60,3 +60,23 @@ step_down f k xs ys x first all lt pushed is cut so_far =
     before : (xs : List KeptStep) → steps_of (xs ++ x ∷ []) ++ f (k - 1) ≡ steps_of xs ++ step_of x ∷ f (k - 1)
     before [] = refl
     before (y ∷ ys) = ap (λ ws. step_of y ∷ ws) (before ys)
+
+-- Two steps were pushed, the first two of those that a list by counting from k on has; n is where it ends.
+pub pair_done : (f : ℕ → ℕ → List Step) (k n : ℕ) (xs ys zs : List KeptStep) (x y : KeptStep) (first second : Step) (all : List Step)
+    → k < n → ys ≡ xs ++ x ∷ [] → zs ≡ ys ++ y ∷ [] → step_of x ≡ first → step_of y ≡ second → ((m : ℕ) → f k (suc m) ≡ first ∷ second ∷ f (suc k) m)
+    → steps_of xs ++ f k (n - k) ≡ all → steps_of zs ++ f (k + 1) (n - (k + 1)) ≡ all
+pair_done f k n xs ys zs x y first second all lt one two is_first is_second cut so_far =
+    ap (λ ws. steps_of ws ++ f (k + 1) (n - (k + 1))) two ∙ before ys y (f (k + 1) (n - (k + 1)))
+    ∙ ap (λ ws. steps_of ws ++ step_of y ∷ f (k + 1) (n - (k + 1))) one ∙ before xs x (step_of y ∷ f (k + 1) (n - (k + 1)))
+    ∙ ap (λ w. steps_of xs ++ w ∷ step_of y ∷ f (k + 1) (n - (k + 1))) is_first ∙ ap (λ w. steps_of xs ++ first ∷ w ∷ f (k + 1) (n - (k + 1))) is_second
+    ∙ ap (λ ws. steps_of xs ++ ws) (sym come) ∙ so_far
+  where
+    before : (xs : List KeptStep) (x : KeptStep) (ws : List Step) → steps_of (xs ++ x ∷ []) ++ ws ≡ steps_of xs ++ step_of x ∷ ws
+    before [] x ws = refl
+    before (y ∷ ys) x ws = ap (λ vs. step_of y ∷ vs) (before ys x ws)
+
+    come : f k (n - k) ≡ first ∷ second ∷ f (k + 1) (n - (k + 1))
+    come =
+        let more : n - k ≡ suc (n - (k + 1)) = omega arith in
+        let next : suc k ≡ k + 1 = omega arith in
+        ap (f k) more ∙ cut (n - (k + 1)) ∙ ap (λ j. first ∷ second ∷ f j (n - (k + 1))) next

@@ -1,7 +1,6 @@
 -- The numbers of a typed block are small.
 use Rattle.std.proofs.Common.{arith, lit≤, ◌≡◌, ◌≤◌, ◌<◌, ◌^◌, ◌≤ℤ◌, ℕ, pos, true, length, unsigned_abs, subst, inl, inr}
 use Rattle.std.proofs.lemmas.Bool.{cases_lt}
-use Rattle.std.proofs.lemmas.Int.{ints}
 use Rattle.std.proofs.lemmas.Nat.{pow_below}
 use Rattle.sci_forms.specs.declared.Kind.{Kind}
 use Rattle.sci_forms.specs.declared.Kind.TheVariants.{Const, Extractor, Shift, BitSet, BitClear, ExtractBits, Select, Logic}

@@ -2,23 +2,15 @@
 use Rattle.std.proofs.Common.{◌≡◌, ◌≤◌, ◌<◌, ℕ, zero, suc, ◌+◌, ◌-◌, if◌then◌else◌, nat_lt, List, [], ◌∷◌, length, drop, ap}
 use Rattle.std.proofs.lemmas.List.{drop_more}
 use Rattle.sci_forms.specs.declared.ports.Port.{Port}
-use Rattle.sci_forms.specs.Ports.{elements, port_at, no_port, total}
+use Rattle.sci_forms.specs.Ports.{elements, port_at, no_port}
 use Rattle.sci_cgen_blocks.specs.Terms.{Term, constant, input, along, state, state_along, state_behind, mask, scratch, both, Work, assign, assign_if, Step, change, stop_if, repeat, Recipe, Readable, TermFits, WorkFits, WorksFit, StepFits, StepsFit, RecipeFits}
 use Rattle.sci_cgen_blocks.specs.Plain.{AreSpelled, IsWorkSpelled, AreWorksSpelled, IsStepSpelled, AreStepsSpelled, IsRecipeSpelled}
-use Rattle.sci_cgen_blocks.proofs.Written.{all_dropped}
 use Rattle.sci_cgen_blocks.specs.Recipes.{flat_from}
 
 -- the input of number i, or those behind it
 pub flat_step : (ps : List Port) (i k e : ℕ) → i < length ps
     → flat_from (drop i ps) k e ≡ (if nat_lt e (elements (port_at ps i)) then input k e else flat_from (drop (i + 1) ps) (suc k) (e - elements (port_at ps i)))
 flat_step ps i k e l = ap (λ xs. flat_from xs k e) (drop_more ps i no_port l)
-
--- how many elements the ports from number i on have
-pub total_step : (ps : List Port) (i : ℕ) → i < length ps → total (drop i ps) ≡ elements (port_at ps i) + total (drop (i + 1) ps)
-total_step ps i l = ap total (drop_more ps i no_port l)
-
-pub total_end : (ps : List Port) (i : ℕ) → length ps ≤ i → total (drop i ps) ≡ 0
-total_end ps i h = ap total (all_dropped ps i h)
 
 -- ---- what C spells
 

@@ -26,6 +26,7 @@ pub mod Looped
 pub mod Bodies
 pub mod Sensing
 pub mod NextTexts
+pub mod Shallow
 pub mod Bounds
 pub mod Assigned
 pub mod Rules
@@ -33,6 +34,7 @@ pub mod Kept
 pub mod TextRules
 pub mod KindBounds
 pub mod Written
+pub mod KindNames
 pub mod KindParts
 pub mod WholeRules
 pub mod KindSpelled

@@ -1,5 +1,5 @@
 -- The next states of the kinds that have a state.
-use Rattle.std.proofs.Common.{◌≡◌, ◌≢◌, ℕ, suc, ◌+◌, ◌-◌, ◌<◌, ◌≤◌, ◌≤ℤ◌, ◌+ℤ◌, Some, Bool, true, false, refl, sym, ap, ◌∙◌, ◌%◌, ◌<ℤ◌, inl, inr, arith, ℤ, pos, negsuc, if◌then◌else◌, List, length, lt-ltb}
+use Rattle.std.proofs.Common.{◌≡◌, ℕ, suc, ◌+◌, ◌<◌, ◌≤◌, ◌≤ℤ◌, ◌+ℤ◌, Some, Bool, true, false, refl, sym, ap, ◌∙◌, ◌%◌, ◌<ℤ◌, inl, inr, arith, ℤ, pos, negsuc, if◌then◌else◌, List, length, lt-ltb}
 use Rattle.std.specs.Prelude.{nat_lt, int_lt}
 use Rattle.std.specs.Int.{int_rem_euclid}
 use Rattle.std.proofs.Math.Nat.{mod-eq_of_lt, mod_self}
@@ -16,7 +16,7 @@ use Rattle.sci_kinds.proofs.TypedLemmas.{before_one}
 use Rattle.sci_kinds.proofs.LawProofs.{asks}
 use Rattle.c_ast.specs.declared.Op.TheVariants.{Add, Mul, Lt}
 use Rattle.c_mean.specs.Laws.{Within}
-use Rattle.sci_cgen_blocks.specs.Terms.{constant, input, along, state, both, value, Scratch, Readable, TermFits, IsSpelled}
+use Rattle.sci_cgen_blocks.specs.Terms.{constant, input, state, both, value, Scratch, Readable, TermFits, IsSpelled}
 use Rattle.sci_cgen_blocks.specs.Recipes.{natural, next_term, next_alike, next_along, given, IsElement}
 use Rattle.sci_cgen_blocks.specs.Laws.{IsCount, NextLaw, NextReadsLaw, NextAlongLaw, NextAlongReadsLaw}
 use Rattle.sci_cgen_blocks.proofs.Operators.{add_is, lt_is}
@@ -79,7 +79,7 @@ next_along_law s x m u h f i l t = along_is s x m u t s.kind (asks s h) i l
 -- ---- what they read
 
 abbrev from_value_of : Kind → Spec → ℕ → Readable
-from_value_of k s i = record { input = IsElement s; state = λ j. (i ≤ j) × (j < state_len_of k s); scratch = 0; element = 0 }
+from_value_of k s i = record { input = IsElement s; state = λ j. (i ≤ j) × (j < state_len_of k s); mask = false; scratch = 0; element = 0 }
 
 next_reads : (k : Kind) (s : Spec) → Asks k s → (i : ℕ) → i < state_len_of k s → TermFits (from_value_of k s i) 32 (next_term k s i)
 next_reads Dollar s a i h = let n = a.0.ins_alike.sizes 0 (omega (arith, a.1)) in (omega (arith, a.1), omega (arith, h, n))
@@ -111,14 +111,3 @@ alike_few _ s = omega arith
 
 pub next_along_reads_law : NextAlongReadsLaw
 next_along_reads_law s h = (alike_few s.kind s, λ i l. along_reads s.kind s (asks s h) i l)
-
--- ---- kinds with another number of such values, and with another term
-
-pub alike_other : (k : Kind) (s : Spec) → k ≢ Dollar → k ≢ GatedDelay → next_alike k s ≡ state_len_of k s - 1
-alike_other Dollar s h i = absurd (h refl)
-alike_other GatedDelay s h i = absurd (i refl)
-alike_other _ s h i = refl
-
-pub along_other : (k : Kind) (s : Spec) → k ≢ Register → next_along k s ≡ along 0
-along_other Register s h = absurd (h refl)
-along_other _ s h = refl

@@ -22,7 +22,7 @@ use Rattle.c_mean.proofs.Loops.{for_leads}
 use Rattle.sci_cgen_blocks.specs.Recipes.{next_term, next_alike, next_along, next_scratch, delay_term, branch_term, given, from_value, inputs}
 use Rattle.sci_cgen_blocks.specs.Terms.{is_looped}
 use Rattle.sci_cgen_blocks.specs.Laws.{IsCount, NextLaw, NextReadsLaw, NextAlongLaw, NextAlongReadsLaw, DelayTermLaw, BranchTermLaw}
-use Rattle.sci_cgen_blocks.specs.Texts.{fixed, counted_by, Places, written, values, states, masks, scratch_name, input_place, element_place, expression, next_value_text, next_loop, next_text, delay_expression, branch_expression}
+use Rattle.sci_cgen_blocks.specs.Texts.{fixed, counted_by, Places, written, values, states, scratch_name, input_place, element_place, expression, next_value_text, next_loop, next_text, delay_expression, branch_expression}
 use Rattle.sci_cgen_blocks.specs.Meant.{Holds, HasNextScratch, IsAny, NextIs, AreInBounds}
 use Rattle.sci_cgen_blocks.proofs.Shown.{ShowsGiven, place_is, expression_is}
 use Rattle.sci_cgen_blocks.proofs.Bodies.{scratch_in}
@@ -40,7 +40,7 @@ module _ (env : Around) (s : Spec) (p : Places) (x : List ℤ) (m : ℕ) (u : Li
   shows_from n w' h = record {
     input = λ k e f. h.keeps.same values (input_place p k e) (record { kept = refl; apart = λ q. absurd (true≢false (sym q)) }) ∙ holds.ins k e f.0 f.1 tt;
     state = λ j f. h.old j f.0 f.1;
-    mask = h.keeps.same masks p.mask (record { kept = refl; apart = λ q. absurd (true≢false (sym q)) }) ∙ holds.mask;
+    mask = λ f. absurd (true≢false (sym f));
     scratch = λ k l r. absurd (omega (arith, l, r));
     which = refl;
     same = refl;
@@ -178,7 +178,7 @@ module _ (s : Spec) (p : Places) (x : List ℤ) (m : ℕ) (u : List ℤ) (w : Wo
   shows_inputs = record {
     input = λ k e f. holds.ins k e f.0 f.1 tt;
     state = λ j f. absurd f;
-    mask = holds.mask;
+    mask = λ f. absurd (true≢false (sym f));
     scratch = λ k l r. absurd (omega (arith, l, r));
     which = refl;
     same = refl;

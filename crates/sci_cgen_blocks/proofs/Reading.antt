@@ -1,5 +1,5 @@
 -- What terms may read, piece by piece.
-use Rattle.std.proofs.Common.{◌≡◌, ℕ, suc, ◌^◌, ◌≤◌, arith, ℤ, pos, inl, inr}
+use Rattle.std.proofs.Common.{◌≡◌, ℕ, suc, ◌^◌, ◌≤◌, arith, ℤ, pos, true, inl, inr}
 use Rattle.std.proofs.lemmas.Bool.{cases_lt}
 use Rattle.c_ast.specs.declared.Op.{Op}
 use Rattle.sci_base.specs.declared.Ty.{Ty}
@@ -33,8 +33,8 @@ state_reads h = record { fits = h }
 pub state_along_reads : {r : Readable} {d : ℕ} → r.state r.element → Reads r (suc d) state_along
 state_along_reads h = record { fits = h }
 
-pub mask_reads : {r : Readable} {d : ℕ} → Reads r (suc d) mask
-mask_reads = record { fits = tt }
+pub mask_reads : {r : Readable} {d : ℕ} → r.mask ≡ true → Reads r (suc d) mask
+mask_reads h = record { fits = h }
 
 pub scratch_reads : {r : Readable} {d n : ℕ} → 1 ≤ n → n ≤ r.scratch → Reads r (suc d) (scratch n)
 scratch_reads h k = record { fits = (h, k) }

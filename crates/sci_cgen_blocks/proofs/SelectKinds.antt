@@ -101,7 +101,7 @@ module _ (s : Spec) (a : Asks Select s) (f : IsFed Select s) where
   first_fits zero k d h l = copied_fits k d (omega (arith, h))
   first_fits (suc n) k zero h l = absurd (omega (arith, l))
   first_fits (suc n) k (suc d) h l =
-      let test : Reads (fed_of Select s) 32 (bit mask k) = bit_reads k (omega (arith, h, a.1, a.3)) mask_reads in
+      let test : Reads (fed_of Select s) 32 (bit mask k) = bit_reads k (omega (arith, h, a.1, a.3)) (mask_reads refl) in
       (test.fits, copied_fits k d (omega (arith, h)), first_fits n (suc k) d (omega (arith, h)) (omega (arith, l)))
 
   pub select_reads : WayFits (fed_of Select s) (total s.outs) (way_of Select s) 8

@@ -27,7 +27,7 @@ IsFor (counted_by c) p r e w = IsCounted p r c e w
 pub record ShowsGiven (p : Places) (r : Readable) (g : Given) (s : Scratch) (w : World) : Type 0 where
   pub input : (k e : ℕ) → r.input k e → get w values (input_place p k e) ≡ Some (g.input k e)
   pub state : (i : ℕ) → r.state i → get w states (p.state + i) ≡ Some (g.state i)
-  pub mask : get w masks p.mask ≡ Some (pos g.mask)
+  pub mask : r.mask ≡ true → get w masks p.mask ≡ Some (pos g.mask)
   pub scratch : (n : ℕ) → 1 ≤ n → n ≤ r.scratch → get w (scratch_name n) 0 ≡ Some (s n)
   pub which : IsFor p.which p r g.element w
   pub same : r.element ≡ g.element
@@ -65,7 +65,7 @@ expression_is p r g s w h (suc d) state_behind f =
     let far : suc p.state + g.element ≡ p.state + suc g.element = omega arith in
     element_is states (element_place p.which (suc p.state)) w (suc p.state + g.element) (g.state (suc g.element))
     (place_is p.which p r g.element (suc p.state) w h.which (λ c n. omega (arith, n.next here))) (ap (get w states) far ∙ h.state (suc g.element) here)
-expression_is p r g s w h (suc d) mask f = h.mask
+expression_is p r g s w h (suc d) mask f = h.mask f
 expression_is p r g s w h (suc d) (scratch n) f = h.scratch n f.0 f.1
 expression_is p r g s w h (suc d) (both op a b) f =
     ap (λ (o : Option ℤ). operate op o (evaluate (expression p b) w.slots)) (expression_is p r g s w h d a f.0)
@@ -81,7 +81,7 @@ pub shows_put : (p : Places) (r : Readable) (g : Given) (s : Scratch) (w w' : Wo
 shows_put p r g s w w' n v few h q = record {
   input = λ k e f. put_other w w' (scratch_name n) 0 v values (input_place p k e) q refl ∙ h.input k e f;
   state = λ i f. put_other w w' (scratch_name n) 0 v states (p.state + i) q refl ∙ h.state i f;
-  mask = put_other w w' (scratch_name n) 0 v masks p.mask q refl ∙ h.mask;
+  mask = λ f. put_other w w' (scratch_name n) 0 v masks p.mask q refl ∙ h.mask f;
   scratch = λ k l m. by_number k (nat_eq n k) refl (h.scratch k l m);
   which = still p.which h.which;
   same = h.same;

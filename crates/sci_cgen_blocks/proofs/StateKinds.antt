@@ -91,7 +91,7 @@ module _ (s : Spec) (e : ℕ) where
   and_log_reads = (tt, term.fits)
     where
       term : Reads (fed_for AndLog s e) 32 (both Sub (both Mul (natural 2) (both Eq mask (natural 3))) (natural 1))
-      term = both_reads (both_reads (natural_reads (omega arith)) (both_reads mask_reads (natural_reads (omega arith)))) (natural_reads (omega arith))
+      term = both_reads (both_reads (natural_reads (omega arith)) (both_reads (mask_reads refl) (natural_reads (omega arith)))) (natural_reads (omega arith))
 
   pub dollar_reads : Asks Dollar s → e < total s.outs → RecipeFits (fed_for Dollar s e) (recipe_of Dollar s)
   dollar_reads a l = (tt, in_size s a.0.outs_alike a.0.one e l)

@@ -1,18 +1,20 @@
 -- How the statements of steps run: as the steps go without any memory.
 use Rattle.std.proofs.Common.{◌≡◌, ℕ, zero, suc, ◌+◌, ◌<◌, ◌≤◌, Option, Some, None, Bool, true, false, refl, sym, ap, ◌∙◌, subst, arith, ℤ, pos, ◌+ℤ◌, nat_eq, if◌then◌else◌, List, [], ◌∷◌}
 use Rattle.std.proofs.lemmas.Int.{ints}
+use Rattle.std.proofs.lemmas.List.{append-nil}
+use Rattle.sci_base.specs.declared.observation.Obs.{Obs}
 use Rattle.sci_base.specs.declared.observation.StopWord.{StopWord}
 use Rattle.sci_base.specs.declared.observation.StopWord.TheVariants.{Overflow, Zero}
 use Rattle.c_ast.specs.declared.Bound.TheVariants as bounds
 use Rattle.c_ast.specs.Syntax.{Exp, num, scalar, set, choice, Block, done, next}
-use Rattle.c_mean.specs.Meaning.{World, Ran, then_run, is_zero, stop_word, later, statement_count, block_count, Around, run_block, ◌>>=◌}
+use Rattle.c_mean.specs.Meaning.{World, Ran, How, going, undefined, over, halted, quietly, on_how, then_run, is_zero, stop_word, later, statement_count, block_count, Around, run_block, ◌>>=◌}
 use Rattle.c_mean.specs.Places.{get, value_of, Puts}
 use Rattle.c_mean.specs.Runs.{Leads, Stops}
 use Rattle.c_mean.proofs.Frames.{bind_some}
-use Rattle.c_mean.proofs.Steps.{choice_is, let_runs, done_runs, done_leads, leads_as, then_stops, stop_stops}
+use Rattle.c_mean.proofs.Steps.{then_same, run_done, choice_is, let_runs, done_runs, done_leads, leads_as, then_stops, stop_stops}
 use Rattle.c_mean.proofs.Loops.{for_leads}
 use Rattle.sci_cgen_blocks.specs.Terms.{Given, Scratch, with_scratch, value, Work, assign, assign_if, work_under, do_work, do_works, count_on, do_turns, Step, change, stop_if, repeat, Outcome, worked, stopped, unclear, worked_by, stopped_under, do_step, then_steps, do_steps, Readable, IsScratch, WorkFits, changes, WorksFit, Spares, StepFits, StepsFit}
-use Rattle.sci_cgen_blocks.specs.Texts.{Places, scratch_name, expression, work_statement, works_text, stop_text, step_statement, steps_text}
+use Rattle.sci_cgen_blocks.specs.Texts.{Places, scratch_name, expression, work_statement, works_text, stop_text, step_text, steps_text}
 use Rattle.sci_cgen_blocks.proofs.Shown.{expression_is, scratch_there, IsWorked, worked_put}
 
 -- ---- words
@@ -23,6 +25,16 @@ pub choice_runs : (Q : Ran → Type 0) (env : Around) (n : ℕ) (e : Exp) (a b r
     → Q (run_block env n (next (choice e a b) rest) w)
 choice_runs Q env n e a b rest w v is go =
     subst Q (sym (choice_is env n e a b rest w v is)) (go (later n 1) (later (later n 1) (block_count a)) (later n (statement_count (choice e a b))))
+
+-- where nothing follows a run
+then_nothing : (env : Around) (n : ℕ) (r : Ran) → then_run r (run_block env n done) ≡ r
+then_nothing env n r = then_same r (run_block env n done) (λ w. quietly (going w)) (λ w. run_done env n w) ∙ by_how r.seen r.how
+  where
+    by_how : (seen : List Obs) (h : How) → on_how seen h (λ w. quietly (going w)) ≡ record { seen = seen; how = h }
+    by_how seen (going w) = ap (λ (l : List Obs). record { seen = l; how = going w }) (append-nil seen)
+    by_how seen (undefined n) = refl
+    by_how seen over = refl
+    by_how seen halted = refl
 
 some_scratch : (s s' : Scratch) → Some s ≡ Some s' → s ≡ s'
 some_scratch s s' e = cc
@@ -150,7 +162,7 @@ module _ (env : Around) (p : Places) (r : Readable) (g : Given) (o n : ℕ) (w0 
   repeat_runs : (Q : Ran → Type 0) (c turns : ℕ) (ws : List Work) (rest : Block) (k : ℕ) (w : World) (s s' : Scratch)
       → StepFits r (repeat c turns ws) → AsWorked s w → do_turns g c ws turns (with_scratch c (pos 0) s) ≡ Some s'
       → ((k : ℕ) (w' : World) → AsWorked s' w' → Q (run_block env k rest w'))
-      → Q (run_block env k (next (step_statement p (repeat c turns ws)) rest) w)
+      → Q (run_block env k (step_text p (repeat c turns ws) rest) w)
   repeat_runs Q c turns ws rest k w s s' f h e go =
       for_leads env (scratch_name c) (bounds.Num (pos turns)) turns (works_text p ws) (IsBetween p r g o n w0 c ws turns s') (omega (arith, f.1))
       (turn_leads c ws turns s' f.0 f.2 f.3) Q rest k w refl (scratch_there p r g s w c h.shows f.0)
@@ -166,9 +178,9 @@ module _ (env : Around) (p : Places) (r : Readable) (g : Given) (o n : ℕ) (w0 
       by_left w' zero e now comes is = subst (λ (x : Scratch). AsWorked x w') (some_scratch now s' comes) is
       by_left w' (suc j) e now comes is = absurd (omega (arith, e))
 
-  -- one step
+  -- one step, and what follows it
   pub step_runs : (Q : Ran → Type 0) (x : Step) (rest : Block) (k : ℕ) (w : World) (s : Scratch) → StepFits r x → AsWorked s w → After Q rest (do_step g x s)
-      → Q (run_block env k (next (step_statement p x) rest) w)
+      → Q (run_block env k (step_text p x rest) w)
   step_runs Q (change x) rest k w s f h go = by_result (do_work g x s) refl go
     where
       by_result : (q : Option Scratch) → do_work g x s ≡ q → After Q rest (worked_by q) → Q (run_block env k (next (work_statement p x) rest) w)
@@ -177,23 +189,23 @@ module _ (env : Around) (p : Places) (r : Readable) (g : Given) (o n : ℕ) (w0 
   step_runs Q (stop_if c word) rest k w s f h go = by_value (value g s c) refl go
     where
       by_test : (a b l : ℕ) (test : Bool) → After Q rest (if test then worked s else stopped word)
-          → Q (then_run (if test then run_block env b done w else run_block env a (stop_text word p.number) w) (run_block env l rest))
-      by_test a b l true go = done_runs Q env b w (run_block env l rest) (go l w h)
+          → Q (then_run (if test then run_block env b rest w else run_block env a (stop_text word p.number) w) (run_block env l done))
+      by_test a b l true go = subst Q (sym (then_nothing env l (run_block env b rest w))) (go b w h)
       by_test a b l false go =
-          go (then_run (run_block env a (stop_text word p.number) w) (run_block env l rest))
-          (then_stops (run_block env a (stop_text word p.number) w) (run_block env l rest) (stop_named word) p.number
+          go (then_run (run_block env a (stop_text word p.number) w) (run_block env l done))
+          (then_stops (run_block env a (stop_text word p.number) w) (run_block env l done) (stop_named word) p.number
           (stop_stops env a (num (pos word)) (num (pos p.number)) (num (pos 0)) done w (pos word) (stop_named word) p.number refl (stop_is word f.1) refl refl))
 
       by_value : (q : Option ℤ) → value g s c ≡ q → After Q rest (stopped_under word s q)
-          → Q (run_block env k (next (step_statement p (stop_if c word)) rest) w)
+          → Q (run_block env k (step_text p (stop_if c word) rest) w)
       by_value None e go = absurd go
       by_value (Some z) e go =
-          choice_runs Q env k (expression p c) (stop_text word p.number) done rest w z (expression_is p r g s w h.shows 32 c f.0 ∙ e)
+          choice_runs Q env k (expression p c) (stop_text word p.number) rest done w z (expression_is p r g s w h.shows 32 c f.0 ∙ e)
           (λ a b l. by_test a b l (is_zero z) go)
   step_runs Q (repeat c turns ws) rest k w s f h go = by_result (do_turns g c ws turns (with_scratch c (pos 0) s)) refl go
     where
       by_result : (q : Option Scratch) → do_turns g c ws turns (with_scratch c (pos 0) s) ≡ q → After Q rest (worked_by q)
-          → Q (run_block env k (next (step_statement p (repeat c turns ws)) rest) w)
+          → Q (run_block env k (step_text p (repeat c turns ws) rest) w)
       by_result (Some s') e go = repeat_runs Q c turns ws rest k w s s' f h e go
       by_result None e go = absurd go
 

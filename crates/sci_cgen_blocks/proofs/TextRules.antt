@@ -6,7 +6,7 @@ use Rattle.sci_forms.specs.declared.Kind.TheVariants.{Sensor}
 use Rattle.sci_forms.specs.declared.spec.Spec.{Spec}
 use Rattle.sci_forms.specs.Ports.{total}
 use Rattle.sci_forms.specs.Words.{param, state_len_of}
-use Rattle.sci_forms.specs.Form.{is_sync, has_delay}
+use Rattle.sci_forms.specs.Form.{is_sync, has_delay, reads_mask}
 use Rattle.sci_forms.specs.Typed.{typed}
 use Rattle.c_ast.specs.declared.Name.{Name}
 use Rattle.c_ast.specs.declared.Bound.TheVariants as bounds
@@ -18,7 +18,7 @@ use Rattle.c_mean.specs.Texts.{joined, upto}
 use Rattle.c_mean.proofs.Memory.{other_number}
 use Rattle.sci_cgen_blocks.specs.Terms.{Term, constant, input, along, state, state_along, state_behind, mask, scratch, both, Work, assign, assign_if, changes, Step, change, stop_if, repeat, Recipe, Way, each, all, decide, is_looped, Readable, TermFits, WorkFits, WorksFit, Spares, StepFits, StepsFit, RecipeFits, WayFits}
 use Rattle.sci_cgen_blocks.specs.Recipes.{way_of, next_term, next_alike, next_along, delay_term, branch_term, scratch_of, next_scratch, fed, from_value, inputs}
-use Rattle.sci_cgen_blocks.specs.Texts.{Which, fixed, counted_by, Places, written, values, states, scratch_name, input_start, element_place, expression, work_statement, works_text, step_statement, steps_text, recipe_text, looped_text, way_text, sensor_text, body_text, next_value_text, next_loop, next_text, delay_expression, branch_expression}
+use Rattle.sci_cgen_blocks.specs.Texts.{Which, fixed, counted_by, Places, written, values, states, scratch_name, input_start, element_place, expression, work_statement, works_text, step_text, steps_text, recipe_text, looped_text, way_text, sensor_text, body_text, next_value_text, next_loop, next_text, delay_expression, branch_expression}
 use Rattle.sci_cgen_blocks.specs.Keeping.{Scene, IsScalar, ReadsWell, MayAssign, StatementKeeps, BlockKeeps, HasBlockNames, MayWork, MayStep}
 use Rattle.sci_cgen_blocks.proofs.Bodies.{values_are}
 use Rattle.sci_cgen_blocks.proofs.Sensing.{sensor_takes, sensor_values, is_kind}
@@ -34,6 +34,12 @@ guarded_more opens b x h k = list_any-append (is_hit (same_name x)) opens (b ∷
 
 branch_more : (c : Scene) (opens : List Opened) (x : Name) → MayAssign c opens x → MayAssign c (opens ++ Branch ∷ []) x
 branch_more c opens x h = (h.0, guarded_more opens Branch x h.1 refl)
+
+work_more : (c : Scene) (opens : List Opened) (k : ℕ) → MayWork c opens k → MayWork c (opens ++ Branch ∷ []) k
+work_more c opens k may = record {
+  values = branch_more c opens values may.values;
+  scratch = λ n l m. branch_more c opens (scratch_name n) (may.scratch n l m);
+}
 
 -- in a loop whose counter is another
 turn_more : (c : Scene) (opens : List Opened) (x y : Name) (z : ℤ) → MayAssign c opens x → same_name x y ≡ false
@@ -51,7 +57,7 @@ place_reads : (c : Scene) (q : Which) (o : ℕ) → IsNamed c q → ReadsWell c 
 place_reads c (fixed e) o h = tt
 place_reads c (counted_by n) o h = (h, tt)
 
-module _ (c : Scene) (p : Places) (r : Readable) (names : HasBlockNames c r.scratch) (named : IsNamed c p.which) where
+module _ (c : Scene) (p : Places) (r : Readable) (names : HasBlockNames c r.mask r.scratch) (named : IsNamed c p.which) where
   reads_well : (d : ℕ) (t : Term) → TermFits r d t → ReadsWell c (expression p t)
   reads_well zero t f = absurd f
   reads_well (suc d) (constant (pos n)) f = tt
@@ -61,7 +67,7 @@ module _ (c : Scene) (p : Places) (r : Readable) (names : HasBlockNames c r.scra
   reads_well (suc d) (state i) f = (names.states, tt)
   reads_well (suc d) state_along f = (names.states, place_reads c p.which p.state named)
   reads_well (suc d) state_behind f = (names.states, place_reads c p.which (suc p.state) named)
-  reads_well (suc d) mask f = (names.masks, tt)
+  reads_well (suc d) mask f = (names.masks f, tt)
   reads_well (suc d) (scratch n) f = names.scratch n f.0 f.1
   reads_well (suc d) (both op a b) f = (reads_well d a f.0, reads_well d b f.1)
 
@@ -85,20 +91,28 @@ module _ (c : Scene) (p : Places) (r : Readable) (names : HasBlockNames c r.scra
         works_keep opens n z ws may f.1 spares.1,
       )
 
-  step_keeps : (opens : List Opened) (x : Step) → MayWork c opens r.scratch → StepFits r x → StatementKeeps c opens (step_statement p x)
-  step_keeps opens (change x) may f = let is = is_scratch_work x f in work_keeps opens x f (may.scratch (changes x) is.0 is.1)
-  step_keeps opens (stop_if e word) may f = (reads_well 32 e f.0, ((tt, tt, tt), tt), tt)
-  step_keeps opens (repeat n k ws) may f =
-      (names.scratch n f.0.0 f.0.1, may.scratch n f.0.0 f.0.1, tt, works_keep opens n (pos k) ws may f.2 f.3)
+  -- a text keeps the rules wherever scratch and values may be assigned
+  abbrev Keeps : Block → Type 0
+  Keeps b = (opens : List Opened) → MayWork c opens r.scratch → BlockKeeps c opens b
 
-  steps_keep : (opens : List Opened) (xs : List Step) (rest : Block) → MayWork c opens r.scratch → StepsFit r xs → BlockKeeps c opens rest
+  step_keeps : (opens : List Opened) (x : Step) (rest : Block) → MayWork c opens r.scratch → StepFits r x → Keeps rest → BlockKeeps c opens (step_text p x rest)
+  step_keeps opens (change x) rest may f h =
+      let is = is_scratch_work x f in (work_keeps opens x f (may.scratch (changes x) is.0 is.1), h opens may)
+  step_keeps opens (stop_if e word) rest may f h =
+      ((reads_well 32 e f.0, ((tt, tt, tt), tt), h (opens ++ Branch ∷ []) (work_more c opens r.scratch may)), tt)
+  step_keeps opens (repeat n k ws) rest may f h =
+      ((names.scratch n f.0.0 f.0.1, may.scratch n f.0.0 f.0.1, tt, works_keep opens n (pos k) ws may f.2 f.3), h opens may)
+
+  steps_keep : (opens : List Opened) (xs : List Step) (rest : Block) → MayWork c opens r.scratch → StepsFit r xs → Keeps rest
       → BlockKeeps c opens (steps_text p xs rest)
-  steps_keep opens [] rest may f h = h
-  steps_keep opens (x ∷ xs) rest may f h = (step_keeps opens x may f.0, steps_keep opens xs rest may f.1 h)
+  steps_keep opens [] rest may f h = h opens may
+  steps_keep opens (x ∷ xs) rest may f h =
+      step_keeps opens x (steps_text p xs rest) may f.0 (λ others more. steps_keep others xs rest more f.1 h)
 
   recipe_keeps : (opens : List Opened) (x : Recipe) → MayWork c opens r.scratch → RecipeFits r x → BlockKeeps c opens (recipe_text p x)
   recipe_keeps opens x may f =
-      steps_keep opens x.steps _ may f.0 (((names.values, may.values, place_reads c p.which p.outs named), reads_well 32 x.value f.1), tt)
+      steps_keep opens x.steps _ may f.0
+      (λ others more. (((names.values, more.values, place_reads c p.which p.outs named), reads_well 32 x.value f.1), tt))
 
 -- ---- blocks
 
@@ -111,15 +125,9 @@ upto_keeps c opens f zero go = tt
 upto_keeps c opens f (suc n) go =
     joined_keep c opens (upto f n) (f n) (upto_keeps c opens f n (λ e h. go e (omega (arith, h)))) (go n (omega arith))
 
-work_more : (c : Scene) (opens : List Opened) (k : ℕ) → MayWork c opens k → MayWork c (opens ++ Branch ∷ []) k
-work_more c opens k may = record {
-  values = branch_more c opens values may.values;
-  scratch = λ n l m. branch_more c opens (scratch_name n) (may.scratch n l m);
-}
-
 -- fewer scratch numbers
-fewer_names : (c : Scene) (j k : ℕ) → j ≤ k → HasBlockNames c k → HasBlockNames c j
-fewer_names c j k l h =
+fewer_names : (c : Scene) (looks : Bool) (j k : ℕ) → j ≤ k → HasBlockNames c looks k → HasBlockNames c looks j
+fewer_names c looks j k l h =
     record { values = h.values; states = h.states; masks = h.masks; scratch = λ n a b. h.scratch n a (omega (arith, b, l)) }
 
 fewer_works : (c : Scene) (opens : List Opened) (j k : ℕ) → j ≤ k → MayWork c opens k → MayWork c opens j
@@ -133,13 +141,13 @@ turn_works c opens j z h = record {
   scratch = λ n a b. turn_more c opens (scratch_name n) (scratch_name (suc j)) z (h.scratch n a b) (other_number 116 n (suc j) (λ e. omega (arith, e, b)));
 }
 
-module _ (c : Scene) (p : Places) (r : Readable) (names : HasBlockNames c r.scratch) (n : ℕ) where
+module _ (c : Scene) (p : Places) (r : Readable) (names : HasBlockNames c r.mask r.scratch) (n : ℕ) where
   each_keeps : (f : ℕ → Recipe) (j : ℕ) (opens : List Opened) → j ≤ r.scratch → MayWork c opens r.scratch
       → ((e : ℕ) → e < n → RecipeFits (works_on r j e) (f e)) → BlockKeeps c opens (upto (λ e. recipe_text (written p (fixed e)) (f e)) n)
   each_keeps f j opens few may fits =
       upto_keeps c opens (λ e. recipe_text (written p (fixed e)) (f e)) n (λ e l.
-      recipe_keeps c (written p (fixed e)) (works_on r j e) (fewer_names c j r.scratch few names) tt opens (f e) (fewer_works c opens j r.scratch few may)
-      (fits e l))
+      recipe_keeps c (written p (fixed e)) (works_on r j e) (fewer_names c r.mask j r.scratch few names) tt opens (f e)
+      (fewer_works c opens j r.scratch few may) (fits e l))
 
   looped_keeps : (x : Recipe) (j : ℕ) (opens : List Opened) → suc j ≤ r.scratch → MayWork c opens r.scratch → RecipeFits (works_on r j 0) x
       → BlockKeeps c opens (looped_text p n (suc j) x)
@@ -150,7 +158,7 @@ module _ (c : Scene) (p : Places) (r : Readable) (names : HasBlockNames c r.scra
           counter,
           may.scratch (suc j) (omega arith) few,
           tt,
-          recipe_keeps c (written p (counted_by (suc j))) (works_on r j 0) (fewer_names c j r.scratch less names) counter
+          recipe_keeps c (written p (counted_by (suc j))) (works_on r j 0) (fewer_names c r.mask j r.scratch less names) counter
               (opens ++ Turn (scratch_name (suc j)) (bounds.Num (pos n)) ∷ []) x
               (turn_works c opens j (pos n) (fewer_works c opens j r.scratch less may)) fits,
         ),
@@ -176,7 +184,7 @@ module _ (c : Scene) (p : Places) (r : Readable) (names : HasBlockNames c r.scra
         tt,
       )
 
-module _ (c : Scene) (s : Spec) (p : Places) (is_typed : typed s ≡ true) (names : HasBlockNames c (scratch_of s.kind s)) where
+module _ (c : Scene) (s : Spec) (p : Places) (is_typed : typed s ≡ true) (names : HasBlockNames c (reads_mask s.kind) (scratch_of s.kind s)) where
   sensor_keeps : (opens : List Opened) (z : ℤ) → s.kind ≡ Sensor → MayWork c opens (scratch_of s.kind s) → BlockKeeps c opens (sensor_text p z)
   sensor_keeps opens z kind may =
       let one = sensor_takes s.kind s kind in
@@ -194,9 +202,9 @@ module _ (c : Scene) (s : Spec) (p : Places) (is_typed : typed s ≡ true) (name
           subst (BlockKeeps c opens) (sym (values_are s.kind s p n))
           (way_keeps c p (fed s) names (total s.outs) (way_of s.kind s) 8 opens may (cell_reads_law s is_typed n))
 
-module _ (c : Scene) (s : Spec) (p : Places) (is_typed : typed s ≡ true) (names : HasBlockNames c (next_scratch s.kind s)) where
-  no_scratch : HasBlockNames c 0
-  no_scratch = fewer_names c 0 (next_scratch s.kind s) (omega arith) names
+module _ (c : Scene) (s : Spec) (p : Places) (is_typed : typed s ≡ true) (names : HasBlockNames c false (next_scratch s.kind s)) where
+  no_scratch : HasBlockNames c false 0
+  no_scratch = fewer_names c false 0 (next_scratch s.kind s) (omega arith) names
 
   next_value_keeps : (opens : List Opened) (i : ℕ) → i < state_len_of s.kind s → MayAssign c opens states → BlockKeeps c opens (next_value_text s p i)
   next_value_keeps opens i l may = (
@@ -239,7 +247,7 @@ module _ (c : Scene) (s : Spec) (p : Places) (is_typed : typed s ≡ true) (name
           )
       by_size false e = upto_keeps c opens (next_value_text s p) (state_len_of s.kind s) (λ i l. next_value_keeps opens i l may.states)
 
-module _ (c : Scene) (s : Spec) (p : Places) (is_typed : typed s ≡ true) (names : HasBlockNames c 0) where
+module _ (c : Scene) (s : Spec) (p : Places) (is_typed : typed s ≡ true) (names : HasBlockNames c false 0) where
   pub delay_keeps : has_delay s.kind ≡ true → ReadsWell c (delay_expression s p)
   delay_keeps has = reads_well c (written p (fixed 0)) (inputs s) names tt 32 (delay_term s.kind s) (delay_reads s is_typed has)
 

@@ -1,5 +1,5 @@
 -- How steps go, one after the other, and what they may read.
-use Rattle.std.proofs.Common.{◌≡◌, ℕ, zero, suc, ◌+◌, ◌≤◌, ◌≤ℤ◌, ◌-ℤ◌, inl, inr, Option, Some, Bool, true, false, refl, ap, ◌∙◌, arith, ℤ, pos, negsuc, if◌then◌else◌, List, [], ◌∷◌, ◌++◌}
+use Rattle.std.proofs.Common.{◌≡◌, ℕ, zero, suc, ◌+◌, ◌≤◌, ◌≤ℤ◌, ◌-ℤ◌, inl, inr, Option, Some, Bool, true, false, ◌||◌, true≢false, refl, ap, ◌∙◌, arith, ℤ, pos, negsuc, if◌then◌else◌, List, [], ◌∷◌, ◌++◌}
 use Rattle.std.specs.Prelude.{nat_eq, int_lt}
 use Rattle.std.proofs.lemmas.Bool.Decides.{nat_tests}
 use Rattle.std.proofs.lemmas.Int.{ints}
@@ -11,12 +11,12 @@ use Rattle.sci_base.proofs.FitLemmas.{low_at_least, high_at_most, low≤high, sp
 use Rattle.sci_kinds.specs.declared.Cell.{Cell}
 use Rattle.sci_kinds.specs.declared.Cell.TheVariants.{Value, Overflow, Zero}
 use Rattle.sci_kinds.specs.Table.{fitted}
-use Rattle.c_ast.specs.declared.Op.TheVariants.{Lt, Gt}
+use Rattle.c_ast.specs.declared.Op.TheVariants.{Lt, Gt, Or}
 use Rattle.c_mean.specs.Meaning.{truth, ◌>>=◌}
 use Rattle.c_mean.specs.Laws.{Within}
 use Rattle.sci_cgen_blocks.specs.Terms.{Given, Term, constant, input, along, state, state_along, state_behind, mask, scratch, both, value, Scratch, with_scratch, Step, change, assign, assign_if, stop_if, worked, worked_by, do_step, Gives, work_under, stopped_under, Readable, TermFits, StepsFit, IsSpelled, IsScratch}
 use Rattle.sci_cgen_blocks.specs.Recipes.{result, set_if, fit_steps}
-use Rattle.sci_cgen_blocks.proofs.Operators.{lt_is, gt_is}
+use Rattle.sci_cgen_blocks.proofs.Operators.{lt_is, gt_is, or_is}
 use Rattle.sci_cgen_blocks.proofs.Fitting.{wrapped_is, fit_wrap, cases_below, lt_yes, lt_no}
 
 -- steps and the value behind them, which give what a cell is
@@ -120,15 +120,17 @@ module _ (g : Given) (t : Ty) (s : Scratch) where
       to_high z e f h = assign_if_goes false (below_is z false e f) (λ _. refl)
           (λ s' q k. last s' z (high t) true (q ∙ e) h refl)
 
+  outside_is : (z : ℤ) (a b : Bool) → s 1 ≡ z → int_lt z (low t) ≡ a → (a ≡ false → int_lt (high t) z ≡ b)
+      → value g s (both Or (both Lt result (constant (low t))) (both Gt result (constant (high t)))) ≡ Some (truth (a || b))
+  outside_is z a b e f h = or_is a b (below_is z a e f) (λ n. above_is z b e (h n))
+
   -- or nothing fits
   stop_gives : (z : ℤ) → s 1 ≡ z → Reaches g (fit_steps t Stop) result s (fitted (fit t Stop z))
   stop_gives z e = elim (cases_below z (low t)) [
-    | inl l ↦ rw (fit_below t Stop z l) (overflow_stops (below_is z true e (lt_yes z (low t) l)))
+    | inl l ↦ rw (fit_below t Stop z l) (overflow_stops (outside_is z true true e (lt_yes z (low t) l) (λ n. absurd (true≢false n))))
     | inr l ↦ elim (cases_below (high t) z) [
-      | inl h ↦ rw (fit_above t Stop z h) (test_goes (below_is z false e (lt_no z (low t) l))
-          (overflow_stops (above_is z true e (lt_yes (high t) z h))))
-      | inr h ↦ rw (fit_inside t Stop z l h) (test_goes (below_is z false e (lt_no z (low t) l))
-          (test_goes (above_is z false e (lt_no (high t) z h)) (done_gives (ap Some e))))
+      | inl h ↦ rw (fit_above t Stop z h) (overflow_stops (outside_is z false true e (lt_no z (low t) l) (λ n. lt_yes (high t) z h)))
+      | inr h ↦ rw (fit_inside t Stop z l h) (test_goes (outside_is z false false e (lt_no z (low t) l) (λ n. lt_no (high t) z h)) (done_gives (ap Some e)))
     ]
   ]
 
@@ -160,7 +162,7 @@ TermReads r (along k) = r.input k r.element
 TermReads r (state i) = r.state i
 TermReads r state_along = r.state r.element
 TermReads r state_behind = r.state (suc r.element)
-TermReads r mask = Unit {0}
+TermReads r mask = r.mask ≡ true
 TermReads r (scratch n) = IsScratch r n
 TermReads r (both op a b) = TermReads r a × TermReads r b
 
@@ -202,4 +204,4 @@ fit_reads r t Wrap h =
 fit_reads r t Saturate h =
     let one : IsScratch r 1 = (omega arith, h) in ((one, (one, low_spelled t), low_spelled t), ((one, (one, high_spelled t), high_spelled t), tt))
 fit_reads r t Stop h =
-    let one : IsScratch r 1 = (omega arith, h) in (((one, low_spelled t), omega arith), (((one, high_spelled t), omega arith), tt))
+    let one : IsScratch r 1 = (omega arith, h) in ((((one, low_spelled t), (one, high_spelled t)), omega arith), tt)

@@ -3,11 +3,11 @@ use Rattle.std.proofs.Common.{arith, ◌≡◌, ℕ, zero, suc, ◌+◌, ◌<◌
 use Rattle.std.proofs.lemmas.List.{drop_more}
 use Rattle.c_ast.specs.declared.Stmt.{Stmt}
 use Rattle.c_ast.specs.declared.Bound.TheVariants as bounds
-use Rattle.c_ast.specs.Syntax.{Statement, Block, done, next, set, cell, loop}
+use Rattle.c_ast.specs.Syntax.{Statement, Block, done, next, loop}
 use Rattle.c_ast.specs.View.{statement_of, statements_of}
 use Rattle.c_mean.specs.Texts.{joined, upto}
-use Rattle.sci_cgen_blocks.specs.Terms.{Step, Recipe}
-use Rattle.sci_cgen_blocks.specs.Texts.{counted_by, Places, written, values, scratch_name, element_place, expression, step_statement, steps_text, recipe_text, looped_text}
+use Rattle.sci_cgen_blocks.specs.Terms.{Recipe}
+use Rattle.sci_cgen_blocks.specs.Texts.{counted_by, Places, written, scratch_name, recipe_text, looped_text}
 
 pub joined_assoc : (a b c : Block) → joined (joined a b) c ≡ joined a (joined b c)
 joined_assoc done b c = refl
@@ -55,18 +55,11 @@ all_dropped (x ∷ l) (suc i) h = let less : length l ≤ i = omega arith in all
 
 -- ---- a recipe
 
-pub steps_then : (p : Places) (xs : List Step) (b : Block) → joined (steps_text p xs done) b ≡ steps_text p xs b
-steps_then p [] b = refl
-steps_then p (x ∷ xs) b = ap (next (step_statement p x)) (steps_then p xs b)
-
--- the steps of a recipe, and behind them the element's assignment
-pub recipe_done : (p : Places) (r : Recipe) (old mid new : List Stmt) (s : Stmt)
-    → statements_of mid ≡ joined (statements_of old) (steps_text p r.steps done) → new ≡ mid ++ s ∷ []
-    → statement_of s ≡ set (cell values (element_place p.which p.outs)) (expression p r.value) → statements_of new ≡ joined (statements_of old) (recipe_text p r)
-recipe_done p r old mid new s so_far push is =
-    let last : Block = next (set (cell values (element_place p.which p.outs)) (expression p r.value)) done in
-    pushed mid new s _ push is ∙ ap (λ b. joined b last) so_far ∙ joined_assoc (statements_of old) (steps_text p r.steps done) last
-    ∙ ap (joined (statements_of old)) (steps_then p r.steps last)
+-- A statement was pushed, and the rest comes behind it.
+pub text_behind : (old mid : List Stmt) (s : Stmt) (first : Statement) (rest all : Block) → mid ≡ old ++ s ∷ [] → statement_of s ≡ first → next first rest ≡ all
+    → joined (statements_of mid) rest ≡ joined (statements_of old) all
+text_behind old mid s first rest all push is cut =
+    ap (λ b. joined b rest) (pushed old mid s first push is) ∙ joined_assoc (statements_of old) (next first done) rest ∙ ap (joined (statements_of old)) cut
 
 -- a loop whose body was pushed
 pub looped_done : (p : Places) (n c : ℕ) (r : Recipe) (old body new : List Stmt) (s : Stmt) → old ≡ []

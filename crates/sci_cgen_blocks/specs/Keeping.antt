@@ -90,11 +90,12 @@ pub record StandsIn (c : Scene) (opens : List Opened) (s : Scope) : Type 0 where
 
 -- ---- where a block's texts stand
 
--- The arrays of values, states and masks, and the scratch numbers t1 to tk, are declared as such. Nothing else is read by a block's texts.
-pub record HasBlockNames (c : Scene) (k : ℕ) : Type 0 where
+-- The arrays of values and states, that of masks where the text looks at the block's, and the scratch numbers t1 to tk, are declared as such. Nothing else is
+-- read by a block's texts.
+pub record HasBlockNames (c : Scene) (looks : Bool) (k : ℕ) : Type 0 where
   pub values : IsArray c values
   pub states : IsArray c states
-  pub masks : IsArray c masks
+  pub masks : looks ≡ true → IsArray c masks
   pub scratch : (n : ℕ) → 1 ≤ n → n ≤ k → IsScalar c (scratch_name n)
 
 -- scratch and states may be assigned

@@ -1,11 +1,11 @@
 -- The ways are right: each gives what the table of kinds says, and reads nothing but what the block has. And so are the texts made of them.
-use Rattle.std.specs.Prelude.{◌≡◌, ◌≢◌, ℕ, suc, ◌+◌, ◌<◌, ◌≤◌, ℤ, pos, ◌≤ℤ◌, ◌<ℤ◌, List, Some, None, true}
+use Rattle.std.specs.Prelude.{◌≡◌, ◌≢◌, ℕ, suc, ◌+◌, ◌<◌, ◌≤◌, ℤ, pos, ◌≤ℤ◌, ◌<ℤ◌, List, Some, None, true, false}
 use Rattle.sci_forms.specs.declared.Kind.TheVariants.{Sensor, ModuloCount}
 use Rattle.sci_base.specs.Lists.{at}
 use Rattle.sci_forms.specs.declared.spec.Spec.{Spec}
 use Rattle.sci_forms.specs.Ports.{total, Fills}
 use Rattle.sci_forms.specs.Words.{param, state_len_of}
-use Rattle.sci_forms.specs.Form.{is_sync, has_delay}
+use Rattle.sci_forms.specs.Form.{is_sync, has_delay, reads_mask}
 use Rattle.sci_forms.specs.Typed.{typed}
 use Rattle.sci_kinds.specs.Asks.{IsState, IsMask}
 use Rattle.sci_kinds.specs.Table.{cell, out, next_of, delay, branch}
@@ -29,7 +29,7 @@ CellLaw =
     (s : Spec) (x : List ℤ) (m : ℕ) (u : List ℤ) → typed s ≡ true → s.kind ≢ Sensor → IsState s x → IsMask s m → Fills s.ins u
     → WayGives (given s x m u) (total s.outs) (cell s x m u) (way_of s.kind s)
 
--- it reads inputs with feedthrough and the state alone, and makes at most eight decisions, one in the other
+-- it reads inputs with feedthrough, the state, and the mask by its kind, alone, and makes at most eight decisions, one in the other
 abbrev pub CellReadsLaw : Type 0
 CellReadsLaw = (s : Spec) → typed s ≡ true → s.kind ≢ Sensor → WayFits (fed s) (total s.outs) (way_of s.kind s) 8
 
@@ -68,8 +68,8 @@ BranchTermLaw =
 
 -- ---- what the texts do in a memory
 
--- From a memory that holds the block's state, its mask and its inputs with feedthrough, the text of its values leaves what the table of kinds says, or
--- ends the run by the stop. Its places can be spelled, so that the sum of a counter and a place is one.
+-- From a memory that holds the block's state, its inputs with feedthrough, and its mask where its kind looks at it, the text of its values leaves what the
+-- table of kinds says, or ends the run by the stop. Its places can be spelled, so that the sum of a counter and a place is one.
 abbrev pub ValuesLaw : Type 0
 ValuesLaw =
     (env : Around) (s : Spec) (p : Places) (x : List ℤ) (m : ℕ) (u : List ℤ) (n : ℕ) (w : World) → typed s ≡ true → s.kind ≢ Sensor → IsState s x
@@ -106,9 +106,9 @@ pub record MayLaw : Type 0 where
   pub body : (s : Spec) (p : Places) → block_within (body_may s) (body_text s p) ≡ true
   pub next : (s : Spec) (p : Places) → block_within next_may (next_text s p) ≡ true
 
--- They are within the bounds of the subset: the values nested at most twelve deep, the next state two.
+-- They are within the bounds of the subset: the values nested at most fourteen deep, the next state two.
 pub record BoundsLaw : Type 0 where
-  pub body : (s : Spec) (p : Places) → typed s ≡ true → AreInBounds s p → (d : ℕ) → BlockFits (12 + d) (body_text s p)
+  pub body : (s : Spec) (p : Places) → typed s ≡ true → AreInBounds s p → (d : ℕ) → BlockFits (14 + d) (body_text s p)
   pub next : (s : Spec) (p : Places) → typed s ≡ true → AreInBounds s p → (d : ℕ) → BlockFits (suc (suc d)) (next_text s p)
   pub delay : (s : Spec) (p : Places) → typed s ≡ true → has_delay s.kind ≡ true → AreInBounds s p → IsExp (delay_expression s p)
   pub branch : (s : Spec) (p : Places) → typed s ≡ true → is_sync s.kind ≡ true → AreInBounds s p → IsExp (branch_expression s p)
@@ -117,9 +117,9 @@ pub record BoundsLaw : Type 0 where
 pub record RulesLaw : Type 0 where
   pub text : (c : Scene) (b : Block) (opens : List Opened) (s : Scope) (i : ℕ) → BlockKeeps c opens b → StandsIn c opens s
       → first_blamed i s (block_events b) ≡ None
-  pub body : (c : Scene) (s : Spec) (p : Places) (opens : List Opened) → typed s ≡ true → HasBlockNames c (scratch_of s.kind s)
+  pub body : (c : Scene) (s : Spec) (p : Places) (opens : List Opened) → typed s ≡ true → HasBlockNames c (reads_mask s.kind) (scratch_of s.kind s)
       → MayWork c opens (scratch_of s.kind s) → BlockKeeps c opens (body_text s p)
-  pub next : (c : Scene) (s : Spec) (p : Places) (opens : List Opened) → typed s ≡ true → HasBlockNames c (next_scratch s.kind s)
+  pub next : (c : Scene) (s : Spec) (p : Places) (opens : List Opened) → typed s ≡ true → HasBlockNames c false (next_scratch s.kind s)
       → MayStep c opens (next_scratch s.kind s) → BlockKeeps c opens (next_text s p)
-  pub delay : (c : Scene) (s : Spec) (p : Places) → typed s ≡ true → has_delay s.kind ≡ true → HasBlockNames c 0 → ReadsWell c (delay_expression s p)
-  pub branch : (c : Scene) (s : Spec) (p : Places) → typed s ≡ true → is_sync s.kind ≡ true → HasBlockNames c 0 → ReadsWell c (branch_expression s p)
+  pub delay : (c : Scene) (s : Spec) (p : Places) → typed s ≡ true → has_delay s.kind ≡ true → HasBlockNames c false 0 → ReadsWell c (delay_expression s p)
+  pub branch : (c : Scene) (s : Spec) (p : Places) → typed s ≡ true → is_sync s.kind ≡ true → HasBlockNames c false 0 → ReadsWell c (branch_expression s p)

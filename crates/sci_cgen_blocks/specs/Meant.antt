@@ -6,6 +6,7 @@ use Rattle.sci_forms.specs.declared.Kind.TheVariants.{Sensor}
 use Rattle.sci_forms.specs.declared.spec.Spec.{Spec}
 use Rattle.sci_forms.specs.Ports.{total, port_at, elements, before}
 use Rattle.sci_forms.specs.Words.{state_len_of}
+use Rattle.sci_forms.specs.Form.{reads_mask}
 use Rattle.sci_kinds.specs.Table.{Answer, Values, NoFit, NoQuotient}
 use Rattle.c_mean.specs.Meaning.{World, Ran, same_name}
 use Rattle.sci_base.specs.declared.observation.StopWord.TheVariants.{Overflow, Zero, Input}
@@ -15,11 +16,12 @@ use Rattle.c_mean.specs.Runs.{Leads, Stops}
 use Rattle.sci_cgen_blocks.specs.Recipes.{scratch_of, next_scratch, IsElement}
 use Rattle.sci_cgen_blocks.specs.Texts.{Places, values, states, masks, scratch_name, input_place}
 
--- A memory holds a block's state, its mask and those of its inputs that are asked for; its outputs and its state are there.
+-- A memory holds a block's state, its mask and those of its inputs that are asked for; its outputs are there. The mask is asked for by a kind that looks at it
+-- alone: no text of another kind names the masks, and its values, next state, delays and branch are the same on all masks.
 pub record Holds (s : Spec) (p : Places) (wanted : ℕ → Type 0) (x : List ℤ) (m : ℕ) (u : List ℤ) (w : World) : Type 0 where
   pub ins : (k e : ℕ) → k < length s.ins → e < elements (port_at s.ins k) → wanted k → get w values (input_place p k e) ≡ Some (at u (before s.ins k + e))
   pub state : (i : ℕ) → i < state_len_of s.kind s → get w states (p.state + i) ≡ Some (at x i)
-  pub mask : get w masks p.mask ≡ Some (pos m)
+  pub mask : reads_mask s.kind ≡ true → get w masks p.mask ≡ Some (pos m)
   pub outs : (e : ℕ) → e < total s.outs → Has w values (p.outs + e)
 
 -- so are the scratch numbers that its values take

@@ -10,6 +10,10 @@ use Rattle.sci_base.specs.Fit.{low, high, span, width, int_eq}
 use Rattle.sci_base.specs.Lists.{at, truth_at}
 use Rattle.sci_forms.specs.declared.Kind.{Kind}
 use Rattle.sci_forms.specs.declared.Kind.TheVariants.{Const, Summation, GainBlk, Product, AbsValue, Signum, MaxMin, Saturation, DeadBand, Convert, Mux, Demux, Extractor, LogicalOp, RelationalOp, Shift, BitSet, BitClear, ExtractBits, Switch2, Select, Logic, AndLog, Dollar, SampHold, Register, ModuloCount, GatedDelay, Sensor, EvtDly, EvtVarDly, IfThEl, ESelect, Halt}
+use Rattle.sci_forms.specs.declared.form.Memory.TheVariants.{Elements, Moving, Counter}
+use Rattle.sci_forms.specs.declared.form.Role.{Role}
+use Rattle.sci_forms.specs.declared.form.Role.TheVariants.{Values, State, Delay, Branch, Sensor as Senses, Halt as Halts}
+use Rattle.sci_forms.specs.Form.{role_of, reads_mask}
 use Rattle.sci_forms.specs.declared.ports.Port.{Port}
 use Rattle.sci_forms.specs.declared.spec.Spec.{Spec}
 use Rattle.sci_forms.specs.Ports.{elements, port_at, before, total}
@@ -17,6 +21,8 @@ use Rattle.sci_forms.specs.Words.{param, out_type, state_len_of}
 use Rattle.sci_kinds.specs.Table.{mode_of}
 use Rattle.c_ast.specs.declared.Op.{Op}
 use Rattle.c_ast.specs.declared.Op.TheVariants.{Add, Sub, Mul, Div, Rem, Lt, Le, Gt, Ge, Eq, Ne, And, Or}
+use Rattle.sci_cgen_blocks.specs.declared.logical_kinds.Join.{Join}
+use Rattle.sci_cgen_blocks.specs.declared.logical_kinds.Join.TheVariants.{Every, Any, Odd}
 use Rattle.sci_cgen_blocks.specs.Terms.{Term, constant, input, along, state, state_along, state_behind, mask, scratch, both, Work, assign, assign_if, Step, change, stop_if, repeat, Recipe, Way, each, all, decide, is_looped, Given, Readable}
 
 -- ---- words
@@ -54,7 +60,7 @@ wrapped ty t = both Add (constant (low ty)) (modulo (both Sub t (constant (low t
 abbrev pub fit_steps : Ty → Mode → List Step
 fit_steps ty Wrap = set (wrapped ty result) ∷ []
 fit_steps ty Saturate = set_if (both Lt result (constant (low ty))) (constant (low ty)) ∷ set_if (both Gt result (constant (high ty))) (constant (high ty)) ∷ []
-fit_steps ty Stop = stop_if (both Lt result (constant (low ty))) 0 ∷ stop_if (both Gt result (constant (high ty))) 0 ∷ []
+fit_steps ty Stop = stop_if (both Or (both Lt result (constant (low ty))) (both Gt result (constant (high ty)))) 0 ∷ []
 
 -- the result of these steps, fitted
 abbrev pub fitted_out : Ty → Mode → List Step → Recipe
@@ -136,17 +142,49 @@ logical op n =
 abbrev pub logical_truths : ℤ → ℕ → Recipe
 logical_truths op n = record { steps = set (natural 0) ∷ changed (counted (λ k. truth (along k)) 0 n); value = logical op n }
 
--- the highest bit of the pattern of a number
-abbrev pub highest_bit : Ty → Term → Term
-highest_bit ty t = both Div (pattern ty t) (natural (span ty / 2))
+-- how an operation joins bits
+abbrev pub join_of : ℤ → Join
+join_of op =
+    if int_eq op (pos 0) then Every else
+    if int_eq op (pos 2) then Every else
+    if int_eq op (pos 4) then Odd else Any
 
--- Bit by bit, the highest first: scratch 2 has the bits so far, 3 the power of 2 that moves the next one up to the highest, 4 counts the bits.
+-- whether it turns over what it has joined
+abbrev pub is_turned : ℤ → Bool
+is_turned op =
+    if int_eq op (pos 0) then false else
+    if int_eq op (pos 1) then false else
+    if int_eq op (pos 4) then false else true
+
+-- the last bit of a scratch number
+abbrev pub last_bit : ℕ → Term
+last_bit n = both Rem (scratch n) (natural 2)
+
+-- what the last bits of scratch 1 and 2 give, as a test
+abbrev pub last_joined : Join → Term
+last_joined Every = both And (last_bit 1) (last_bit 2)
+last_joined Any = both Or (last_bit 1) (last_bit 2)
+last_joined Odd = both Rem (both Add (scratch 1) (scratch 2)) (natural 2)
+
+-- Both give their last bit away, and scratch 1 takes what these give as its highest.
+abbrev pub bit_joined : Ty → Join → List Work
+bit_joined ty j =
+    assign_if (last_joined j) 1 (both Add result (natural (span ty))) ∷ assign 1 (both Div result (natural 2)) ∷ assign 2 (both Div (scratch 2) (natural 2)) ∷ []
+
+-- The patterns of inputs k to k + n - 1, each in scratch 2, are joined with the one in scratch 1, two bits in each turn.
+abbrev pub patterns_joined : Ty → Join → ℕ → ℕ → List Step
+patterns_joined ty j k zero = []
+patterns_joined ty j k (suc n) =
+    change (assign 2 (pattern ty (along k))) ∷ repeat 3 (width ty / 2) (bit_joined ty j ++ bit_joined ty j) ∷ patterns_joined ty j (suc k) n
+
+-- the pattern in scratch 1, turned over or not
+abbrev pub turned_over : Ty → Bool → Term
+turned_over ty b = if b then both Sub (natural (span ty - 1)) result else result
+
 abbrev pub logical_bits : Ty → ℤ → ℕ → Recipe
 logical_bits ty op n = record {
-  steps = change (assign 2 (natural 0)) ∷ change (assign 3 (natural 1)) ∷ repeat 4 (width ty) (
-      (assign 1 (natural 0) ∷ counted (λ k. highest_bit ty (both Mul (along k) (scratch 3))) 0 n)
-      ++ assign 2 (both Add (both Mul (scratch 2) (natural 2)) (logical op n)) ∷ assign 3 (both Mul (scratch 3) (natural 2)) ∷ []) ∷ [];
-  value = wrapped ty (scratch 2);
+  steps = set (pattern ty (along 0)) ∷ patterns_joined ty (join_of op) 1 (n - 1);
+  value = wrapped ty (turned_over ty (is_turned op));
 }
 
 abbrev pub logical_operation : Ty → ℤ → ℤ → ℕ → Recipe
@@ -252,7 +290,7 @@ worked_of MaxMin s = 1
 worked_of Saturation s = 1
 worked_of DeadBand s = 1
 worked_of Convert s = 1
-worked_of LogicalOp s = if int_eq (param s 1) (pos 0) then 1 else 4
+worked_of LogicalOp s = if int_eq (param s 1) (pos 0) then 1 else if nat_lt 1 (length s.ins) then 3 else 1
 worked_of Shift s = if int_eq (param s 1) (pos 0) then 0 else 1
 worked_of Sensor s = 1
 worked_of _ s = 0
@@ -318,25 +356,48 @@ way_of c s = if is_alike c s then all (worked_of c s) (recipe_of c s) else each 
 
 -- ---- next states, delays, branches
 
--- Value i of the next state. The values are assigned in order, so a term may read the state from value i on alone.
+-- Value i of the next state, by what a state is. The values are assigned in order, so a term may read the state from value i on alone.
 -- A counter stands below its base, so that one more is the base at most.
-abbrev pub next_term : Kind → Spec → ℕ → Term
-next_term Dollar s i = input 0 i
-next_term GatedDelay s i = input 0 i
-next_term Register s i = if nat_lt (i + 1) (length s.state) then state (i + 1) else input 0 0
-next_term ModuloCount s i = both Mul (both Lt (both Add (state 0) (natural 1)) (constant (param s 0))) (both Add (state 0) (natural 1))
-next_term _ s i = natural 0
+abbrev pub next_by : Role → Spec → ℕ → Term
+next_by (State Elements) s i = input 0 i
+next_by (State Moving) s i = if nat_lt (i + 1) (length s.state) then state (i + 1) else input 0 0
+next_by (State Counter) s i = both Mul (both Lt (both Add (state 0) (natural 1)) (constant (param s 0))) (both Add (state 0) (natural 1))
+next_by Values s i = natural 0
+next_by Delay s i = natural 0
+next_by Branch s i = natural 0
+next_by Senses s i = natural 0
+next_by Halts s i = natural 0
 
--- How many of the first values of the next state are worked out alike, and the term of each as the element that is worked out. They are assigned in order too,
--- so a register reads the value behind one before that is written. Its last value is the input, and a counter has no other.
+abbrev pub next_term : Kind → Spec → ℕ → Term
+next_term c s i = next_by (role_of c) s i
+
+-- How many of the first values of the next state are worked out alike, of n, and the term of each as the element that is worked out. They are assigned in order
+-- too, so where values move up, each reads the value behind one before that is written. The last of them is the input, and a counter has no other.
+abbrev pub alike_by : Role → ℕ → ℕ
+alike_by (State Elements) n = n
+alike_by (State Moving) n = n - 1
+alike_by (State Counter) n = 0
+alike_by Values n = 0
+alike_by Delay n = 0
+alike_by Branch n = 0
+alike_by Senses n = 0
+alike_by Halts n = 0
+
 abbrev pub next_alike : Kind → Spec → ℕ
-next_alike Dollar s = state_len_of Dollar s
-next_alike GatedDelay s = state_len_of GatedDelay s
-next_alike c s = state_len_of c s - 1
+next_alike c s = alike_by (role_of c) (state_len_of c s)
+
+abbrev pub along_by : Role → Term
+along_by (State Moving) = state_behind
+along_by (State Elements) = along 0
+along_by (State Counter) = along 0
+along_by Values = along 0
+along_by Delay = along 0
+along_by Branch = along 0
+along_by Senses = along 0
+along_by Halts = along 0
 
 abbrev pub next_along : Kind → Spec → Term
-next_along Register s = state_behind
-next_along _ s = along 0
+next_along c s = along_by (role_of c)
 
 -- t where it is at most the most, else the most
 abbrev pub at_most : ℕ → Term → Term
@@ -370,14 +431,20 @@ given s x m u = record { input = λ k e. at u (before s.ins k + e); state = at x
 abbrev pub IsElement : Spec → ℕ → ℕ → Type 0
 IsElement s k e = (k < length s.ins) × (e < elements (port_at s.ins k))
 
--- for the values: the inputs with feedthrough, and the state
+-- for the values: the inputs with feedthrough, the state, and the mask by the kind
 abbrev pub fed : Spec → Readable
-fed s = record { input = λ k e. IsElement s k e × (truth_at s.feed k ≡ true); state = λ i. i < state_len_of s.kind s; scratch = scratch_of s.kind s; element = 0 }
+fed s = record {
+  input = λ k e. IsElement s k e × (truth_at s.feed k ≡ true);
+  state = λ i. i < state_len_of s.kind s;
+  mask = reads_mask s.kind;
+  scratch = scratch_of s.kind s;
+  element = 0;
+}
 
 -- for value i of the next state: all inputs, and the state from this value on
 abbrev pub from_value : Spec → ℕ → Readable
-from_value s i = record { input = IsElement s; state = λ j. (i ≤ j) × (j < state_len_of s.kind s); scratch = 0; element = 0 }
+from_value s i = record { input = IsElement s; state = λ j. (i ≤ j) × (j < state_len_of s.kind s); mask = false; scratch = 0; element = 0 }
 
 -- for delays and branches: all inputs
 abbrev pub inputs : Spec → Readable
-inputs s = record { input = IsElement s; state = λ i. ⊥; scratch = 0; element = 0 }
+inputs s = record { input = IsElement s; state = λ i. ⊥; mask = false; scratch = 0; element = 0 }

@@ -144,10 +144,11 @@ WayGives g n cells (decide c a b) = (s : Scratch) → Under (value g s c) (WayGi
 abbrev pub IsSpelled : ℤ → Type 0
 IsSpelled z = (negsuc 9223372036854775806 ≤ℤ z) × (z ≤ℤ pos 9223372036854775807)
 
--- elements of inputs, values of the state, and so many scratch numbers, counted from 1; and which element is worked out
+-- elements of inputs, values of the state, the mask or not, and so many scratch numbers, counted from 1; and which element is worked out
 pub record Readable : Type 1 where
   pub input : ℕ → ℕ → Type 0
   pub state : ℕ → Type 0
+  pub mask : Bool
   pub scratch : ℕ
   pub element : ℕ
 
@@ -163,7 +164,7 @@ TermFits r (suc d) (along k) = r.input k r.element
 TermFits r (suc d) (state i) = r.state i
 TermFits r (suc d) state_along = r.state r.element
 TermFits r (suc d) state_behind = r.state (suc r.element)
-TermFits r (suc d) mask = Unit {0}
+TermFits r (suc d) mask = r.mask ≡ true
 TermFits r (suc d) (scratch n) = IsScratch r n
 TermFits r (suc d) (both op a b) = TermFits r d a × TermFits r d b
 

@@ -80,18 +80,23 @@ works_text p (w ∷ ws) = next (work_statement p w) (works_text p ws)
 abbrev pub stop_text : ℕ → ℕ → Block
 stop_text word b = next (tell (stop (num (pos word)) (num (pos b)) (num (pos 0)))) done
 
-abbrev pub step_statement : Places → Step → Statement
-step_statement p (change w) = work_statement p w
-step_statement p (stop_if c word) = choice (expression p c) (stop_text word p.number) done
-step_statement p (repeat n k ws) = loop (scratch_name n) (bounds.Num (pos k)) (works_text p ws)
+-- A step, and the rest that follows it. Behind a stop the rest stands in an else: where the stop returns, it isn't done.
+abbrev pub step_text : Places → Step → Block → Block
+step_text p (change w) rest = next (work_statement p w) rest
+step_text p (stop_if c word) rest = next (choice (expression p c) (stop_text word p.number) rest) done
+step_text p (repeat n k ws) rest = next (loop (scratch_name n) (bounds.Num (pos k)) (works_text p ws)) rest
 
 abbrev pub steps_text : Places → List Step → Block → Block
 steps_text p [] rest = rest
-steps_text p (x ∷ xs) rest = next (step_statement p x) (steps_text p xs rest)
+steps_text p (x ∷ xs) rest = step_text p x (steps_text p xs rest)
 
--- the element of the outputs that is written for becomes what the recipe gives
+-- the element of the outputs that is written for becomes what a term is
+abbrev pub assigned_text : Places → Term → Block
+assigned_text p t = next (set (cell values (element_place p.which p.outs)) (expression p t)) done
+
+-- or what the recipe gives
 abbrev pub recipe_text : Places → Recipe → Block
-recipe_text p r = steps_text p r.steps (next (set (cell values (element_place p.which p.outs)) (expression p r.value)) done)
+recipe_text p r = steps_text p r.steps (assigned_text p r.value)
 
 -- what is written for each element, in a loop whose counter is a scratch number
 abbrev pub looped_text : Places → ℕ → ℕ → Recipe → Block

@@ -14,7 +14,7 @@ use crate::product_terms::{product, quotient};
 use crate::recipe_parts::{
     Recipe, Step, Term, both, natural, plain, set, set_if, worked, worked_out,
 };
-use crate::spec_words::{inputs, mode, out_type, param};
+use crate::spec_words::{inputs, mode};
 use c_ast::Op;
 use sci_base::NoMemory;
 use sci_forms::Spec;
@@ -26,7 +26,7 @@ fn term(alloc: Global, s: &Spec, port: u32) -> Result<Step, NoMemory>
     ensures { IfOk result (λ x. step_of x ≡ set_of (both_of (if int_eq (param_of s.now (port + 1)) (pos 1) then ops.Add else ops.Sub) first_scratch
         (along port))) }
 {
-    let op = if is_equal(param(s, port as usize + 1), 1) {
+    let op = if is_equal(s.param(port as usize + 1), 1) {
         Op::Add
     } else {
         Op::Sub
@@ -52,24 +52,24 @@ pub(crate) fn summation(alloc: Global, s: &Spec) -> Result<Recipe, NoMemory>
 {
     let mut steps = vec![in alloc; set(natural(0))]?;
     push_terms(alloc, &mut steps, s)?;
-    fitted_out(alloc, out_type(s), mode(s), steps)
+    fitted_out(alloc, s.out_type(), mode(s), steps)
 }
 
 /// The input times a number.
 pub(crate) fn gain(alloc: Global, s: &Spec) -> Result<Recipe, NoMemory>
     ensures { IfOk result (λ r. plain_recipe r ≡ recipe_of kinds.GainBlk s.now) }
 {
-    let factor = Term::Constant(param(s, 1));
-    product(alloc, out_type(s), mode(s), &factor, &Term::Along(0))
+    let factor = Term::Constant(s.param(1));
+    product(alloc, s.out_type(), mode(s), &factor, &Term::Along(0))
 }
 
 /// The first input times the second, or over it.
 pub(crate) fn product_or_quotient(alloc: Global, s: &Spec) -> Result<Recipe, NoMemory>
     ensures { IfOk result (λ r. plain_recipe r ≡ recipe_of kinds.Product s.now) }
 {
-    let (ty, mode) = (out_type(s), mode(s));
+    let (ty, mode) = (s.out_type(), mode(s));
     let (a, b) = (Term::Along(0), Term::Along(1));
-    if is_equal(param(s, 1), 1) {
+    if is_equal(s.param(1), 1) {
         product(alloc, ty, mode, &a, &b)
     } else {
         quotient(alloc, ty, mode, &a, &b)
@@ -83,7 +83,7 @@ pub(crate) fn abs_value(alloc: Global, s: &Spec) -> Result<Recipe, NoMemory>
     let is_negative = both(alloc, Op::Lt, worked(), natural(0))?;
     let negated = both(alloc, Op::Sub, natural(0), worked())?;
     let steps = vec![in alloc; set(Term::Along(0)), set_if(is_negative, negated)]?;
-    fitted_out(alloc, out_type(s), mode(s), steps)
+    fitted_out(alloc, s.out_type(), mode(s), steps)
 }
 
 /// -1, 0 or 1 by the sign.
@@ -119,7 +119,7 @@ pub(crate) fn extreme(alloc: Global, s: &Spec) -> Result<Recipe, NoMemory>
     requires { length s.now.ins < 2 ^ 32 }
     ensures { IfOk result (λ r. plain_recipe r ≡ recipe_of kinds.MaxMin s.now) }
 {
-    let op = if is_equal(param(s, 0), 1) {
+    let op = if is_equal(s.param(0), 1) {
         Op::Lt
     } else {
         Op::Gt
@@ -133,8 +133,8 @@ pub(crate) fn extreme(alloc: Global, s: &Spec) -> Result<Recipe, NoMemory>
 pub(crate) fn saturation(alloc: Global, s: &Spec) -> Result<Recipe, NoMemory>
     ensures { IfOk result (λ r. plain_recipe r ≡ recipe_of kinds.Saturation s.now) }
 {
-    let low = param(s, 0);
-    let high = param(s, 1);
+    let low = s.param(0);
+    let high = s.param(1);
     let is_above = both(alloc, Op::Gt, worked(), Term::Constant(high))?;
     let is_below = both(alloc, Op::Lt, Term::Along(0), Term::Constant(low))?;
     let steps = vec![in alloc;
@@ -160,10 +160,10 @@ pub(crate) fn dead_band(alloc: Global, s: &Spec) -> Result<Recipe, NoMemory>
 {
     let steps = vec![in alloc;
         set(natural(0)),
-        beyond(alloc, Op::Lt, param(s, 1))?,
-        beyond(alloc, Op::Gt, param(s, 2))?,
+        beyond(alloc, Op::Lt, s.param(1))?,
+        beyond(alloc, Op::Gt, s.param(2))?,
     ]?;
-    fitted_out(alloc, out_type(s), mode(s), steps)
+    fitted_out(alloc, s.out_type(), mode(s), steps)
 }
 
 /// The input as a number of the output's type.
@@ -171,5 +171,5 @@ pub(crate) fn convert(alloc: Global, s: &Spec) -> Result<Recipe, NoMemory>
     ensures { IfOk result (λ r. plain_recipe r ≡ recipe_of kinds.Convert s.now) }
 {
     let steps = vec![in alloc; set(Term::Along(0))]?;
-    fitted_out(alloc, out_type(s), mode(s), steps)
+    fitted_out(alloc, s.out_type(), mode(s), steps)
 }

@@ -11,8 +11,9 @@ ghost use Rattle.sci_cgen_blocks.specs.Plain.{term_of, steps_of, plain_recipe};
 
 use crate::fit_terms::{bit, from_pattern, modulo, pattern, wrapped};
 use crate::recipe_parts::{Recipe, Term, both, natural, plain, set, worked};
-use crate::spec_words::{out_type, param, power, span};
+use crate::spec_words::power;
 use c_ast::Op;
+use sci_base::bits::span;
 use sci_base::{NoMemory, Ty};
 use sci_forms::Spec;
 use sci_forms::values::is_equal;
@@ -71,9 +72,9 @@ pub(crate) fn shift(alloc: Global, s: &Spec) -> Result<Recipe, NoMemory>
     requires { unsigned_abs (param_of s.now 0) < 32 }
     ensures { IfOk result (λ r. plain_recipe r ≡ recipe_of kinds.Shift s.now) }
 {
-    let ty = out_type(s);
-    let places = param(s, 0);
-    if is_equal(param(s, 1), 0) {
+    let ty = s.out_type();
+    let places = s.param(0);
+    if is_equal(s.param(1), 0) {
         shifted(alloc, ty, places)
     } else {
         turned(alloc, ty, places_left(ty, places))
@@ -85,8 +86,8 @@ pub(crate) fn bit_set(alloc: Global, s: &Spec) -> Result<Recipe, NoMemory>
     requires { unsigned_abs (param_of s.now 0) < 32 }
     ensures { IfOk result (λ r. plain_recipe r ≡ recipe_of kinds.BitSet s.now) }
 {
-    let ty = out_type(s);
-    let k = param(s, 0).unsigned_abs() as u32;
+    let ty = s.out_type();
+    let k = s.param(0).unsigned_abs() as u32;
     let set = bit(alloc, pattern(alloc, ty, Term::Along(0))?, k)?;
     let missing = both(alloc, Op::Sub, natural(1), set)?;
     let weighed = both(alloc, Op::Mul, missing, natural(power(k)))?;
@@ -99,8 +100,8 @@ pub(crate) fn bit_clear(alloc: Global, s: &Spec) -> Result<Recipe, NoMemory>
     requires { unsigned_abs (param_of s.now 0) < 32 }
     ensures { IfOk result (λ r. plain_recipe r ≡ recipe_of kinds.BitClear s.now) }
 {
-    let ty = out_type(s);
-    let k = param(s, 0).unsigned_abs() as u32;
+    let ty = s.out_type();
+    let k = s.param(0).unsigned_abs() as u32;
     let set = bit(alloc, pattern(alloc, ty, Term::Along(0))?, k)?;
     let weighed = both(alloc, Op::Mul, set, natural(power(k)))?;
     let bits = pattern(alloc, ty, Term::Along(0))?;
@@ -113,9 +114,9 @@ pub(crate) fn extract_bits(alloc: Global, s: &Spec) -> Result<Recipe, NoMemory>
     requires few { unsigned_abs (param_of s.now 1) < 32 }
     ensures { IfOk result (λ r. plain_recipe r ≡ recipe_of kinds.ExtractBits s.now) }
 {
-    let ty = out_type(s);
-    let first = param(s, 0).unsigned_abs() as u32;
-    let last = param(s, 1).unsigned_abs() as u32;
+    let ty = s.out_type();
+    let first = s.param(0).unsigned_abs() as u32;
+    let last = s.param(1).unsigned_abs() as u32;
     let bits = pattern(alloc, ty, Term::Along(0))?;
     let moved = both(alloc, Op::Div, bits, natural(power(first)))?;
     let count = last - first + 1;

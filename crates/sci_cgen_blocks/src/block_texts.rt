@@ -19,10 +19,9 @@ use crate::BlockLayout;
 use crate::array_names::{scratch, states, values};
 use crate::choice_texts::{select, switched};
 use crate::element_texts::all_elements;
-use crate::kind_recipes::{is_alike, part, recipe, recipe_scratch};
-use crate::kind_terms::{branch_term, delay_term, next_alike, next_along, next_term, state_len};
+use crate::kind_recipes::{branch_term, delay_term, is_alike, part, recipe, recipe_scratch};
+use crate::kind_terms::{next_alike, next_along, next_term, state_len};
 use crate::recipe_parts::Which;
-use crate::spec_words::{param, total};
 use crate::table_texts::table;
 use crate::writing::{assigned, counted_place, either, expression, repeated};
 use c_ast::{Ask, Expr, Stmt, Target, Tell};
@@ -58,7 +57,7 @@ fn alike(alloc: Global, s: &Spec, at: &BlockLayout) -> Result<Vec<Stmt>, NoMemor
         ≡ way_text (plain_places at.now) (total s.now.outs) (all (worked_of s.now.kind s.now) (recipe_of s.now.kind s.now))) }
 {
     let recipe = recipe(alloc, s)?;
-    all_elements(alloc, at, total(&s.outs), recipe_scratch(s), &recipe)
+    all_elements(alloc, at, s.outs.total(), recipe_scratch(s), &recipe)
 }
 
 /// The values of a block whose elements each have a term of their own.
@@ -71,7 +70,7 @@ fn parts(alloc: Global, s: &Spec, at: &BlockLayout) -> Result<Vec<Stmt>, NoMemor
         ≡ way_text (plain_places at.now) (total s.now.outs) (each (λ e. plain_of (part_of s.now.kind s.now e)))) }
 {
     let mut out = Vec::new(alloc);
-    for e in 0..total(&s.outs) {
+    for e in 0..s.outs.total() {
         out.push(assigned(alloc, at, Which::Fixed(e), &part(s, e))?)?;
     }
     Ok(out)
@@ -86,7 +85,7 @@ pub fn block_body(alloc: Global, s: &Spec, at: &BlockLayout) -> Result<Vec<Stmt>
     ensures { IfOk result (λ v. statements_of v.items ≡ body_text s.now (plain_places at.now)) }
 {
     if let Kind::Sensor = s.kind {
-        sensor(alloc, at, param(s, 0))
+        sensor(alloc, at, s.param(0))
     } else if let Kind::Switch2 = s.kind {
         switched(alloc, s, at)
     } else if let Kind::Select = s.kind {

@@ -14,7 +14,6 @@ use crate::BlockLayout;
 use crate::element_texts::all_elements;
 use crate::fit_terms::bit;
 use crate::recipe_parts::{Term, Which, both, plain};
-use crate::spec_words::{param, total};
 use crate::writing::{either, expression};
 use c_ast::{Op, Stmt};
 use sci_base::NoMemory;
@@ -33,7 +32,7 @@ fn copied(alloc: Global, at: &BlockLayout, port: u32, count: u32) -> Result<Vec<
 fn switches(alloc: Global, s: &Spec) -> Result<Term, NoMemory>
     ensures { IfOk result (λ t. term_of t ≡ switches_term (param_of s.now 0) (param_of s.now 1) (input 1 0)) }
 {
-    let code = param(s, 0);
+    let code = s.param(0);
     let op = if is_equal(code, 0) {
         Op::Ge
     } else if is_equal(code, 1) {
@@ -41,7 +40,7 @@ fn switches(alloc: Global, s: &Spec) -> Result<Term, NoMemory>
     } else {
         Op::Ne
     };
-    both(alloc, op, Term::Input(1, 0), Term::Constant(param(s, 1)))
+    both(alloc, op, Term::Input(1, 0), Term::Constant(s.param(1)))
 }
 
 /// The first or the third input, by the second.
@@ -53,8 +52,8 @@ pub(crate) fn switched(alloc: Global, s: &Spec, at: &BlockLayout) -> Result<Vec<
 {
     let is_first = switches(alloc, s)?;
     let test = expression(alloc, at, Which::Fixed(0), &is_first)?;
-    let first = copied(alloc, at, 0, total(&s.outs))?;
-    let third = copied(alloc, at, 2, total(&s.outs))?;
+    let first = copied(alloc, at, 0, s.outs.total())?;
+    let third = copied(alloc, at, 2, s.outs.total())?;
     Ok(vec![in alloc; either(test, first, third)]?)
 }
 
@@ -80,5 +79,5 @@ pub(crate) fn select(alloc: Global, s: &Spec, at: &BlockLayout) -> Result<Vec<St
     requires kind { s.now.kind ≡ kinds.Select }
     ensures { IfOk result (λ v. statements_of v.items ≡ way_text (plain_places at.now) (total s.now.outs) (way_of kinds.Select s.now)) }
 {
-    first_of(alloc, at, s.evtin - 1, total(&s.outs))
+    first_of(alloc, at, s.evtin - 1, s.outs.total())
 }

@@ -4,15 +4,16 @@ ghost use Rattle.c_ast.specs.declared.Op.TheVariants as ops;
 ghost use Rattle.sci_base.specs.Fit.{low, high};
 ghost use Rattle.sci_cgen_blocks.specs.Terms.{constant, both as both_of};
 ghost use Rattle.sci_cgen_blocks.specs.Recipes.{result as first_scratch, modulo as modulo_term, wrapped as wrapped_term, pattern as pattern_term};
-ghost use Rattle.sci_cgen_blocks.specs.Recipes.{bit as bit_term, highest_bit as highest_term};
+ghost use Rattle.sci_cgen_blocks.specs.Recipes.{bit as bit_term};
 ghost use Rattle.sci_cgen_blocks.specs.Recipes.{fit_steps, fitted_out as fitted_recipe, from_pattern as from_pattern_recipe};
 ghost use Rattle.sci_cgen_blocks.specs.Plain.{term_of, steps_of, plain_recipe};
 
 use crate::recipe_parts::{
     Cause, Recipe, Step, Term, both, natural, plain, set, set_if, worked, worked_out,
 };
-use crate::spec_words::{power, span};
+use crate::spec_words::power;
 use c_ast::Op;
+use sci_base::bits::span;
 use sci_base::{Mode, NoMemory, Ty};
 use std::alloc::Global;
 
@@ -58,14 +59,6 @@ pub(crate) fn bit(alloc: Global, pattern: Term, k: u32) -> Result<Term, NoMemory
     both(alloc, Op::Rem, moved, natural(2))
 }
 
-/// The highest bit of the pattern of a number.
-pub(crate) fn highest_bit(alloc: Global, ty: Ty, t: Term) -> Result<Term, NoMemory>
-    ensures { IfOk result (λ r. term_of r ≡ highest_term ty (term_of t)) }
-{
-    let bits = pattern(alloc, ty, t)?;
-    both(alloc, Op::Div, bits, natural(span(ty) / 2))
-}
-
 /// Whether the first scratch number is below a type.
 fn is_below(alloc: Global, ty: Ty) -> Result<Term, NoMemory>
     ensures { IfOk result (λ t. term_of t ≡ both_of ops.Lt first_scratch (constant (low ty))) }
@@ -89,10 +82,10 @@ fn fit(alloc: Global, ty: Ty, mode: Mode) -> Result<Vec<Step>, NoMemory>
             set_if(is_below(alloc, ty)?, Term::Constant(ty.low())),
             set_if(is_above(alloc, ty)?, Term::Constant(ty.high())),
         ]?),
-        Mode::Stop => Ok(vec![in alloc;
-            Step::StopIf(is_below(alloc, ty)?, Cause::Overflow),
-            Step::StopIf(is_above(alloc, ty)?, Cause::Overflow),
-        ]?),
+        Mode::Stop => {
+            let is_outside = both(alloc, Op::Or, is_below(alloc, ty)?, is_above(alloc, ty)?)?;
+            Ok(vec![in alloc; Step::StopIf(is_outside, Cause::Overflow)]?)
+        }
     }
 }
 

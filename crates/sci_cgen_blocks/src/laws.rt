@@ -36,7 +36,8 @@ pub fn bounds_law()
     ensures { BoundsLaw }
 {}
 
-/// They keep the static rules wherever their names are declared: values, states and masks as arrays, as many scratch numbers as `scratch_of` says as scalars.
+/// They keep the static rules wherever their names are declared: values and states as arrays, masks too where the block's kind looks at its own, and as many
+/// scratch numbers as `scratch_of` says as scalars.
 pub fn rules_law()
     ensures { RulesLaw }
 {}

@@ -1,22 +1,34 @@
 // The kinds that count truths and bits of their inputs, and those that compare.
-ghost use Rattle.std.specs.Prelude.{◌≡◌, ◌∷◌, [], ◌*◌, ℕ, ◌<◌, ◌≤◌, ◌++◌, ◌-◌, ◌+◌, ◌^◌, pos, length, IfOk, OnOk};
+ghost use Rattle.std.specs.Prelude.{◌≡◌, ◌∷◌, [], ◌*◌, ◌/◌, ℕ, ◌<◌, ◌≤◌, ◌++◌, ◌-◌, ◌+◌, ◌^◌, pos, length, IfOk, OnOk};
+ghost use Rattle.sci_base.specs.Fit.{width};
 ghost use Rattle.sci_forms.specs.Words.{param as param_of};
 ghost use Rattle.sci_forms.specs.declared.Kind.TheVariants as kinds;
 ghost use Rattle.c_ast.specs.declared.Op.TheVariants as ops;
-ghost use Rattle.sci_cgen_blocks.specs.Terms.{constant, along, mask, scratch, both, assign, change};
-ghost use Rattle.sci_cgen_blocks.specs.Recipes.{natural as natural_term, plain as plain_of, result as first_scratch, highest_bit as highest_term};
+ghost use Rattle.sci_cgen_blocks.specs.Terms.{constant, along, mask, scratch, both, assign, change, repeat};
+ghost use Rattle.sci_cgen_blocks.specs.Recipes.{natural as natural_term, plain as plain_of, result as first_scratch, pattern as pattern_term};
 ghost use Rattle.sci_cgen_blocks.specs.Recipes.{truth as truth_term, counted, changed, logical as logical_term, logical_truths as truths_recipe};
-ghost use Rattle.sci_cgen_blocks.specs.Recipes.{logical_bits as bits_recipe, relation as relation_by_code, recipe_of};
+ghost use Rattle.sci_cgen_blocks.specs.Recipes.{join_of as join_by_code, is_turned as is_turned_by_code, last_bit as last_bit_term};
+ghost use Rattle.sci_cgen_blocks.specs.Recipes.{last_joined as last_joined_term, bit_joined as bit_joined_works, patterns_joined};
+ghost use Rattle.sci_cgen_blocks.specs.Recipes.{turned_over as turned_over_term, logical_bits as bits_recipe, relation as relation_by_code, recipe_of};
 ghost use Rattle.sci_cgen_blocks.specs.Plain.{term_of, work_of, works_of, step_of, steps_of, plain_recipe};
 
-use crate::fit_terms::{highest_bit, wrapped};
+use crate::fit_terms::{pattern, wrapped};
 use crate::recipe_parts::{Recipe, Step, Term, Work, both, natural, plain, set, worked};
-use crate::spec_words::{inputs, out_type, param};
+use crate::spec_words::inputs;
 use c_ast::Op;
+use sci_base::bits::span;
 use sci_base::{NoMemory, Ty};
 use sci_forms::Spec;
 use sci_forms::values::is_equal;
 use std::alloc::Global;
+
+/// How bits are joined: where each is 1, where some are, or where an odd number of them are.
+#[derive(Clone, Copy, Drop)]
+pub(crate) enum Join {
+    Every,
+    Any,
+    Odd,
+}
 
 /// 1 where a term isn't 0.
 fn truth(alloc: Global, t: Term) -> Result<Term, NoMemory>
@@ -77,63 +89,128 @@ fn logical_truths(alloc: Global, op: i64, n: u32) -> Result<Recipe, NoMemory>
     Ok(Recipe { steps, value })
 }
 
-/// The bit of an input that scratch 3 moves up to the highest, counted in the result.
-fn bit_counted(alloc: Global, ty: Ty, port: u32) -> Result<Work, NoMemory>
-    ensures { IfOk result (λ w. work_of w ≡ assign 1 (both ops.Add first_scratch (highest_term ty (both ops.Mul (along port) (scratch 3))))) }
+/// How an operation joins bits.
+fn join_of(op: i64) -> Join
+    ensures { result ≡ join_by_code op }
 {
-    let moved = both(alloc, Op::Mul, Term::Along(port), Term::Scratch(3))?;
-    count(alloc, highest_bit(alloc, ty, moved)?)
+    match op {
+        0 | 2 => Join::Every,
+        4 => Join::Odd,
+        _ => Join::Any,
+    }
 }
 
-/// The inputs of `n` whose bit that scratch 3 moves up to the highest is 1, counted in the result.
-fn push_bits(alloc: Global, works: &mut Vec<Work>, ty: Ty, n: u32) -> Result<(), NoMemory>
-    ensures { OnOk result (works_of works.new.items ≡ works_of works.old.items
-        ++ counted (λ k. highest_term ty (both ops.Mul (along k) (scratch 3))) 0 n) }
+/// Whether an operation turns over the bits that it has joined.
+fn is_turned(op: i64) -> bool
+    ensures { result ≡ is_turned_by_code op }
 {
-    for port in 0..n {
-        works.push(bit_counted(alloc, ty, port)?)?;
+    match op {
+        0 | 1 | 4 => false,
+        _ => true,
+    }
+}
+
+/// The last bit of a scratch number.
+fn last_bit(alloc: Global, n: u32) -> Result<Term, NoMemory>
+    ensures { IfOk result (λ t. term_of t ≡ last_bit_term n) }
+{
+    both(alloc, Op::Rem, Term::Scratch(n), natural(2))
+}
+
+/// What the last bits of scratch 1 and 2 give, as a test.
+fn last_joined(alloc: Global, join: Join) -> Result<Term, NoMemory>
+    ensures { IfOk result (λ t. term_of t ≡ last_joined_term join) }
+{
+    match join {
+        Join::Every => both(alloc, Op::And, last_bit(alloc, 1)?, last_bit(alloc, 2)?),
+        Join::Any => both(alloc, Op::Or, last_bit(alloc, 1)?, last_bit(alloc, 2)?),
+        Join::Odd => {
+            let sum = both(alloc, Op::Add, worked(), Term::Scratch(2))?;
+            both(alloc, Op::Rem, sum, natural(2))
+        }
+    }
+}
+
+/// Scratch 1 and 2 give their last bit away, and scratch 1 takes what these give as its highest.
+fn bit_joined(alloc: Global, ty: Ty, join: Join) -> Result<Vec<Work>, NoMemory>
+    ensures { IfOk result (λ v. works_of v.items ≡ bit_joined_works ty join) }
+{
+    let test = last_joined(alloc, join)?;
+    let more = both(alloc, Op::Add, worked(), natural(span(ty)))?;
+    let first = both(alloc, Op::Div, worked(), natural(2))?;
+    let second = both(alloc, Op::Div, Term::Scratch(2), natural(2))?;
+    Ok(vec![in alloc;
+        Work::AssignIf(test, 1, more),
+        Work::Assign(1, first),
+        Work::Assign(2, second),
+    ]?)
+}
+
+/// The changes for two bits.
+#[tactic(auto, using(crate::proofs::Kept::works_behind))]
+fn bits_joined(alloc: Global, ty: Ty, join: Join) -> Result<Vec<Work>, NoMemory>
+    ensures { IfOk result (λ v. works_of v.items ≡ bit_joined_works ty join ++ bit_joined_works ty join) }
+{
+    let mut works = bit_joined(alloc, ty, join)?;
+    let mut behind = bit_joined(alloc, ty, join)?;
+    works.append(&mut behind)?;
+    Ok(works)
+}
+
+/// The pattern of an input goes into scratch 2.
+fn pattern_taken(alloc: Global, ty: Ty, port: u32) -> Result<Step, NoMemory>
+    ensures { IfOk result (λ x. step_of x ≡ change (assign 2 (pattern_term ty (along port)))) }
+{
+    Ok(Step::Change(Work::Assign(2, pattern(alloc, ty, Term::Along(port))?)))
+}
+
+/// It is joined with the one in scratch 1.
+fn pattern_joined(alloc: Global, ty: Ty, join: Join) -> Result<Step, NoMemory>
+    ensures { IfOk result (λ x. step_of x ≡ repeat 3 (width ty / 2) (bit_joined_works ty join ++ bit_joined_works ty join)) }
+{
+    Ok(Step::Repeat(3, ty.width() / 2, bits_joined(alloc, ty, join)?))
+}
+
+/// The patterns of inputs 1 to `n` - 1 are joined with the one in scratch 1.
+fn push_patterns(
+    alloc: Global,
+    steps: &mut Vec<Step>,
+    ty: Ty,
+    join: Join,
+    n: u32,
+) -> Result<(), NoMemory>
+    ensures { OnOk result (steps_of steps.new.items ≡ steps_of steps.old.items ++ patterns_joined ty join 1 (n - 1)) }
+{
+    for port in 1..n {
+        let taken = pattern_taken(alloc, ty, port)?;
+        let joined = pattern_joined(alloc, ty, join)?;
+        steps.push(taken)?;
+        steps.push(joined)?;
     }
     Ok(())
 }
 
-/// The operation's bit goes behind those in scratch 2, and scratch 3 moves the next ones up.
-fn bit_added(alloc: Global, op: i64, n: u32) -> Result<Vec<Work>, NoMemory>
-    ensures { IfOk result (λ v. works_of v.items ≡ assign 2 (both ops.Add (both ops.Mul (scratch 2) (natural_term 2)) (logical_term op n))
-        ∷ assign 3 (both ops.Mul (scratch 3) (natural_term 2)) ∷ []) }
+/// The pattern in scratch 1, turned over or not.
+fn turned_over(alloc: Global, ty: Ty, turned: bool) -> Result<Term, NoMemory>
+    ensures { IfOk result (λ t. term_of t ≡ turned_over_term ty turned) }
 {
-    let doubled = both(alloc, Op::Mul, Term::Scratch(2), natural(2))?;
-    let sum = both(alloc, Op::Add, doubled, logical(alloc, op, n)?)?;
-    let power = both(alloc, Op::Mul, Term::Scratch(3), natural(2))?;
-    Ok(vec![in alloc; Work::Assign(2, sum), Work::Assign(3, power)]?)
-}
-
-/// The changes for one bit.
-#[tactic(auto, using(crate::proofs::Kept::works_behind))]
-fn bit_works(alloc: Global, ty: Ty, op: i64, n: u32) -> Result<Vec<Work>, NoMemory>
-    ensures { IfOk result (λ v. works_of v.items ≡ (assign 1 (natural_term 0)
-        ∷ counted (λ k. highest_term ty (both ops.Mul (along k) (scratch 3))) 0 n)
-        ++ assign 2 (both ops.Add (both ops.Mul (scratch 2) (natural_term 2)) (logical_term op n)) ∷ assign 3 (both ops.Mul (scratch 3) (natural_term 2))
-        ∷ []) }
-{
-    let mut works = vec![in alloc; Work::Assign(1, natural(0))]?;
-    push_bits(alloc, &mut works, ty, n)?;
-    let mut added = bit_added(alloc, op, n)?;
-    works.append(&mut added)?;
-    Ok(works)
+    if turned {
+        both(alloc, Op::Sub, natural(span(ty) - 1), worked())
+    } else {
+        Ok(worked())
+    }
 }
 
 fn logical_bits(alloc: Global, ty: Ty, op: i64, n: u32) -> Result<Recipe, NoMemory>
     ensures { IfOk result (λ r. plain_recipe r ≡ bits_recipe ty op n) }
 {
-    let works = bit_works(alloc, ty, op, n)?;
-    let steps = vec![in alloc;
-        Step::Change(Work::Assign(2, natural(0))),
-        Step::Change(Work::Assign(3, natural(1))),
-        Step::Repeat(4, ty.width(), works),
-    ]?;
+    let first = pattern(alloc, ty, Term::Along(0))?;
+    let mut steps = vec![in alloc; set(first)]?;
+    push_patterns(alloc, &mut steps, ty, join_of(op), n)?;
+    let bits = turned_over(alloc, ty, is_turned(op))?;
     Ok(Recipe {
         steps,
-        value: wrapped(alloc, ty, Term::Scratch(2))?,
+        value: wrapped(alloc, ty, bits)?,
     })
 }
 
@@ -142,11 +219,11 @@ pub(crate) fn logical_operation(alloc: Global, s: &Spec) -> Result<Recipe, NoMem
     requires { length s.now.ins < 2 ^ 32 }
     ensures { IfOk result (λ r. plain_recipe r ≡ recipe_of kinds.LogicalOp s.now) }
 {
-    let op = param(s, 0);
-    if is_equal(param(s, 1), 0) {
+    let op = s.param(0);
+    if is_equal(s.param(1), 0) {
         logical_truths(alloc, op, inputs(s))
     } else {
-        logical_bits(alloc, out_type(s), op, inputs(s))
+        logical_bits(alloc, s.out_type(), op, inputs(s))
     }
 }
 
@@ -173,7 +250,7 @@ fn relation(code: i64) -> Op
 pub(crate) fn related(alloc: Global, s: &Spec) -> Result<Recipe, NoMemory>
     ensures { IfOk result (λ r. plain_recipe r ≡ recipe_of kinds.RelationalOp s.now) }
 {
-    let op = relation(param(s, 0));
+    let op = relation(s.param(0));
     let holds = both(alloc, op, Term::Along(0), Term::Along(1))?;
     Ok(plain(alloc, holds))
 }

@@ -11,7 +11,7 @@ ghost use Rattle.sci_cgen_blocks.specs.Plain.{term_of, plain_places, AreFew};
 
 use crate::BlockLayout;
 use crate::recipe_parts::{Term, Which};
-use crate::spec_words::{inputs, param, power, total};
+use crate::spec_words::{inputs, power};
 use crate::writing::{assigned, either, expression};
 use c_ast::Stmt;
 use sci_base::NoMemory;
@@ -25,7 +25,7 @@ fn entry(s: &Spec, row: u64, e: u32) -> i64
     requires outs { length s.now.outs ≤ 8 }
     ensures { result ≡ entry_of s.now row e }
 {
-    param(s, row as usize * s.outs.len() + e as usize)
+    s.param(row as usize * s.outs.len() + e as usize)
 }
 
 /// Entry `e` of a row as a term.
@@ -77,7 +77,7 @@ fn row(alloc: Global, s: &Spec, at: &BlockLayout, number: u64) -> Result<Vec<Stm
     ensures { IfOk result (λ v. statements_of v.items ≡ way_text (plain_places at.now) (total s.now.outs) (row_way s.now number)) }
 {
     let mut out = Vec::new(alloc);
-    for e in 0..total(&s.outs) {
+    for e in 0..s.outs.total() {
         out.push(assigned(alloc, at, Which::Fixed(e), &entry_term(s, number, e))?)?;
     }
     Ok(out)

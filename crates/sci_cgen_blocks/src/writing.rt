@@ -5,7 +5,7 @@ ghost use Rattle.c_ast.specs.declared.Bound.TheVariants as bounds;
 ghost use Rattle.c_ast.specs.View.{exp_of, statement_of, statements_of};
 ghost use Rattle.c_mean.specs.Texts.{number as number_text, place, joined};
 ghost use Rattle.sci_cgen_blocks.specs.Texts.{values as values_name, counted_by, element_place as place_of_element, written, expression as expression_text};
-ghost use Rattle.sci_cgen_blocks.specs.Texts.{steps_text, work_statement, works_text, step_statement, recipe_text};
+ghost use Rattle.sci_cgen_blocks.specs.Texts.{steps_text, work_statement, works_text, assigned_text, recipe_text, stop_text, scratch_name};
 ghost use Rattle.sci_cgen_blocks.specs.Plain.{term_of, work_of, works_of, step_of, steps_of, word_of, plain_recipe, which_of, plain_places, AreSpelled};
 ghost use Rattle.sci_cgen_blocks.specs.Plain.{AreWorksSpelled, IsStepSpelled, AreStepsSpelled, IsRecipeSpelled, IsWorkSpelled};
 
@@ -183,44 +183,6 @@ fn word(cause: Cause) -> i64
     }
 }
 
-/// A step as a statement.
-fn step(alloc: Global, at: &BlockLayout, which: Which, step: &Step) -> Result<Stmt, NoMemory>
-    requires { IsStepSpelled (step_of step.now) }
-    ensures { IfOk result (λ s. statement_of s ≡ step_statement (written (plain_places at.now) (which_of which)) (step_of step.now)) }
-{
-    match step {
-        Step::Change(change) => work(alloc, at, which, change),
-        Step::StopIf(test, cause) => {
-            let test = expression(alloc, at, which, test)?;
-            let stop = vec![in alloc; stopping(at.number, word(*cause))]?;
-            Ok(only_where(alloc, test, stop))
-        }
-        Step::Repeat(n, count, changes) => Ok(repeated(
-            scratch(*n),
-            *count,
-            works(alloc, at, which, changes)?,
-        )),
-    }
-}
-
-/// The steps of a recipe, each as a statement.
-fn push_steps(
-    alloc: Global,
-    out: &mut Vec<Stmt>,
-    at: &BlockLayout,
-    which: Which,
-    steps: &[Step],
-) -> Result<(), NoMemory>
-    requires { AreStepsSpelled (steps_of steps.now) }
-    ensures { OnOk result (statements_of out.new.items ≡ joined (statements_of out.old.items)
-        (steps_text (written (plain_places at.now) (which_of which)) (steps_of steps.now) done)) }
-{
-    for one in steps {
-        out.push(step(alloc, at, which, one)?)?;
-    }
-    Ok(())
-}
-
 /// The element of the outputs that is written for becomes what a term is.
 pub(crate) fn assigned(
     alloc: Global,
@@ -237,6 +199,78 @@ pub(crate) fn assigned(
     Ok(Stmt::Set(place, value))
 }
 
+/// Stops the run where a test isn't 0, and else does the rest.
+fn stop_or(
+    alloc: Global,
+    at: &BlockLayout,
+    which: Which,
+    test: &Term,
+    cause: Cause,
+    rest: Vec<Stmt>,
+) -> Result<Stmt, NoMemory>
+    requires { AreSpelled (term_of test.now) }
+    ensures { IfOk result (λ s. statement_of s ≡ choice (expression_text (written (plain_places at.now) (which_of which)) (term_of test.now))
+        (stop_text (word_of cause) at.now.number) (statements_of rest.items)) }
+{
+    let test = expression(alloc, at, which, test)?;
+    let stop = vec![in alloc; stopping(at.number, word(cause))]?;
+    Ok(either(test, stop, rest))
+}
+
+/// Changes of scratch made `count` times, while a scratch number goes up from 0.
+fn turns(
+    alloc: Global,
+    at: &BlockLayout,
+    which: Which,
+    counter: u32,
+    count: u32,
+    changes: &[Work],
+) -> Result<Stmt, NoMemory>
+    requires { AreWorksSpelled (works_of changes.now) }
+    ensures { IfOk result (λ s. statement_of s ≡ loop (scratch_name counter) (bounds.Num (pos count))
+        (works_text (written (plain_places at.now) (which_of which)) (works_of changes.now))) }
+{
+    let body = works(alloc, at, which, changes)?;
+    Ok(repeated(scratch(counter), count, body))
+}
+
+/// Steps, and behind them the element of the outputs that is written for becomes what a term is. What follows a stop stands in its `else`.
+fn push_steps(
+    alloc: Global,
+    out: &mut Vec<Stmt>,
+    at: &BlockLayout,
+    which: Which,
+    steps: &[Step],
+    value: &Term,
+) -> Result<(), NoMemory>
+    requires steps { AreStepsSpelled (steps_of steps.now) }
+    requires value { AreSpelled (term_of value.now) }
+    ensures { OnOk result (statements_of out.new.items ≡ joined (statements_of out.old.items)
+        (steps_text (written (plain_places at.now) (which_of which)) (steps_of steps.now)
+        (assigned_text (written (plain_places at.now) (which_of which)) (term_of value.now)))) }
+{
+    let Some((first, behind)) = steps.split_first() else {
+        out.push(assigned(alloc, at, which, value)?)?;
+        return Ok(());
+    };
+    match first {
+        Step::Change(change) => {
+            out.push(work(alloc, at, which, change)?)?;
+            push_steps(alloc, out, at, which, behind, value)
+        }
+        Step::Repeat(counter, count, changes) => {
+            out.push(turns(alloc, at, which, *counter, *count, changes)?)?;
+            push_steps(alloc, out, at, which, behind, value)
+        }
+        Step::StopIf(test, cause) => {
+            let mut rest = Vec::new(alloc);
+            push_steps(alloc, &mut rest, at, which, behind, value)?;
+            out.push(stop_or(alloc, at, which, test, *cause, rest)?)?;
+            Ok(())
+        }
+    }
+}
+
 /// The element of the outputs that is written for becomes what the recipe gives.
 pub(crate) fn push_recipe(
     alloc: Global,
@@ -249,7 +283,5 @@ pub(crate) fn push_recipe(
     ensures { OnOk result (statements_of out.new.items ≡ joined (statements_of out.old.items)
         (recipe_text (written (plain_places at.now) (which_of which)) (plain_recipe recipe.now))) }
 {
-    push_steps(alloc, out, at, which, &recipe.steps)?;
-    out.push(assigned(alloc, at, which, &recipe.value)?)?;
-    Ok(())
+    push_steps(alloc, out, at, which, &recipe.steps, &recipe.value)
 }

@@ -1,7 +1,7 @@
 -- What the function of a block does, from any memory that has the program's variables and what goes into the block.
-use Rattle.std.proofs.Common.{◌≡◌, ℕ, zero, suc, ◌+◌, ◌-◌, ◌<◌, ◌≤◌, inl, inr, List, [], length, true, refl, sym, ap, ◌∙◌, subst, arith, ℤ, pos}
+use Rattle.std.proofs.Common.{◌≡◌, ℕ, zero, suc, ◌+◌, ◌-◌, ◌<◌, ◌≤◌, inl, inr, List, [], ◌∷◌, ◌++◌, length, Bool, true, refl, sym, ap, ◌∙◌, subst, arith, ℤ, pos}
 use Rattle.std.specs.Prelude.{unsigned_abs}
-use Rattle.std.proofs.lemmas.Bool.{cases_lt}
+use Rattle.std.proofs.lemmas.Bool.{cases_eq, cases_lt}
 use Rattle.sci_forms.specs.declared.Kind.TheVariants.{Sensor}
 use Rattle.sci_forms.specs.Ports.{port_at, elements, total, before}
 use Rattle.sci_kinds.specs.Table.{out}
@@ -12,41 +12,91 @@ use Rattle.sci_run.specs.Laws.{AreLoopFree}
 use Rattle.sci_places.specs.Flat.{start_of}
 use Rattle.sci_places.proofs.Lists.{up_to}
 use Rattle.sci_places.proofs.Outputs.{block_within, blocks_apart}
-use Rattle.c_ast.specs.Syntax.{Block}
+use Rattle.c_ast.specs.declared.Name.{Name}
+use Rattle.c_ast.specs.Syntax.{Block, Function}
+use Rattle.c_ast.specs.Events.{block_events}
 use Rattle.c_mean.specs.Meaning.{World, Around, run_block, first_world}
 use Rattle.c_mean.specs.Places.{Has}
 use Rattle.sci_cgen_blocks.specs.Recipes.{scratch_of}
-use Rattle.sci_cgen_blocks.specs.Texts.{values, scratch_name, input_place, body_text}
+use Rattle.sci_cgen_blocks.specs.Texts.{values, states, masks, scratch_name, input_place, body_text}
 use Rattle.sci_cgen_blocks.specs.Meant.{Holds, IsFed, IsApart, Answers, Senses}
 use Rattle.sci_cgen_blocks.proofs.KindLaws.{cell_law, cell_reads_law}
 use Rattle.sci_cgen_blocks.proofs.Bodies.{body_answers}
 use Rattle.sci_cgen_blocks.proofs.Sensing.{sensor_takes, sensor_column, sensor_out, body_senses}
-use Rattle.sci_cgen.specs.Program.{places_of, is_scheduled, scratch_count, program}
-use Rattle.sci_cgen.proofs.Blank.{IsBlank, blank_first}
-use Rattle.sci_cgen.proofs.Bodies.{enough_scratch}
-use Rattle.sci_cgen.proofs.Sizes.{in_bounds}
-use Rattle.sci_cgen_laws.specs.Places.{HasVariables, IsGiven, DoesBlock}
+use Rattle.c_trim.specs.Trim.{is_kept}
+use Rattle.c_trim.proofs.Named.{KeepsEvents, KeepsBodies, bodies_first, bodies_second, functions_kept, kept_again}
+use Rattle.c_trim.proofs.Runs.{first_reads}
+use Rattle.sci_program.specs.Program.{has_own, text_where, places_of, is_scheduled, scratch_count, functions_upto, other_functions, called_functions, event_function, full_program, program}
+use Rattle.sci_program.proofs.Blank.{IsBlank, blank_first}
+use Rattle.sci_program.proofs.Bodies.{enough_scratch}
+use Rattle.sci_program.proofs.Parted.{own, blocks, sources}
+use Rattle.sci_program.proofs.Sizes.{in_bounds}
+use Rattle.sci_cgen_laws.specs.Places.{HasVariables, IsGiven, DoesBlock, NamesArrays}
 use Rattle.sci_cgen_laws.proofs.Places.{starts_at, fed_by_other}
+use Rattle.sci_cgen_laws.proofs.Using.{values_kept, states_kept, masks_kept, scratch_kept}
+
+-- the variables that a program keeps
+abbrev kept : Parts → List (List Entry) → Name → Bool
+kept n rows = is_kept (full_program n rows)
+
+-- those of one of the first functions are
+upto_body : (keep : Name → Bool) (f : ℕ → Function) (m k : ℕ) → k < m → KeepsBodies keep (functions_upto f m) → KeepsEvents keep (block_events (f k).body)
+upto_body keep f zero k l h = absurd (omega (arith, l))
+upto_body keep f (suc m) k l h = elim (cases_eq k m) [
+  | inl e ↦ subst (λ (j : ℕ). KeepsEvents keep (block_events (f j).body)) (sym e) (bodies_second keep (functions_upto f m) (f m ∷ []) h).0
+  | inr q ↦ upto_body keep f m k (omega (arith, l, q)) (bodies_first keep (functions_upto f m) (f m ∷ []) h)
+]
+
+-- so are those of the text of a block's values, which is its function's
+text_kept : (n : Parts) (rows : List (List Entry)) (b : ℕ) → IsBlock n b → is_scheduled rows b ≡ true
+    → KeepsEvents (kept n rows) (block_events (body_text (spec_of n b) (places_of n b)))
+text_kept n rows zero is has = absurd (omega (arith, is.least))
+text_kept n rows (suc j) is has =
+    let keep = kept n rows in
+    let others = other_functions (has_own n rows) n in
+    let called = bodies_first keep (called_functions n rows) (event_function (has_own n rows) n ∷ []) (functions_kept (full_program n rows)) in
+    let front = bodies_first keep (blocks n rows ++ others) (sources n rows) called in
+    let body = upto_body keep (own n rows) (length n.specs) j (omega (arith, is.most)) (bodies_first keep (blocks n rows) others front) in
+    subst (λ (t : Bool). KeepsEvents keep (block_events (text_where t (body_text (spec_of n (suc j)) (places_of n (suc j)))))) has body
 
 module _ (n : Parts) (rows : List (List Entry)) (net : IsNet n) (b : ℕ) (block : IsBlock n b) (has : is_scheduled rows b ≡ true) where
   -- ---- what is there
 
-  blank : IsBlank n (scratch_count n rows (length n.specs)) [] (first_world (program n rows) [])
+  blank : IsBlank n (scratch_count n rows (length n.specs)) [] (first_world (full_program n rows) [])
   blank = blank_first n rows []
+
+  text : KeepsEvents (kept n rows) (block_events (body_text (spec_of n b) (places_of n b)))
+  text = text_kept n rows b block has
+
+  -- its texts name what the full program's name
+  again : (x : Name) → kept n rows x ≡ true → is_kept (program n rows) x ≡ true
+  again x h = kept_again (full_program n rows) x ∙ h
+
+  pub names_arrays : NamesArrays n (program n rows) b
+  names_arrays = record {
+    values = λ some. again values (values_kept (kept n rows) (spec_of n b) (places_of n b) some text);
+    states = λ some. again states (states_kept (kept n rows) (spec_of n b) (places_of n b) (net.typed_specs b block) some text);
+    masks = λ looks. again masks (masks_kept (kept n rows) (spec_of n b) (places_of n b) (net.typed_specs b block) looks text);
+  }
 
   module _ (w : World) (variables : HasVariables (program n rows) w) where
     scratch_there : (k : ℕ) → 1 ≤ k → k ≤ scratch_of (spec_of n b).kind (spec_of n b) → Has w (scratch_name k) 0
     scratch_there k lo hi =
         let enough = enough_scratch n rows b block has in
+        let named = scratch_kept (kept n rows) (spec_of n b) (places_of n b) (net.typed_specs b block) text k lo hi in
         let zero_there = blank.scratch_names k lo (omega (arith, hi, enough)) in
-        let first : Has (first_world (program n rows) []) (scratch_name k) 0 = record { holds = pos 0; is = zero_there } in
+        let first : Has (first_world (program n rows) []) (scratch_name k) 0
+        = record { holds = pos 0; is = first_reads (full_program n rows) [] (scratch_name k) 0 named ∙ zero_there } in
         variables.there (scratch_name k) 0 first
 
-    value_there : (j : ℕ) → j < start_of n b + total (spec_of n b).outs → Has w values j
-    value_there j l =
+    value_there : (e : ℕ) → e < total (spec_of n b).outs → Has w values (start_of n b + e)
+    value_there e l =
         let fits = block_within n b block in
-        let first : Has (first_world (program n rows) []) values j = record { holds = pos 0; is = blank.values j (omega (arith, fits, l)) } in
-        variables.there values j first
+        let named = values_kept (kept n rows) (spec_of n b) (places_of n b) (omega (arith, l)) text in
+        let zero_there = blank.values (start_of n b + e) (omega (arith, fits, l)) in
+        let first : Has (first_world (program n rows) []) values (start_of n b + e)
+        = record { holds = pos 0; is = first_reads (full_program n rows) [] values (start_of n b + e) named ∙ zero_there } in
+        variables.there values (start_of n b + e) first
 
   holds : (x : List ℤ) (m : ℕ) (u : List ℤ) (w : World) → IsGiven n (program n rows) b x m u w
       → Holds (spec_of n b) (places_of n b) (IsFed (spec_of n b)) x m u w
@@ -54,7 +104,7 @@ module _ (n : Parts) (rows : List (List Entry)) (net : IsNet n) (b : ℕ) (block
     ins = λ k e a r f. g.ins k e a r f;
     state = λ i a. g.state i a;
     mask = g.mask;
-    outs = λ e a. value_there w g.variables (start_of n b + e) (omega (arith, a));
+    outs = λ e a. value_there w g.variables e a;
   }
 
   -- ---- an input with feedthrough comes from another block
@@ -109,8 +159,10 @@ module _ (n : Parts) (rows : List (List Entry)) (net : IsNet n) (b : ℕ) (block
       let same : own.0 ≡ c = omega (arith, there, column) in
       let one = sensor_out (spec_of n b) (net.typed_specs b block) kind in
       let some = sensor_takes (spec_of n b).kind (spec_of n b) kind in
+      let first : start_of n b + 0 ≡ start_of n b = omega arith in
       subst (λ (d : ℕ). Senses (places_of n b) d w (run_block env number (body_text (spec_of n b) (places_of n b)) w)) same
-      (body_senses env (spec_of n b) (places_of n b) own.0 number w kind own.1.0 (value_there w variables (start_of n b) (omega (arith, one)))
+      (body_senses env (spec_of n b) (places_of n b) own.0 number w kind own.1.0
+      (subst (λ (j : ℕ). Has w values j) first (value_there w variables 0 (omega (arith, one))))
       (scratch_there w variables 1 (omega arith) some))
 
   -- ---- the body

@@ -1,5 +1,5 @@
 -- A generated program assigns values in the functions of blocks and at the beginning of main alone, and shows nothing else as values.
-use Rattle.std.proofs.Common.{◌≡◌, ℕ, zero, suc, ◌+◌, ◌-◌, ◌^◌, ◌<◌, inl, inr, List, [], ◌∷◌, ◌++◌, length, Contains, Bool, true, false, ◌||◌, ◌&&◌, not, nat_eq, nat_lt, if◌then◌else◌, refl, sym, ap, ◌∙◌, subst, arith, ℤ, pos, negsuc, slice_index_or}
+use Rattle.std.proofs.Common.{◌≡◌, ℕ, zero, suc, ◌+◌, ◌-◌, ◌*◌, ◌^◌, ◌<◌, inl, inr, List, [], ◌∷◌, ◌++◌, length, Contains, Bool, true, false, ◌||◌, ◌&&◌, not, nat_eq, nat_lt, if◌then◌else◌, refl, sym, ap, ◌∙◌, subst, arith, ℤ, pos, negsuc, slice_index_or}
 use Rattle.std.specs.Int.{bit_at}
 use Rattle.std.proofs.lemmas.Bool.{and_from}
 use Rattle.std.proofs.lemmas.List.Elements.{Contains-append_cases}
@@ -17,8 +17,9 @@ use Rattle.sci_reaction.specs.Schedule.{Guard, Entry}
 use Rattle.sci_forms.specs.Form.{is_halt}
 use Rattle.sci_places.specs.Flat.{start_of}
 use Rattle.c_ast.specs.declared.Name.{Name}
-use Rattle.c_ast.specs.declared.Op.TheVariants.{Lt, Gt}
-use Rattle.c_ast.specs.Syntax.{Exp, bin, var, scalar, cell, Told, start, event, value, finish, stop, Statement, set, ask, choice, loop, call, tell, Block, done, next, Function}
+use Rattle.c_ast.specs.declared.Bound.TheVariants as bounds
+use Rattle.c_ast.specs.declared.Op.TheVariants.{Div, Lt, Gt}
+use Rattle.c_ast.specs.Syntax.{Exp, bin, var, element, scalar, cell, Told, start, event, value, finish, stop, Statement, set, ask, choice, loop, call, tell, Block, done, next, Function, num}
 use Rattle.c_mean.specs.Meaning.{same_name}
 use Rattle.c_mean.specs.Texts.{May, number, joined, upto, statement_within, block_within, place}
 use Rattle.c_mean.proofs.Memory.{and_left, and_right}
@@ -26,17 +27,21 @@ use Rattle.c_mean.proofs.Texts.{joined_within}
 use Rattle.sci_cgen_blocks.specs.Texts.{values, states, masks, body_text, next_value_text, next_loop, next_text, delay_expression, branch_expression}
 use Rattle.sci_cgen_blocks.specs.Meant.{body_may}
 use Rattle.sci_cgen_blocks.proofs.Assigned.{body_within}
-use Rattle.sci_due.specs.Due.{dates, orders, scan as scan_name}
-use Rattle.sci_due.specs.Texts.{choose_text as choose_of, entry_text as due_entry, program_text, delayed_text}
+use Rattle.sci_due.specs.Due.{dates, orders, best as chosen_name, scan as scan_name, fresh, firsts, are_grouped, due_table, group_count}
+use Rattle.sci_due.specs.declared.due_table.DueTable.{DueTable}
+use Rattle.sci_due.specs.declared.due_table.DueTable.TheVariants.{Dates, Orders, Groups}
+use Rattle.sci_due.specs.Texts.{choose_text as choose_of, delayed_text, counted_from, choose_turn, turns_text, span_text, others_in, unknown_exp, worked_text, group_text, first_of, groups_text}
 use Rattle.sci_due.proofs.Pending.{delayed_form}
-use Rattle.sci_cgen.specs.declared.parts.Part.{Part}
-use Rattle.sci_cgen.specs.declared.parts.Part.TheVariants.{Absent, Sure, Marked}
-use Rattle.sci_cgen.specs.Names.{actives, branches, until_name, next_date, halt_name, clear_name, settle_name, choose_name}
-use Rattle.sci_cgen.specs.Program.{natural, one, has_own, part_in, is_active, where_part, mark, is_taken, end_or, has_halt, texts, text_where, only_where, port_count, places_of, is_scheduled, block_function, with_bit, with_bits, guard_text, call_text, entry_text, cleared_text, header_text, pass_text, following_text, row_text, shared_text, source_function, clear_text, date_text, choose_text, has_sync, elements_shown, outputs_shown, values_shown, delay_text, state_text, halt_text, settle_text, halted_or, react_step, react_deep, fire_text, event_text, turn_text, first_text, begun_text, list_begun, held_begun, state_begun, firing_at, programmed_before, firing_begun, source_begun, main_text, functions_upto, functions_where, other_functions, called_functions, event_function, functions, looped_shown, output_shown}
-use Rattle.sci_cgen.proofs.Parted.{reads, masked, guarded, called, all_shown, all_delays, all_states, all_halts, all_held, first_states, all_begun, until_asked, where_ports, starting, ending, running, own, blocks, sources, settle_function, clear_function, choose_function, clears, shared, chooses}
+use Rattle.sci_program.specs.declared.part.Part.{Part}
+use Rattle.sci_program.specs.declared.part.Part.TheVariants.{Absent, Sure, Marked, Taken}
+use Rattle.sci_base.specs.declared.observation.EndWord.{EndWord}
+use Rattle.sci_base.specs.declared.observation.EndWord.TheVariants as ends
+use Rattle.sci_program.specs.Names.{actives, branches, until_name, next_date, halt_name, clear_name, choose_name}
+use Rattle.sci_program.specs.Program.{natural, one, chosen_place, has_own, part_by, part_in, entry_part, is_marked, is_active, has_taken, where_part, mark, is_taken, end_or, has_halt, texts, text_where, only_where, port_count, places_of, is_scheduled, block_function, with_bit, with_bits, guard_text, call_text, entry_text, cleared_text, header_text, pass_text, following_text, row_text, source_function, clear_text, choose_text, has_sync, elements_shown, outputs_shown, values_shown, delay_text, state_text, halt_text, settle_text, halted_or, react_step, react_deep, fire_text, event_text, turn_text, begun_text, list_begun, held_begun, state_begun, firing_at, programmed_before, firing_begun, source_begun, main_text, functions_upto, functions_where, other_functions, called_functions, event_function, functions, looped_shown, output_shown, clock_begun}
+use Rattle.sci_program.proofs.Parted.{reads, masked, guarded, called, all_shown, all_delays, all_states, all_halts, all_held, first_states, all_begun, until_asked, where_ports, starting, ending, running, own, blocks, sources, settle_function, clear_function, choose_function, clears, shared, chooses, count_begun}
 use Rattle.sci_cgen_blocks.specs.Terms.{is_looped}
 use Rattle.sci_cgen_blocks.specs.Recipes.{next_alike}
-use Rattle.sci_cgen.proofs.Halves.{in_first, react_last, react_more}
+use Rattle.sci_program.proofs.Halves.{in_first, react_last, react_more}
 use Rattle.sci_cgen_laws.specs.Values.{spares_values, are_sets, told_well, statement_shows_values, shows_values, IsBlockFunction}
 use Rattle.sci_cgen_laws.specs.Laws.{ProgramKeepsValues}
 
@@ -150,22 +155,28 @@ module _ (n : Parts) where
   call_kept b =
       where_kept (is_sync (spec_of n b).kind) (one (set (cell branches (natural (b - 1))) (branch_expression (spec_of n b) (places_of n b)))) (refl, refl)
 
+  part_kept : (p : Part) (b : ℕ) (t : Block) → Kept t → Kept (where_part p b t)
+  part_kept Absent b t h = (refl, refl)
+  part_kept Sure b t h = h
+  part_kept Marked b t h = only_kept (is_active b) t h
+  part_kept (Taken q) b t h = only_kept (has_taken q) t h
+
   entry_kept : (alone : Bool) (e : Entry) → Kept (entry_text alone n e)
   entry_kept alone e =
-      let body = only_where (is_active e.block) (call_text n e.block) in
-      both (text_where (not alone && e.always) (mark e.block)) (joined (masked n e) (joined (guarded n e) (called n e)))
+      both (text_where (not alone && e.always) (mark e.block)) (joined (masked n e) (joined (guarded alone n e) (called alone n e)))
       (where_kept (not alone && e.always) (mark e.block) (refl, refl))
-      (both (masked n e) (joined (guarded n e) (called n e))
+      (both (masked n e) (joined (guarded alone n e) (called alone n e))
       (where_kept (reads n e) (one (set (cell masks (natural (e.block - 1))) (natural e.mask))) (refl, refl))
-      (both (guarded n e) (called n e)
-      (where_kept (not e.always || reads n e) (texts (guard_text n e) e.guards) (all (guard_text n e) e.guards (guard_kept e)))
-      (either_kept e.always (call_text n e.block) body (call_kept e.block) (only_kept (is_active e.block) (call_text n e.block) (call_kept e.block)))))
+      (both (guarded alone n e) (called alone n e)
+      (where_kept (is_marked (entry_part alone n e) || reads n e) (texts (guard_text n e) e.guards) (all (guard_text n e) e.guards (guard_kept e)))
+      (part_kept (entry_part alone n e) e.block (call_text n e.block) (call_kept e.block))))
 
   cleared_kept : (e : Entry) → Kept (cleared_text n e)
   cleared_kept e =
       let active = one (set (cell actives (natural (e.block - 1))) (natural 0)) in
       let branch = one (set (cell branches (natural (e.block - 1))) (natural 0)) in
-      both (text_where (not e.always) active) (text_where (is_sync (spec_of n e.block).kind) branch) (where_kept (not e.always) active (refl, refl))
+      both (text_where (is_marked (part_by n e)) active) (text_where (is_sync (spec_of n e.block).kind) branch)
+      (where_kept (is_marked (part_by n e)) active (refl, refl))
       (where_kept (is_sync (spec_of n e.block).kind) branch (refl, refl))
 
   pass_kept : (alone : Bool) (s : Source) (row : List Entry) → Kept (pass_text alone n s row)
@@ -176,11 +187,6 @@ module _ (n : Parts) where
       (all (entry_text alone n) row (entry_kept alone)))
 
   -- ---- behind its values
-
-  part_kept : (p : Part) (b : ℕ) (t : Block) → Kept t → Kept (where_part p b t)
-  part_kept Absent b t h = (refl, refl)
-  part_kept Sure b t h = h
-  part_kept Marked b t h = only_kept (is_active b) t h
 
   elements_kept : (b p e o m : ℕ) → Kept (elements_shown b p e o m)
   elements_kept b p e o zero = (refl, refl)
@@ -205,6 +211,11 @@ module _ (n : Parts) where
       either_kept (is_looped alike) (next (next_loop s p alike) rest) (upto (next_value_text s p) (state_len_of s.kind s)) (kept.0, kept.1)
       (each (next_value_text s p) (state_len_of s.kind s) (λ i. (refl, refl)))
 
+  delayed_kept : (table : DueTable) (i : ℕ) (e : Exp) → Kept (delayed_text table i e)
+  delayed_kept Dates i e = delayed_form Kept Dates i e (λ d q. (refl, refl)) (refl, refl)
+  delayed_kept Orders i e = delayed_form Kept Orders i e (λ d q. (refl, refl)) (refl, refl)
+  delayed_kept Groups i e = delayed_form Kept Groups i e (λ d q. (refl, refl)) (refl, refl)
+
   module _ (part : ℕ → Part) where
     shown_kept : (b : ℕ) → Kept (values_shown n part b)
     shown_kept b =
@@ -215,8 +226,8 @@ module _ (n : Parts) where
     delay_kept : (i : ℕ) (s : Source) → Kept (delay_text n part i s)
     delay_kept i Start = (refl, refl)
     delay_kept i (Port q) =
-        part_kept (part q.block) q.block (delayed_text (i - 1) (delay_expression (spec_of n q.block) (places_of n q.block)))
-        (delayed_form Kept (i - 1) (delay_expression (spec_of n q.block) (places_of n q.block)) (λ d q. (refl, refl)) (refl, refl))
+        part_kept (part q.block) q.block (delayed_text (due_table (port_count n)) (i - 1) (delay_expression (spec_of n q.block) (places_of n q.block)))
+        (delayed_kept (due_table (port_count n)) (i - 1) (delay_expression (spec_of n q.block) (places_of n q.block)))
 
     state_kept : (b : ℕ) → Kept (state_text n part b)
     state_kept b =
@@ -238,7 +249,7 @@ module _ (n : Parts) where
         (each (λ k. halt_text n part (suc k)) (length n.specs) (λ k. halt_kept (suc k)))))
 
   following_kept : (alone : Bool) (row : List Entry) → Kept (following_text alone n row)
-  following_kept true row = settle_kept (part_in row)
+  following_kept true row = settle_kept (part_in n row)
   following_kept false row = (refl, refl)
 
   row_kept : (alone : Bool) (s : Source) (row : List Entry) → Kept (row_text alone n s row)
@@ -251,17 +262,43 @@ module _ (n : Parts) where
       let h = where_kept (has_sync n) (one (set (cell branches (var scan_name)) (natural 0))) (refl, refl) in
       (and_from _ true h.0 refl, and_from _ true h.1 refl)
 
+  turns_kept : (at : Exp → Exp) (k m : ℕ) → Kept (turns_text at k m)
+  turns_kept at k m = by_size (nat_lt 7 m)
+    where
+      by_size : (many : Bool) → Kept (if many then next (loop scan_name (bounds.Num (pos m)) (choose_turn (at (counted_from k)))) done
+          else upto (λ j. choose_turn (at (num (pos (k + j))))) m)
+      by_size true = (refl, refl)
+      by_size false = each (λ j. choose_turn (at (num (pos (k + j))))) m (λ j. (refl, refl))
+
+  span_kept : (k m : ℕ) → Kept (span_text k m)
+  span_kept k m = turns_kept (λ e. e) (suc k) m
+
+  group_kept : (c g : ℕ) → Kept (group_text c g)
+  group_kept c g =
+      only_kept (unknown_exp g) (worked_text c g) (both (span_text (16 * g) (others_in c g))
+      (next (set (cell firsts (num (pos g))) (var chosen_name)) (one (set (cell fresh (num (pos g))) (num (pos 1)))))
+      (span_kept (16 * g) (others_in c g)) (refl, refl))
+
+  groups_kept : (c : ℕ) → Kept (groups_text c)
+  groups_kept c =
+      both (upto (group_text c) (group_count c))
+      (next (set (scalar chosen_name) (first_of (num (pos 0)))) (next (set (scalar next_date) (element dates (var chosen_name)))
+      (turns_text first_of 1 (group_count c - 1))))
+      (each (group_text c) (group_count c) (group_kept c)) (turns_kept first_of 1 (group_count c - 1))
+
   choose_kept : Kept (choose_text n)
   choose_kept =
-      either_kept (nat_lt 1 (port_count n)) (choose_of (port_count n) date_text) (one (set (scalar next_date) (place dates 0))) (refl, refl) (refl, refl)
+      either_kept (nat_lt 1 (port_count n)) (choose_of (port_count n)) (one (set (scalar next_date) (place dates 0)))
+      (either_kept (are_grouped (port_count n)) (groups_text (port_count n)) (span_text 0 (port_count n - 1)) (groups_kept (port_count n))
+      (span_kept 0 (port_count n - 1))) (refl, refl)
 
   -- ---- the run
 
-  end_kept : (e : Exp) (word : ℕ) (rest : Block) → Kept rest → Kept (end_or e word rest)
+  end_kept : (e : Exp) (word : EndWord) (rest : Block) → Kept rest → Kept (end_or e word rest)
   end_kept e word rest h = (rw h.0 refl, rw h.1 refl)
 
   halted_kept : (rest : Block) → Kept rest → Kept (halted_or n rest)
-  halted_kept rest h = either_kept (has_halt n) (end_or (var halt_name) 0 rest) rest (end_kept (var halt_name) 0 rest h) h
+  halted_kept rest h = either_kept (has_halt n) (end_or (var halt_name) ends.Halt rest) rest (end_kept (var halt_name) ends.Halt rest h) h
 
   react_kept : (d i c : ℕ) → Kept (one (react_step d i c))
   react_kept zero i c = subst (λ (s : Statement). Kept (one s)) (sym (react_last i c)) (refl, refl)
@@ -276,18 +313,21 @@ module _ (n : Parts) where
 
   fire_kept : (alone : Bool) → Kept (fire_text alone n)
   fire_kept alone =
-      both (text_where (not alone) (one (call clear_name))) (next (react_step react_deep 0 (port_count n)) (one (call choose_name)))
-      (where_kept (not alone) (one (call clear_name)) (refl, refl))
-      (both (one (react_step react_deep 0 (port_count n))) (one (call choose_name)) (react_kept react_deep 0 (port_count n)) (refl, refl))
+      let clears = text_where (not alone) (one (call clear_name)) in
+      let rest = next (react_step react_deep 0 (port_count n)) (one (call choose_name)) in
+      let stale = one (set (cell fresh (bin Div (chosen_place (port_count n)) (natural 16))) (natural 0)) in
+      both (text_where (are_grouped (port_count n)) stale) (joined clears rest) (where_kept (are_grouped (port_count n)) stale (refl, refl))
+      (both clears rest (where_kept (not alone) (one (call clear_name)) (refl, refl))
+      (both (one (react_step react_deep 0 (port_count n))) (one (call choose_name)) (react_kept react_deep 0 (port_count n)) (refl, refl)))
 
   abbrev in_time : Bool → Block
-  in_time alone = end_or (bin Gt (var next_date) (var until_name)) 3 (fire_text alone n)
+  in_time alone = end_or (bin Gt (var next_date) (var until_name)) ends.Until (fire_text alone n)
 
   event_kept : (alone : Bool) → Kept (event_text alone n)
   event_kept alone =
-      either_kept (nat_lt 0 (port_count n)) (end_or (bin Lt (var next_date) (natural 0)) 2 (in_time alone)) (one (tell (finish (natural 2))))
-      (end_kept (bin Lt (var next_date) (natural 0)) 2 (in_time alone)
-      (end_kept (bin Gt (var next_date) (var until_name)) 3 (fire_text alone n) (fire_kept alone))) (refl, refl)
+      either_kept (nat_lt 0 (port_count n)) (end_or (bin Lt (var next_date) (natural 0)) ends.Empty (in_time alone)) (one (tell (finish (natural 2))))
+      (end_kept (bin Lt (var next_date) (natural 0)) ends.Empty (in_time alone)
+      (end_kept (bin Gt (var next_date) (var until_name)) ends.Until (fire_text alone n) (fire_kept alone))) (refl, refl)
 
   turn_kept : (alone : Bool) → Kept (turn_text alone n)
   turn_kept alone = halted_kept (event_text alone n) (event_kept alone)
@@ -328,7 +368,9 @@ module _ (n : Parts) where
       (both (all_begun n) (where_ports n)
       (each (λ k. source_begun n (suc k)) (port_count n)
       (λ k. firing_kept (suc k) (programmed_before n (suc k)) (firing_at n (source_of n (suc k)))))
-      (where_kept (nat_lt 0 (port_count n)) (until_asked n) (refl, refl)))
+      (where_kept (nat_lt 0 (port_count n)) (clock_begun n)
+      (both (text_where (nat_lt 1 (port_count n)) (count_begun n)) until_asked
+      (where_kept (nat_lt 1 (port_count n)) (count_begun n) (refl, refl)) (refl, refl))))
 
   abbrev main_rest : Block
   main_rest = joined (joined outset_rest (starting n)) (running n)

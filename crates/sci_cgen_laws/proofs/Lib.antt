@@ -1,4 +1,5 @@
 pub mod Places
+pub mod Using
 pub mod Doing
 pub mod Placed
 pub mod Kept

@@ -24,11 +24,11 @@ use Rattle.c_ast.specs.declared.Name.{Name}
 use Rattle.c_ast.specs.Syntax.{Function}
 use Rattle.c_mean.specs.Meaning.{same_name}
 use Rattle.sci_cgen_blocks.specs.Texts.{body_text}
-use Rattle.sci_cgen.specs.Names.{block_name}
-use Rattle.sci_cgen.specs.Program.{has_own, text_where, port_count, places_of, states_before, is_scheduled, block_function, source_function, functions_upto, functions_where, other_functions, called_functions, event_function, functions}
-use Rattle.sci_cgen.specs.Laws.{named_so}
-use Rattle.sci_cgen.proofs.Parted.{own, blocks, sources, settle_function, clear_function, choose_function}
-use Rattle.sci_cgen.proofs.Sizes.{in_bounds}
+use Rattle.sci_program.specs.Names.{block_name}
+use Rattle.sci_program.specs.Program.{has_own, text_where, port_count, places_of, states_before, is_scheduled, block_function, source_function, functions_upto, functions_where, other_functions, called_functions, event_function, functions}
+use Rattle.sci_program.specs.Laws.{named_so}
+use Rattle.sci_program.proofs.Parted.{own, blocks, sources, settle_function, clear_function, choose_function}
+use Rattle.sci_program.proofs.Sizes.{in_bounds}
 use Rattle.sci_cgen_laws.specs.Places.{AreApart}
 use Rattle.sci_cgen_laws.specs.Laws.{ProgramHasTexts}
 

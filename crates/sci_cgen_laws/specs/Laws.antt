@@ -7,9 +7,9 @@ use Rattle.sci_run.specs.Laws.{AreLoopFree}
 use Rattle.c_ast.specs.Syntax.{Function, Whole}
 use Rattle.sci_cgen_blocks.specs.Texts.{body_text}
 use Rattle.sci_cgen_blocks.specs.Meant.{AreInBounds}
-use Rattle.sci_cgen.specs.Names.{block_name}
-use Rattle.sci_cgen.specs.Program.{program, places_of, is_scheduled}
-use Rattle.sci_cgen.specs.Laws.{named_so}
+use Rattle.sci_program.specs.Names.{block_name}
+use Rattle.sci_program.specs.Program.{program, places_of, is_scheduled}
+use Rattle.sci_program.specs.Laws.{named_so}
 use Rattle.sci_cgen_laws.specs.Values.{KeepsValues}
 use Rattle.sci_cgen_laws.specs.Places.{HasPlaces}
 

@@ -6,7 +6,7 @@ use Rattle.c_ast.specs.Syntax.{Exp, num, var, element, bin, Told, value, Stateme
 use Rattle.c_mean.specs.Meaning.{same_name}
 use Rattle.c_mean.specs.Texts.{joined, May, block_within}
 use Rattle.sci_cgen_blocks.specs.Texts.{values}
-use Rattle.sci_cgen.specs.Names.{block_name}
+use Rattle.sci_program.specs.Names.{block_name}
 
 -- a text may do all, but assign no value
 abbrev pub spares_values : May

@@ -267,8 +267,9 @@ fn values_broken(kind: Kind, f: &BlockFields) -> Option<Broken>
     }
 }
 
-fn types_broken(kind: Kind, f: &BlockFields) -> Option<Broken>
-    requires forms { forms_broken kind (fields_of f.now) ≡ None }
+fn types_broken(f: &BlockFields) -> Option<Broken>
+    requires ins { length (fields_of f.now).ins ≤ length (fields_of f.now).intyp }
+    requires outs { length (fields_of f.now).outs ≤ length (fields_of f.now).outtyp }
     ensures { result ≡ types_broken (fields_of f.now) }
 {
     match side_broken(1, f.intyp.as_slice(), f.ins.len()) {
@@ -295,7 +296,7 @@ fn broken(kind: Kind, f: &BlockFields) -> Option<Broken>
 {
     match forms_broken(kind, f) {
         Some(b) => Some(b),
-        None => match types_broken(kind, f) {
+        None => match types_broken(f) {
             Some(b) => Some(b),
             None => match active_broken(f) {
                 Some(b) => Some(b),

@@ -12,7 +12,7 @@ use Rattle.c_ast.specs.Syntax.{Whole}
 use Rattle.c_ast.specs.Spelling.{spelling}
 use Rattle.c_mean.specs.Meaning.{meaning}
 use Rattle.c_read.proofs.Uniqueness.{one_spelled}
-use Rattle.sci_cgen.specs.Laws.{answer_by}
+use Rattle.sci_program.specs.Laws.{answer_by}
 use Rattle.sci_verdict.specs.Verdict.{Plan, Accepts}
 use Rattle.sci_verdict.proofs.Verdicts.{one_verdict, given_is_net}
 use Rattle.sci_answers.specs.Inputs.{AcceptsColumns}

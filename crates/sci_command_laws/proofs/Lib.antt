@@ -6,8 +6,8 @@ mod Generated
 mod Judging
 mod Lines
 mod OneAnswer
-mod Resumed
-mod RunsAlike
+pub mod Resumed
+pub mod RunsAlike
 mod RunsDue
-mod ShortColumns
+pub mod ShortColumns
 mod Statuses

@@ -21,7 +21,7 @@ use Rattle.sci_answers.specs.DumpAt.{AcceptsDump, BreaksDump, not_vcd}
 use Rattle.sci_vcd.specs.Waveforms.{Waveforms}
 use Rattle.sci_wave.proofs.OneDump.{one_run_dump}
 use Rattle.sci_vcd.proofs.Blaming as dumps
-use Rattle.sci_words.specs.Words.{Request, report, simulate, judge, save, resume, code, run_c, host, bulk, dump, dump_at, spelled}
+use Rattle.sci_words.specs.Words.{Request, simulate, judge, save, resume, code, bulk, dump, spelled}
 use Rattle.sci_base.specs.declared.observation.Obs.{Obs}
 use Rattle.sci_trace.specs.Lines.{text}
 use Rattle.sci_agree.specs.Verdict.{IsVerdict}
@@ -186,8 +186,11 @@ IsOneCourse same (makes due) = (a b : Answer) → due a → due b → same a b
 IsOneCourse same (reads A slot d accepts breaks next) =
     IsOneVerdict accepts breaks × ((bytes : List ℕ) (made : A) → Passes accepts slot bytes made → IsOneCourse same (next made))
 
+one_of : (a b c : Answer) → a ≡ c → b ≡ c → a ≡ b
+one_of a b c h k = h ∙ sym k
+
+-- of a command that is none of the first ones the answer is known behind its files
 one_course_of : (c : Request) → IsOneCourse (AreSame c) (course_of c)
-one_course_of (report r d) = (one_verdict, λ bytes p accepted a b h k. h ∙ sym k)
 one_course_of (simulate d i t n) =
     (one_verdict, λ bytes p accepted. (one_columns (needs_of p.net), λ file columns read a b h k. one_trace_answer bytes p columns t n a b accepted.1 h k))
 one_course_of (judge d i v t n) =
@@ -203,12 +206,10 @@ one_course_of (resume d i s t n) = (
   ),
 )
 one_course_of (code d) = (one_verdict, λ bytes p accepted a b h k. (p, h, k))
-one_course_of (run_c c i t n) = (one_program, λ bytes program accepted. (one_columns [], λ file columns read a b h k. h ∙ sym k))
-one_course_of host = λ a b h k. h ∙ sym k
 one_course_of (bulk seed size) = one_bulk seed size
 one_course_of (dump d i t n) =
     (one_verdict, λ bytes p accepted. (one_columns (needs_of p.net), λ file columns read a b h k. one_dump_answer bytes p columns t n a b accepted.1 h k))
-one_course_of (dump_at v tick) = (one_dump, λ bytes w accepted a b h k. h ∙ sym k)
+one_course_of c = search (one_of, one_verdict, one_columns, one_program, one_dump)
 
 -- and their names are one list
 abbrev Same : (Answer → Answer → Type 0) → Answer → Answer → List (List ℕ) → List (List ℕ) → Type 0

@@ -44,16 +44,16 @@ use Rattle.sci_command_laws.proofs.ShortColumns.{columns_short}
 -- ---- what is due of `save`
 
 -- the files' bytes pass, and this is saved
-record IsStored (until limit k : ℕ) (diagram inputs : List ℕ) (a : Answer) : Type 0 where
-  plan : Plan
-  diagram_short : length diagram ≤ 16777216
-  accepted : Accepts diagram plan
-  columns : List (List ℤ)
-  inputs_short : length inputs ≤ 16777216
-  read : AcceptsColumns (needs_of plan.net) inputs columns
-  stored : Saved
-  behind : IsSavedBehind plan.net columns until limit k stored
-  told : a.out ≡ saved_text plan.net stored
+pub record IsStored (until limit k : ℕ) (diagram inputs : List ℕ) (a : Answer) : Type 0 where
+  pub plan : Plan
+  pub diagram_short : length diagram ≤ 16777216
+  pub accepted : Accepts diagram plan
+  pub columns : List (List ℤ)
+  pub inputs_short : length inputs ≤ 16777216
+  pub read : AcceptsColumns (needs_of plan.net) inputs columns
+  pub stored : Saved
+  pub behind : IsSavedBehind plan.net columns until limit k stored
+  pub told : a.out ≡ saved_text plan.net stored
 
 stored_by : (until limit k : ℕ) (diagram inputs : List ℕ) (a : Answer) (p : Plan) (columns : List (List ℤ)) → length diagram ≤ 16777216 → Accepts diagram p → length inputs ≤ 16777216
     → AcceptsColumns (needs_of p.net) inputs columns → a.status ≡ 0 → IsSaveOf p.net columns until limit k a → IsStored until limit k diagram inputs a
@@ -75,7 +75,7 @@ stored_on : (files : Files) (i : List ℕ) (until limit k : ℕ) (diagram inputs
 stored_on files i until limit k diagram inputs names a p short accepted done (holds, inl h) = absurd (no_refusal a h.0 (inl done) h.2)
 stored_on files i until limit k diagram inputs names a p short accepted done (holds, inr h) = stored_by until limit k diagram inputs a p h.0 short accepted h.1.0 h.1.1 done h.4.0
 
-is_stored : (files : Files) (d i : List ℕ) (until limit k : ℕ) (diagram inputs : List ℕ) (names : List (List ℕ)) (a : Answer) → a.status ≡ 0
+pub is_stored : (files : Files) (d i : List ℕ) (until limit k : ℕ) (diagram inputs : List ℕ) (names : List (List ℕ)) (a : Answer) → a.status ≡ 0
     → DueOn files (course_of (save d i until limit k)) (diagram ∷ inputs ∷ []) names a → IsStored until limit k diagram inputs a
 is_stored files d i until limit k diagram inputs names a done (holds, inl h) = absurd (no_refusal a h.0 (inl done) h.2)
 is_stored files d i until limit k diagram inputs names a done (holds, inr h) = stored_on files i until limit k diagram inputs h.2 a h.0 h.1.0 h.1.1 done h.4

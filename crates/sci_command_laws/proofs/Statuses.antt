@@ -12,8 +12,8 @@ use Rattle.c_mean.specs.Meaning.{Ran, meaning}
 use Rattle.c_run.specs.Answering.{end_of}
 use Rattle.sci_agree.specs.declared.verdict.Verdict.{Verdict}
 use Rattle.sci_agree.specs.declared.verdict.Verdict.TheVariants.{Yes, No}
-use Rattle.sci_words.specs.Words.{Request, report, simulate, judge, save, resume, code, run_c, host, bulk, dump, dump_at, Spells}
-use Rattle.sci_answers.specs.Answer.{Answer}
+use Rattle.sci_words.specs.Words.{Request, simulate, judge, save, resume, code, run_c, host, bulk, dump, Spells}
+use Rattle.sci_answers.specs.Answer.{Answer, prints}
 use Rattle.sci_answers.specs.RunC.{c_status, c_err, c_ran, undefined_line}
 use Rattle.sci_answers.specs.Simulate.{run_status}
 use Rattle.sci_answers.specs.Judge.{judged}
@@ -70,6 +70,9 @@ save_closes : (n : Parts) (i : Columns) (until limit k : ℕ) (a : Answer) → I
 save_closes n i until limit k a (saves m h told) = inl (status-is told)
 save_closes n i until limit k a (ended count h told) = inr (status-is told)
 
+printed_status : (t : List ℕ) (a : Answer) → a ≡ prints t → a.status ≡ 0
+printed_status t a is = status-is is
+
 printed : (a : Answer) → (a.status ≡ 1) ⊎ IsPrinted a → IsOneOf (0 ∷ 1 ∷ []) a.status
 printed a (inl h) = inr (inl h)
 printed a (inr h) = inl h
@@ -106,8 +109,8 @@ program_closed : (files : Files) (c i : List ℕ) (until limit : ℕ) (bytes nam
 program_closed files c i until limit bytes names a h =
     closed IsOfProgram files (course_of (run_c c i until limit)) bytes names a (λ program columns b is. (meaning program columns (pos until) (pos limit), is)) h
 
+-- of a command that is none of the first ones a text is printed
 status_of : (files : Files) (c : Request) (bytes names : List (List ℕ)) (a : Answer) → DueOn files (course_of c) bytes names a → IsOneOf (statuses_of c) a.status
-status_of files (report r d) bytes names a h = printed a (closed IsPrinted files (course_of (report r d)) bytes names a (λ p b is. status-is is) h)
 status_of files (simulate d i until limit) bytes names a h =
     run a (closed IsOfRun files (course_of (simulate d i until limit)) bytes names a (λ p columns b is. (stops is.0, status-is is.2)) h)
 status_of files (judge d i v until limit) bytes names a h = judged_so a (judge_closed files d i v until limit bytes names a h)
@@ -121,7 +124,7 @@ status_of files host bytes names a h = inl (status-is h.0)
 status_of files (bulk seed size) bytes names a h = inl (status-is h.0.2)
 status_of files (dump d i until limit) bytes names a h =
     run a (closed IsOfRun files (course_of (dump d i until limit)) bytes names a (λ p columns b is. (stops is.2, status-is is.4)) h)
-status_of files (dump_at v tick) bytes names a h = printed a (closed IsPrinted files (course_of (dump_at v tick)) bytes names a (λ w b is. status-is is) h)
+status_of files c bytes names a h = printed a (closed IsPrinted files (course_of c) bytes names a (search printed_status) h)
 
 pub each_has_its_statuses : EachHasItsStatuses
 each_has_its_statuses files words bytes names a (inl h) = inl (h.0, status-is h.1)

@@ -13,7 +13,8 @@ use Rattle.sci_bank.specs.Bank.{Meaning}
 use Rattle.sci_bank.specs.Library.{IsFull, total_outs}
 use Rattle.sci_answers.specs.Counts.{CountsEnded, CountsStopped}
 
--- Where the run of a net of at most 1,000,000 events has ended, the sum of what the banks of all kinds have counted is how many blocks were active, over all its reactions.
+-- Where the run of a net of at most 1,000,000 events has ended, the sum of what the banks of all kinds have counted is how many blocks were active, over all its
+-- reactions.
 abbrev pub CountsAddUp : Type 0
 CountsAddUp =
     (n : Parts) (i : Columns) (until limit : ℕ) (banks : List Meaning) → IsNet n → limit ≤ EVENTS → IsFull banks → (h : CountsEnded n i until limit banks)

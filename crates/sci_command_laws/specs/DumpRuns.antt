@@ -69,4 +69,5 @@ pub record TellsRun (until limit : ℕ) (diagram inputs : List ℕ) (dumped : An
       → Due files (spelled (dump_at v tick)) (dumped.out ∷ []) names a → a ≡ held_at run tick
 
 abbrev pub DumpTellsRun : Type 0
-DumpTellsRun = (d i : List ℕ) (until limit : ℕ) (diagram inputs : List ℕ) (dumped : Answer) → IsDumped d i until limit diagram inputs dumped → TellsRun until limit diagram inputs dumped
+DumpTellsRun =
+    (d i : List ℕ) (until limit : ℕ) (diagram inputs : List ℕ) (dumped : Answer) → IsDumped d i until limit diagram inputs dumped → TellsRun until limit diagram inputs dumped

@@ -20,8 +20,8 @@ pub record IsToldYes (files : Files) (d i v : List ℕ) (until limit : ℕ) (dia
 -- Where simulate is due to run, and a file holds the bytes that are due of it, judge says yes of this file ..
 abbrev pub JudgeSaysYes : Type 0
 JudgeSaysYes =
-    (files : Files) (d i v : List ℕ) (until limit : ℕ) (diagram inputs : List ℕ) (simulated : Answer) → IsSimulatedRun files d i until limit diagram inputs simulated
-    → Holds files v simulated.out → length simulated.out ≤ third_slot.longest → IsToldYes files d i v until limit diagram inputs simulated
+    (files : Files) (d i v : List ℕ) (until limit : ℕ) (diagram inputs : List ℕ) (simulated : Answer)
+    → IsSimulatedRun files d i until limit diagram inputs simulated → Holds files v simulated.out → length simulated.out ≤ third_slot.longest → IsToldYes files d i v until limit diagram inputs simulated
 
 -- .. and of no file with other bytes, whatever the files of judge are: where its status is 0, it was given the bytes that are due of simulate.
 abbrev pub JudgeSaysYesOfNothingElse : Type 0

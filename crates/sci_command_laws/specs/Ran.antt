@@ -39,8 +39,8 @@ CodeRunsOnlySo =
     → AreAnswers d i until limit diagram inputs simulated coded
     → Due files (spelled (run_c c j until limit)) (coded.out ∷ inputs ∷ []) names ran → ran ≡ simulated
 
--- The diagram's bytes are accepted, the input file's bytes have what its sensors need, and this answer of ccode is due of the diagram, whose bytes are no more than a C
--- file may have.
+-- The diagram's bytes are accepted, the input file's bytes have what its sensors need, and this answer of ccode is due of the diagram, whose bytes are no more than a
+-- C file may have.
 pub record IsGenerated (d : List ℕ) (until limit : ℕ) (diagram inputs : List ℕ) (coded : Answer) : Type 0 where
   pub until_within : until ≤ TICKS
   pub limit_within : limit ≤ EVENTS

@@ -29,11 +29,11 @@ pub record IsDueBehind (k : ℕ) (files : Files) (d i : List ℕ) (until limit :
 -- Then something is due of save behind each reaction ..
 abbrev pub SaveIsDue : Type 0
 SaveIsDue =
-    (files : Files) (d i : List ℕ) (until limit k : ℕ) (diagram inputs : List ℕ) (simulated : Answer) → IsSimulatedRun files d i until limit diagram inputs simulated
-    → 1 ≤ k → k ≤ EVENTS + 1 → (saved : Answer) × IsDueBehind k files d i until limit diagram inputs simulated saved
+    (files : Files) (d i : List ℕ) (until limit k : ℕ) (diagram inputs : List ℕ) (simulated : Answer)
+    → IsSimulatedRun files d i until limit diagram inputs simulated → 1 ≤ k → k ≤ EVENTS + 1 → (saved : Answer) × IsDueBehind k files d i until limit diagram inputs simulated saved
 
 -- .. and a dump of vcd, with the same status.
 abbrev pub DumpIsDue : Type 0
 DumpIsDue =
-    (files : Files) (d i : List ℕ) (until limit : ℕ) (diagram inputs : List ℕ) (simulated : Answer) → IsSimulatedRun files d i until limit diagram inputs simulated
-    → (dumped : Answer) × Due files (spelled (dump d i until limit)) (diagram ∷ inputs ∷ []) (d ∷ i ∷ []) dumped × (dumped.status ≡ simulated.status)
+    (files : Files) (d i : List ℕ) (until limit : ℕ) (diagram inputs : List ℕ) (simulated : Answer)
+    → IsSimulatedRun files d i until limit diagram inputs simulated → (dumped : Answer) × Due files (spelled (dump d i until limit)) (diagram ∷ inputs ∷ []) (d ∷ i ∷ []) dumped × (dumped.status ≡ simulated.status)

@@ -2,7 +2,7 @@
 use Rattle.std.specs.Prelude.{ℕ, ◌≡◌, ◌⊎◌, List, [], ◌∷◌}
 use Rattle.sci_io.specs.Files.{Files}
 use Rattle.sci_agree.specs.declared.verdict.Verdict.TheVariants.{No}
-use Rattle.sci_words.specs.Words.{Request, report, simulate, judge, save, resume, code, run_c, host, bulk, dump, dump_at, Spells, NoCommand}
+use Rattle.sci_words.specs.Words.{Request, simulate, judge, resume, run_c, host, bulk, dump, Spells, NoCommand}
 use Rattle.sci_answers.specs.Answer.{Answer}
 use Rattle.sci_answers.specs.RunC.{undefined_line}
 use Rattle.sci_answers.specs.Judge.{judged}
@@ -10,17 +10,14 @@ use Rattle.sci_answers.specs.Due.{Due}
 
 -- 0 where it was done, 1 where it was refused, 6 where a run stopped, 7 where a C program has no meaning, 8 where a file isn't the trace
 abbrev pub statuses_of : Request → List ℕ
-statuses_of (report r d) = 0 ∷ 1 ∷ []
 statuses_of (simulate d i until limit) = 0 ∷ 1 ∷ 6 ∷ []
 statuses_of (judge d i v until limit) = 0 ∷ 1 ∷ 8 ∷ []
-statuses_of (save d i until limit k) = 0 ∷ 1 ∷ []
 statuses_of (resume d i s until limit) = 0 ∷ 1 ∷ 6 ∷ []
-statuses_of (code d) = 0 ∷ 1 ∷ []
 statuses_of (run_c c i until limit) = 0 ∷ 1 ∷ 6 ∷ 7 ∷ []
 statuses_of host = 0 ∷ []
 statuses_of (bulk seed size) = 0 ∷ []
 statuses_of (dump d i until limit) = 0 ∷ 1 ∷ 6 ∷ []
-statuses_of (dump_at v tick) = 0 ∷ 1 ∷ []
+statuses_of _ = 0 ∷ 1 ∷ []
 
 -- it is one of these numbers
 abbrev pub IsOneOf : List ℕ → ℕ → Type 0

@@ -20,7 +20,7 @@ pub fn one_answer_is_due()
     ensures bytes { OneAnswerOfBytes }
 {}
 
-/// The text of the program that `sci_cgen` defines for the plan of a diagram is one of those that are due of `ccode`. It is the one that `top` gives.
+/// The text of the program that `sci_program` defines for the plan of a diagram is one of those that are due of `ccode`. It is the one that `top` gives.
 pub fn defined_code_is_due()
     ensures { DefinedCodeIsDue }
 {}

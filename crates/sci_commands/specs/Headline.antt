@@ -19,7 +19,8 @@ Quiet before now = Rose before now → ⊥
 -- The answer that is due of the files' bytes was given whole, and the names asked for are those that are read for it.
 abbrev pub GivesDue : List (List ℕ) → List (List ℕ) → FolderState → FolderState → SinkState → SinkState → SinkState → SinkState → ℕ → Type 0
 GivesDue words bytes folder folder' out out' err err' status =
-    (a : Answer) × (names : List (List ℕ)) × Due folder.files words bytes names a × (folder'.asked ≡ folder.asked ++ names) × (status ≡ a.status) × Given out out' a.out × Given err err' a.err
+    (a : Answer) × (names : List (List ℕ)) × Due folder.files words bytes names a × (folder'.asked ≡ folder.asked ++ names) × (status ≡ a.status)
+    × Given out out' a.out × Given err err' a.err
 
 -- the words are a command that takes memory
 abbrev pub AsksMemory : List (List ℕ) → Type 0
@@ -40,7 +41,8 @@ pub record Meets (words : List (List ℕ)) (folder folder' : FolderState) (out o
   -- the answer that is due of them, or a read fault, or want of memory, is written as far as the sinks take it
   pub answer : (a : Answer) × ReachesBy words folder folder' bytes a × Written a out out' err err' status
   -- where no fault rose, it is the one that is due, memory aside
-  pub complete : Quiet folder.faults folder'.faults → Quiet out.faults out'.faults → Quiet err.faults err'.faults → GivesDue words bytes folder folder' out out' err err' status ⊎ (status ≡ 5)
+  pub complete : Quiet folder.faults folder'.faults → Quiet out.faults out'.faults → Quiet err.faults err'.faults
+      → GivesDue words bytes folder folder' out out' err err' status ⊎ (status ≡ 5)
   pub done : IsDone status → GivesDue words bytes folder folder' out out' err err' status × AsksAll words folder folder'
   -- and the banks have counted the run of `simulate`, of `vcd` and of `bulk`
   pub counts : IsDone status → HaveCounted words bytes banks

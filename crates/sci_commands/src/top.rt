@@ -14,7 +14,7 @@ use std::alloc::Global;
 /// no command, 3 where a file could not be read, 4 where out or err could not be written, 5 where memory lacked, 6 where
 /// the run stopped, 7 where a C program has no meaning, 8 where a file is not the trace. Runs go over the banks of the library, which are the
 /// banks of all kinds behind the call too; those of `simulate`, `vcd` and `bulk` have counted the blocks that were active. Of the texts that are due of
-/// `ccode` it is the one that `sci_cgen` defines.
+/// `ccode` it is the one that `sci_program` defines.
 pub fn top<F: Folder, O: Sink, E: Sink, B: Bank>(
     alloc: Global,
     words: &[String],

@@ -52,7 +52,8 @@ PrintsTrace s out out' r = (os : List Obs) × IsRun s.ready.fixed.net s.inputs s
 -- or with the dump of its run
 abbrev pub PrintsDump : Simulation → SinkState → SinkState → Result RunEnd Failed → Type 0
 PrintsDump s out out' r =
-    (w : Waveforms) × IsRunDump s.ready.fixed.net s.inputs s.until s.limit w × (os : List Obs) × IsRun s.ready.fixed.net s.inputs s.until s.limit os × RanAs (spelling w) (stops os) out out' r
+    (w : Waveforms) × IsRunDump s.ready.fixed.net s.inputs s.until s.limit w × (os : List Obs)
+    × IsRun s.ready.fixed.net s.inputs s.until s.limit os × RanAs (spelling w) (stops os) out out' r
 
 -- a run that goes on was printed, with some rest of its trace
 abbrev pub PrintsRest : ResumedRun → SinkState → SinkState → Result RunEnd Failed → Type 0

@@ -3,13 +3,14 @@ ghost use Rattle.sci_base.specs.declared.limits.TheConstants.{TICKS, EVENTS};
 ghost use Rattle.sci_bank.specs.Library.{IsFull};
 ghost use Rattle.sci_base.specs.Plain.{violation_of};
 ghost use Rattle.sci_print.specs.Line.{refused_line};
+ghost use Rattle.sci_words.specs.Words.{usage_line};
 ghost use Rattle.sci_io.specs.Taken.{Writes};
 ghost use Rattle.c_ast.specs.View.{whole_of};
 ghost use Rattle.c_ast.specs.Spelling.{spelling};
 ghost use Rattle.c_ast.specs.Bounds.{IsWhole};
 ghost use Rattle.c_mean.specs.Meaning.{meaning};
 ghost use Rattle.sci_answers.specs.declared.told.Told.TheVariants.{Check};
-ghost use Rattle.sci_answers.specs.Answer.{IsDone, prints, write_fault_line, usage_line, read_fault_line, no_memory_line};
+ghost use Rattle.sci_answers.specs.Answer.{IsDone, prints, write_fault_line, read_fault_line, no_memory_line};
 ghost use Rattle.sci_answers.specs.RunC.{undefined_line};
 ghost use Rattle.sci_answers.specs.Prepared.{counted_line, told_text, HasRows, IsReadyToRun, IsPrepared, LeavesBanks};
 ghost use Rattle.sci_answers.specs.Counts.{CountsRun};
@@ -87,7 +88,7 @@ fn refuse<E: Sink>(refusal: &Refusal, err: &mut E) -> u8
     }
 }
 
-#[tactic(auto, unfolding(sci_answers::specs::Answer::usage_line))]
+#[tactic(auto, unfolding(sci_words::specs::Words::usage_line))]
 fn say_usage<E: Sink>(err: &mut E) -> u8
     ensures { Said 2 usage_line (E.state err.old) (E.state err.new) result }
 {

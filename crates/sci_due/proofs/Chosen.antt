@@ -1,18 +1,14 @@
 -- The chosen port of the table is that of the next pending event.
-use Rattle.std.proofs.Common.{◌≡◌, ℕ, zero, suc, ◌<◌, ◌≤◌, ◌<ℤ◌, ◌≤ℤ◌, ◌⊎◌, inl, inr, List, Option, Some, None, Bool, true, false, ◌&&◌, ◌||◌, refl, sym, ap, ◌∙◌, subst, arith, ℤ, pos, negsuc, if◌then◌else◌}
+use Rattle.std.proofs.Common.{◌≡◌, ℕ, suc, ◌<◌, ◌≤◌, ◌<ℤ◌, ◌≤ℤ◌, ◌⊎◌, inl, inr, List, Some, None, Bool, true, false, ◌&&◌, ◌||◌, refl, sym, ap, ◌∙◌, subst, arith, ℤ, pos, negsuc, if◌then◌else◌}
 use Rattle.std.specs.Prelude.{int_lt, int_le}
 use Rattle.std.proofs.lemmas.Int.{ints}
-use Rattle.std.proofs.lemmas.Bool.{cases_lt}
 use Rattle.sci_pending.specs.Pending.{Event, next}
 use Rattle.sci_pending.specs.Order.{Falls}
-use Rattle.sci_due.specs.Due.{Table, same_int, sooner, better, chosen, Stands, HasEvent, IsTable}
+use Rattle.sci_base.specs.Fit.{int_eq}
+use Rattle.sci_due.specs.Due.{Table, sooner, better, AtMost, IsFirstOf, Stands, HasEvent, IsTable}
 use Rattle.sci_due.proofs.Lists.{IsFirst, first_next, nothing_next}
 
--- port b's event doesn't come after port i's
-abbrev AtMost : Table → ℕ → ℕ → Type 0
-AtMost t b i = (t.date b <ℤ t.date i) ⊎ ((t.date b ≡ t.date i) × (t.order b ≤ℤ t.order i))
-
-same_true : (a b : ℤ) → same_int a b ≡ true → a ≡ b
+same_true : (a b : ℤ) → int_eq a b ≡ true → a ≡ b
 same_true a b h = both (int_le a b) (int_le b a) refl refl h
   where
     both : (x y : Bool) → int_le a b ≡ x → int_le b a ≡ y → x && y ≡ true → a ≡ b
@@ -20,7 +16,7 @@ same_true a b h = both (int_le a b) (int_le b a) refl refl h
     both true false p q h = cc
     both false y p q h = cc
 
-same_false : (a b : ℤ) → int_lt a b ≡ false → same_int a b ≡ false → b <ℤ a
+same_false : (a b : ℤ) → int_lt a b ≡ false → int_eq a b ≡ false → b <ℤ a
 same_false a b l h = both (int_le a b) (int_le b a) refl refl h
   where
     both : (x y : Bool) → int_le a b ≡ x → int_le b a ≡ y → x && y ≡ false → b <ℤ a
@@ -28,20 +24,20 @@ same_false a b l h = both (int_le a b) (int_le b a) refl refl h
     both true false p q h = grind (arith, ints)
     both false y p q h = grind (arith, ints)
 
-first_then : (a b c d : ℤ) → int_lt a b || (same_int a b && int_lt c d) ≡ true → (a <ℤ b) ⊎ ((a ≡ b) × (c ≤ℤ d))
-first_then a b c d h = by_first (int_lt a b) refl (same_int a b) refl (int_lt c d) refl h
+first_then : (a b c d : ℤ) → int_lt a b || (int_eq a b && int_lt c d) ≡ true → (a <ℤ b) ⊎ ((a ≡ b) × (c ≤ℤ d))
+first_then a b c d h = by_first (int_lt a b) refl (int_eq a b) refl (int_lt c d) refl h
   where
-    by_first : (x : Bool) → int_lt a b ≡ x → (y : Bool) → same_int a b ≡ y → (z : Bool) → int_lt c d ≡ z → x || (y && z) ≡ true
+    by_first : (x : Bool) → int_lt a b ≡ x → (y : Bool) → int_eq a b ≡ y → (z : Bool) → int_lt c d ≡ z → x || (y && z) ≡ true
         → (a <ℤ b) ⊎ ((a ≡ b) × (c ≤ℤ d))
     by_first true p y q z r h = inl (grind (arith, ints))
     by_first false p true q true r h = inr (same_true a b q, grind (arith, ints))
     by_first false p true q false r h = cc
     by_first false p false q z r h = cc
 
-not_first : (a b c d : ℤ) → int_lt a b || (same_int a b && int_lt c d) ≡ false → (b <ℤ a) ⊎ ((b ≡ a) × (d ≤ℤ c))
-not_first a b c d h = by_first (int_lt a b) refl (same_int a b) refl (int_lt c d) refl h
+not_first : (a b c d : ℤ) → int_lt a b || (int_eq a b && int_lt c d) ≡ false → (b <ℤ a) ⊎ ((b ≡ a) × (d ≤ℤ c))
+not_first a b c d h = by_first (int_lt a b) refl (int_eq a b) refl (int_lt c d) refl h
   where
-    by_first : (x : Bool) → int_lt a b ≡ x → (y : Bool) → same_int a b ≡ y → (z : Bool) → int_lt c d ≡ z → x || (y && z) ≡ false
+    by_first : (x : Bool) → int_lt a b ≡ x → (y : Bool) → int_eq a b ≡ y → (z : Bool) → int_lt c d ≡ z → x || (y && z) ≡ false
         → (b <ℤ a) ⊎ ((b ≡ a) × (d ≤ℤ c))
     by_first true p y q z r h = cc
     by_first false p true q true r h = cc
@@ -66,61 +62,86 @@ not_there z h = grind (arith, ints)
 is_there : (z : ℤ) → int_le (pos 0) z ≡ true → pos 0 ≤ℤ z
 is_there z h = grind (arith, ints)
 
--- what a scan of n ports has found
-abbrev Found : Table → ℕ → Option ℕ → Type 0
-Found t n None = (i : ℕ) → i < n → t.date i <ℤ pos 0
-Found t n (Some b) = (b < n) × (pos 0 ≤ℤ t.date b) × ((i : ℕ) → i < n → pos 0 ≤ℤ t.date i → AtMost t b i)
+yes_there : (z : ℤ) → pos 0 ≤ℤ z → int_le (pos 0) z ≡ true
+yes_there z h = grind (arith, ints)
 
-last_or : (n : ℕ) (P : ℕ → Type 0) → ((i : ℕ) → i < n → P i) → P n → (i : ℕ) → i < suc n → P i
-last_or n P f z i l = elim (cases_lt i n) [ inl q ↦ f i q | inr q ↦ let same : n ≡ i = omega (arith, q, l) in subst P same z ]
+not_below : (z : ℤ) → int_lt z (pos 0) ≡ false → pos 0 ≤ℤ z
+not_below z h = grind (arith, ints)
 
-found_more : (t : Table) (n : ℕ) (o : Option ℕ) (u : Bool) → better t n o ≡ u → Found t n o → Found t (suc n) (if u then Some n else o)
-found_more t n None false e f = last_or n (λ i. t.date i <ℤ pos 0) f (not_there (t.date n) e)
-found_more t n None true e f = (
-  omega arith,
-  is_there (t.date n) e,
-  last_or n (λ i. pos 0 ≤ℤ t.date i → AtMost t n i) (λ i l p. absurd (omega (arith, ints, f i l, p)))
-      (λ p. inr (refl, omega (arith, ints))),
-)
-found_more t n (Some b) true e f =
-    let first = sooner_true t n b (right (int_le (pos 0) (t.date n)) (sooner t n b) e) in (
-      omega arith,
-      is_there (t.date n) (left (int_le (pos 0) (t.date n)) (sooner t n b) e),
-      last_or n (λ i. pos 0 ≤ℤ t.date i → AtMost t n i)
-          (λ i l p. at_most_then t n b i first (f.2 i l p)) (λ p. inr (refl, omega (arith, ints))),
-    )
+is_below : (z : ℤ) → int_lt z (pos 0) ≡ true → pos 0 ≤ℤ z → ⊥
+is_below z h l = grind (arith, ints)
+
+both_left : (a b : Bool) → a && b ≡ true → a ≡ true
+both_left true b h = refl
+both_left false b h = h
+
+both_right : (a b : Bool) → a && b ≡ true → b ≡ true
+both_right true b h = h
+both_right false b h = cc
+
+rest_fails : (a b : Bool) → a ≡ true → a && b ≡ false → b ≡ false
+rest_fails true b p h = h
+rest_fails false b p h = cc
+
+-- one of two sets of ports
+abbrev pub Either : (ℕ → Type 0) → (ℕ → Type 0) → ℕ → Type 0
+Either S U i = S i ⊎ U i
+
+-- the first of two sets, from the first of each
+module _ (t : Table) (S U : ℕ → Type 0) (b u : ℕ) (f : IsFirstOf t S b) (g : IsFirstOf t U u) where
+  before : (i : ℕ) → pos 0 ≤ℤ t.date i → better t u b ≡ true → (pos 0 ≤ℤ t.date b) × AtMost t b i → AtMost t u i
+  before i p e h = by_tests (int_lt (t.date b) (pos 0)) refl (sooner t u b) refl (both_right (int_le (pos 0) (t.date u)) _ e)
+    where
+      by_tests : (x : Bool) → int_lt (t.date b) (pos 0) ≡ x → (y : Bool) → sooner t u b ≡ y → x || y ≡ true → AtMost t u i
+      by_tests true q y r s = absurd (is_below (t.date b) q h.0)
+      by_tests false q true r s = at_most_then t u b i (sooner_true t u b r) h.1
+      by_tests false q false r s = cc
+
+  after : (i : ℕ) → better t u b ≡ false → (pos 0 ≤ℤ t.date u) × AtMost t u i → (pos 0 ≤ℤ t.date b) × AtMost t b i
+  after i e h =
+      by_tests (int_lt (t.date b) (pos 0)) refl (sooner t u b) refl (rest_fails (int_le (pos 0) (t.date u)) _ (yes_there (t.date u) h.0) e)
+    where
+      by_tests : (x : Bool) → int_lt (t.date b) (pos 0) ≡ x → (y : Bool) → sooner t u b ≡ y → x || y ≡ false
+          → (pos 0 ≤ℤ t.date b) × AtMost t b i
+      by_tests true q y r s = cc
+      by_tests false q true r s = cc
+      by_tests false q false r s = (not_below (t.date b) q, at_most_then t b u i (sooner_false t u b r) h.1)
+
+  pub first_of_both : (r : Bool) → better t u b ≡ r → IsFirstOf t (Either S U) (if r then u else b)
+  first_of_both true e = record {
+    among = inr g.among;
+    first = λ i s p. elim s [
+      | inl q ↦ (is_there (t.date u) (both_left (int_le (pos 0) (t.date u)) _ e), before i p e (f.first i q p))
+      | inr q ↦ g.first i q p
+    ];
+  }
+  first_of_both false e = record {
+    among = inl f.among;
+    first = λ i s p. elim s [ inl q ↦ f.first i q p | inr q ↦ after i e (g.first i q p) ];
+  }
+
+-- the first of one port
+pub first_of_one : (t : Table) (u : ℕ) → IsFirstOf t (λ i. u ≡ i) u
+first_of_one t u = record {
+  among = refl;
+  first = λ i s p. subst (λ (j : ℕ). (pos 0 ≤ℤ t.date u) × AtMost t u j) s (subst (λ (j : ℕ). pos 0 ≤ℤ t.date j) (sym s) p, inr (refl, omega (arith, ints)));
+}
+
+-- of the same ports
+pub first_among : (t : Table) (S U : ℕ → Type 0) (b : ℕ) → ((i : ℕ) → S i → U i) → ((i : ℕ) → U i → S i) → IsFirstOf t S b → IsFirstOf t U b
+first_among t S U b more less f = record { among = more b f.among; first = λ i s p. f.first i (less i s) p }
+
+-- in a table with the same dates and orders there
+pub first_alike : (t t' : Table) (S : ℕ → Type 0) (b : ℕ) → ((i : ℕ) → S i → t'.date i ≡ t.date i) → ((i : ℕ) → S i → t'.order i ≡ t.order i)
+    → IsFirstOf t S b → IsFirstOf t' S b
+first_alike t t' S b date order f = record { among = f.among; first = λ i s p. there i s (f.first i s (subst (λ (z : ℤ). pos 0 ≤ℤ z) (date i s) p)) }
   where
-    left : (a b : Bool) → a && b ≡ true → a ≡ true
-    left true b h = refl
-    left false b h = h
+    at_most : (i : ℕ) → S i → AtMost t b i → AtMost t' b i
+    at_most i s (inl l) = inl (omega (arith, ints, l, date b f.among, date i s))
+    at_most i s (inr q) = inr (date b f.among ∙ (q.0 ∙ sym (date i s)), omega (arith, ints, q.1, order b f.among, order i s))
 
-    right : (a b : Bool) → a && b ≡ true → b ≡ true
-    right true b h = h
-    right false b h = cc
-found_more t n (Some b) false e f = (
-  omega (arith, f.0),
-  f.1,
-  last_or n (λ i. pos 0 ≤ℤ t.date i → AtMost t b i) f.2
-      (λ p. sooner_false t n b (right (int_le (pos 0) (t.date n)) (sooner t n b) (yes_there (t.date n) p) e)),
-)
-  where
-    yes_there : (z : ℤ) → pos 0 ≤ℤ z → int_le (pos 0) z ≡ true
-    yes_there z h = grind (arith, ints)
-
-    right : (a b : Bool) → a ≡ true → a && b ≡ false → b ≡ false
-    right true b p h = h
-    right false b p h = cc
-
--- The scan finds the least by date and order of the ports that have an event, or that there is none.
-chosen_found : (t : Table) (n : ℕ) → Found t n (chosen t n)
-chosen_found t zero = λ i l. absurd (omega (arith, l))
-chosen_found t (suc n) = found_more t n (chosen t n) (better t n (chosen t n)) refl (chosen_found t n)
-
-pub chosen_within : (t : Table) (n b : ℕ) → chosen t n ≡ Some b → b < n
-chosen_within t n b h = within (subst (Found t n) h (chosen_found t n))
-  where
-    within : (b < n) × (pos 0 ≤ℤ t.date b) × ((i : ℕ) → i < n → pos 0 ≤ℤ t.date i → AtMost t b i) → b < n
-    within f = f.0
+    there : (i : ℕ) → S i → (pos 0 ≤ℤ t.date b) × AtMost t b i → (pos 0 ≤ℤ t'.date b) × AtMost t' b i
+    there i s h = (subst (λ (z : ℤ). pos 0 ≤ℤ z) (sym (date b f.among)) h.0, at_most i s h.1)
 
 nonneg : (z : ℤ) (k : ℕ) → z ≡ pos k → pos 0 ≤ℤ z
 nonneg z k e = omega (arith, ints, e)
@@ -128,37 +149,37 @@ nonneg z k e = omega (arith, ints, e)
 below : (z : ℤ) → z ≡ negsuc 0 → pos 0 ≤ℤ z → ⊥
 below z e l = omega (arith, ints, e, l)
 
-negative : (z : ℤ) (k : ℕ) → z ≡ pos k → z <ℤ pos 0 → ⊥
-negative z k p l = omega (arith, ints, p, l)
-
 -- ---- the next event
 
-first_is : (t : Table) (n : ℕ) (es : List Event) (b : ℕ) → IsTable t n es → Found t n (Some b) → (e : Event) × (IsFirst es e × (e.source ≡ suc b))
-first_is t n es b is found = by_free (is.free b found.0)
-  where
-    compare : (e : Event) → e.source ≡ suc b → Stands t n e → (f : Event) → Stands t n f → (e.date < f.date) ⊎ ((e.date ≡ f.date) × (e.order ≤ f.order))
-    compare e own s f r =
-        let port : s.port ≡ b = omega (arith, own, s.is) in
-        let date : t.date b ≡ pos e.date = ap t.date (sym port) ∙ s.date in
-        let order : t.order b ≡ pos e.order = ap t.order (sym port) ∙ s.order in
-        elim (found.2 r.port r.within (nonneg (t.date r.port) f.date r.date)) [
-          | inl l ↦ inl (omega (arith, ints, l, date, r.date))
-          | inr q ↦ inr (omega (arith, ints, q.0, date, r.date), omega (arith, ints, q.1, order, r.order))
-        ]
+abbrev pub Below : ℕ → ℕ → Type 0
+Below n i = i < n
 
-    by_free : (t.date b ≡ negsuc 0) ⊎ HasEvent es b → (e : Event) × (IsFirst es e × (e.source ≡ suc b))
-    by_free (inl e) = absurd (below (t.date b) e found.1)
-    by_free (inr h) = (h.0, ((h.1.0, λ f c. compare h.0 h.1.1 (is.there h.0 h.1.0) f (is.there f c)), h.1.1))
+module _ (t : Table) (n : ℕ) (es : List Event) (b : ℕ) (is : IsTable t n es) (found : IsFirstOf t (Below n) b) where
+  first_is : pos 0 ≤ℤ t.date b → (e : Event) × (IsFirst es e × (e.source ≡ suc b))
+  first_is has = by_free (is.free b found.among)
+    where
+      compare : (e : Event) → e.source ≡ suc b → Stands t n e → (f : Event) → Stands t n f → (e.date < f.date) ⊎ ((e.date ≡ f.date) × (e.order ≤ f.order))
+      compare e own s f r =
+          let port : s.port ≡ b = omega (arith, own, s.is) in
+          let date : t.date b ≡ pos e.date = ap t.date (sym port) ∙ s.date in
+          let order : t.order b ≡ pos e.order = ap t.order (sym port) ∙ s.order in
+          elim ((found.first r.port r.within (nonneg (t.date r.port) f.date r.date)).1) [
+            | inl l ↦ inl (omega (arith, ints, l, date, r.date))
+            | inr q ↦ inr (omega (arith, ints, q.0, date, r.date), omega (arith, ints, q.1, order, r.order))
+          ]
 
-pub chosen_next : (t : Table) (n : ℕ) (es : List Event) (k b : ℕ) → IsTable t n es → Falls k es → chosen t n ≡ Some b
-    → (e : Event) × ((next es ≡ Some e) × (e.source ≡ suc b))
-chosen_next t n es k b is falls h =
-    let e = first_is t n es b is (subst (Found t n) h (chosen_found t n)) in
-    (e.0, (first_next k es e.0 falls e.1.0, e.1.1))
+      by_free : (t.date b ≡ negsuc 0) ⊎ HasEvent es b → (e : Event) × (IsFirst es e × (e.source ≡ suc b))
+      by_free (inl e) = absurd (below (t.date b) e has)
+      by_free (inr h) = (h.0, ((h.1.0, λ f c. compare h.0 h.1.1 (is.there h.0 h.1.0) f (is.there f c)), h.1.1))
 
-pub chosen_none : (t : Table) (n : ℕ) (es : List Event) → IsTable t n es → chosen t n ≡ None → next es ≡ None
-chosen_none t n es is h =
-    nothing_next es (λ e c. let s = is.there e c in negative (t.date s.port) e.date s.date (none (subst (Found t n) h (chosen_found t n)) s.port s.within))
-  where
-    none : ((i : ℕ) → i < n → t.date i <ℤ pos 0) → (i : ℕ) → i < n → t.date i <ℤ pos 0
-    none f = f
+  -- a port that has an event has the next one; else nothing is pending
+  pub found_next : (k : ℕ) → Falls k es → pos 0 ≤ℤ t.date b → (e : Event) × ((next es ≡ Some e) × (e.source ≡ suc b))
+  found_next k falls has = let e = first_is has in (e.0, (first_next k es e.0 falls e.1.0, e.1.1))
+
+  pub found_none : t.date b <ℤ pos 0 → next es ≡ None
+  found_none none =
+      nothing_next es (λ e c. let s = is.there e c in
+      no_sign (t.date b) none (found.first s.port s.within (nonneg (t.date s.port) e.date s.date)).0)
+    where
+      no_sign : (z : ℤ) → z <ℤ pos 0 → pos 0 ≤ℤ z → ⊥
+      no_sign z l m = omega (arith, ints, l, m)

@@ -1,7 +1,8 @@
 pub mod Lists
 pub mod Chosen
 pub mod Tables
-pub mod Shown
 pub mod Scanning
+pub mod Shown
+pub mod Keeping
 pub mod Programming
 pub mod Pending

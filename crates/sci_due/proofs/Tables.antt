@@ -1,9 +1,10 @@
 -- A port that is programmed, or whose event is taken, in the table and among the events.
-use Rattle.std.proofs.Common.{◌≡◌, ℕ, suc, ◌<◌, ◌⊎◌, inl, inr, List, [], ◌∷◌, Bool, true, false, not, refl, sym, ap, ◌∙◌, subst, arith, ℤ, pos, negsuc, nat_eq, if◌then◌else◌, true≢false, eqb-true, eq-eqb, ne_eqb, Contains}
+use Rattle.std.proofs.Common.{◌≡◌, ℕ, suc, ◌<◌, ◌≤◌, ◌⊎◌, inl, inr, List, [], ◌∷◌, Bool, true, false, not, refl, sym, ap, ◌∙◌, subst, arith, ℤ, pos, negsuc, nat_eq, if◌then◌else◌, true≢false, eqb-true, eq-eqb, ne_eqb, Contains}
 use Rattle.std.proofs.lemmas.Bool.{cond-true, cond-false}
 use Rattle.sci_pending.specs.Pending.{Event, Pending, without, without_source, replaced}
 use Rattle.sci_pending.specs.Order.{Falls}
 use Rattle.sci_due.specs.Due.{Table, with_date, with_event, freed, Stands, HasEvent, IsTable}
+use Rattle.sci_due.specs.Laws.{AreOfPorts}
 use Rattle.sci_due.proofs.Lists.{has_none, has_first, has_more, has_cases, kept_there, was_there, same_order}
 
 not_false : (b : Bool) → not b ≡ true → b ≡ false
@@ -107,6 +108,23 @@ module _ (t : Table) (n k i : ℕ) (es : List Event) (e : Event) (falls : Falls 
 
   pub taken_is : IsTable (freed t i) n (without e.order es)
   taken_is = record { there = taken_there; free = λ j h. taken_free j (nat_eq i j) refl (is.free j h) }
+
+-- Where there is one port, an event that is programmed there is the only one.
+module _ (n i date : ℕ) (p : Pending) (within : i < n) (ports : AreOfPorts n p.events) (few : n ≤ 1) where
+  abbrev only : Event
+  only = record { date = date; order = p.programmed; source = suc i }
+
+  is_only : (e : Event) → (only ≡ e) ⊎ Contains (without_source (suc i) p.events) e → only ≡ e
+  is_only e (inl same) = same
+  is_only e (inr c) =
+      let d = was_there (λ (e : Event). not (nat_eq e.source (suc i))) p.events e c in
+      let source = ports e d.0 in
+      let here : e.source ≡ suc i = omega (arith, within, few, source.0, source.1) in
+      absurd (apart e.source (suc i) (not_false (nat_eq e.source (suc i)) d.1) here)
+
+  pub replaced_single : (e f : Event) → Contains (replaced p date (suc i)).events e → Contains (replaced p date (suc i)).events f → e ≡ f
+  replaced_single e f c d =
+      sym (is_only e (has_cases only e (without_source (suc i) p.events) c)) ∙ is_only f (has_cases only f (without_source (suc i) p.events) d)
 
 -- A table without a date has no event.
 pub empty_is : (t : Table) (n : ℕ) → ((i : ℕ) → i < n → t.date i ≡ negsuc 0) → IsTable t n []

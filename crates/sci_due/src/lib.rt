@@ -4,7 +4,11 @@
 
 ghost use Rattle.sci_due.specs.Laws.{ChooseLaw, TakeLaw, ProgramLaw, NoDelayLaw};
 
-/// The scan of the table finds the port of the next pending event, or that there is none.
+mod due_table;
+
+pub use due_table::{DueTable, GROUP, TURNS};
+
+/// A scan of the table finds the port of the next pending event and its date, or that there is none.
 pub fn choose_law()
     ensures { ChooseLaw }
 {}

@@ -10,7 +10,7 @@ use Rattle.sci_vcd.specs.declared.signal.Change.{Change}
 use Rattle.sci_vcd.specs.Waveforms.{Waveforms, type_of, counts, is_within, precedes, rises, is_later, last_of, value_at}
 use Rattle.sci_vcd.specs.Spelling.{binary, bits, type_text, signal_line, value_line, next_tick, change_lines, spelling}
 use Rattle.sci_vcd.specs.Signals.{signals_of, before_block, number_of}
-use Rattle.sci_vcd.specs.Writing.{Writing, MayClose, change_here, changes_at, lines_behind, told_at, with_note}
+use Rattle.sci_vcd.specs.Writing.{Writing, MayClose, change_here, changes_at, lines_behind, told_at, with_notes}
 use Rattle.sci_wave.specs.History.{memory_at}
 use Rattle.sci_wave.specs.RunDump.{IsDumpOf}
 use Rattle.sci_examples.proofs.Blocks.{counting, apart}
@@ -164,7 +164,7 @@ tick_3 = refl
 first_told : (told_at None writing 0).first ≡ pos 5 ∷ []
 first_told = refl
 
-noted_there : (with_note writing 1 (pos 8)).noted ≡ pos 8 ∷ []
+noted_there : (with_notes writing 0 (pos 8 ∷ [])).noted ≡ pos 8 ∷ []
 noted_there = refl
 
 closes_at_0 : MayClose None 0

@@ -32,9 +32,11 @@ IsFile most old new name (Err Failed) = AsksInVain old new name
 IsFile most old new name (Err NoBytes) = MayAsk old new name
 
 -- what the rules of a file accept, and how they are broken, make of one
-abbrev pub IsLooked : {A : Type 0} → (List ℕ → A → Type 0) → (List ℕ → Violation → Type 0) → Slot → FolderState → FolderState → List ℕ → Result A LookStop → Type 0
+abbrev pub IsLooked : {A : Type 0} → (List ℕ → A → Type 0) → (List ℕ → Violation → Type 0)
+    → Slot → FolderState → FolderState → List ℕ → Result A LookStop → Type 0
 IsLooked accepts breaks slot old new name (Ok made) = ((bytes : List ℕ) × Holds old.files name bytes × Passes accepts slot bytes made) × Asks old new name
-IsLooked accepts breaks slot old new name (Err (Refused r)) = ((bytes : List ℕ) × Holds old.files name bytes × Fails breaks slot bytes (violation_of r)) × Asks old new name
+IsLooked accepts breaks slot old new name (Err (Refused r)) =
+    ((bytes : List ℕ) × Holds old.files name bytes × Fails breaks slot bytes (violation_of r)) × Asks old new name
 IsLooked accepts breaks slot old new name (Err Fault) = AsksInVain old new name
 IsLooked accepts breaks slot old new name (Err Memory) = MayAsk old new name
 

@@ -1,4 +1,5 @@
 pub mod Feeds
 pub mod FirstNot
 pub mod Places
+pub mod PortLemmas
 pub mod TestLemmas

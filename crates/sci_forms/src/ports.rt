@@ -1,6 +1,6 @@
 // Ports, and a list of them.
 ghost use Rattle.std.specs.Prelude.{◌≡◌, ◌<◌, ◌+◌, ◌^◌, List, length, ◌++◌, ◌∷◌, [], IfOk};
-ghost use Rattle.sci_forms.specs.Ports.{port_at, elements, type_of, sum_rows};
+ghost use Rattle.sci_forms.specs.Ports.{port_at, elements, total, type_of, sum_rows};
 
 use sci_base::{NoMemory, Ty};
 use std::alloc::Global;
@@ -86,6 +86,19 @@ impl Ports {
                 ty: 0,
             }
         }
+    }
+
+    /// How many elements all ports have.
+    #[tactic(auto, using(crate::proofs::PortLemmas::total_step, crate::proofs::PortLemmas::total_end))]
+    pub fn total(&self) -> u32
+        requires { total self.now < 2 ^ 32 }
+        ensures { result ≡ total self.now }
+    {
+        let mut count = 0;
+        for port in 0..self.len() {
+            count += self.port(port).elements() as u32;
+        }
+        count
     }
 
     /// The sum of the ports' rows.

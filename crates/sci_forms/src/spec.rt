@@ -1,9 +1,10 @@
 // The spec of a block.
 ghost use Rattle.std.specs.Prelude.{◌≡◌, ◌<◌, List, length, IfOk};
+ghost use Rattle.sci_forms.specs.Words.{param, out_type};
 
 use crate::Kind;
 use crate::ports::Ports;
-use sci_base::{Ints, NoMemory, Truths};
+use sci_base::{Ints, NoMemory, Truths, Ty};
 use std::alloc::Global;
 
 /// What is declared of a block. `Kind` says what the parameters mean; a part that the kind doesn't have is empty.
@@ -30,6 +31,20 @@ pub struct Spec {
 }
 
 impl Spec {
+    /// Parameter `k`, counted from 0; 0 where there is none.
+    pub fn param(&self, k: usize) -> i64
+        ensures { result ≡ param self.now k }
+    {
+        self.params.at(k)
+    }
+
+    /// The type of the first output; int32 where there is none.
+    pub fn out_type(&self) -> Ty
+        ensures { result ≡ out_type self.now }
+    {
+        self.outs.port(0).kind_of_type()
+    }
+
     /// A copy of the spec.
     pub fn copy(&self, alloc: Global) -> Result<Spec, NoMemory>
         ensures { IfOk result (λ r. r ≡ self.now) }

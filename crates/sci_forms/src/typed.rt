@@ -22,7 +22,7 @@ use crate::values::{
     between, first_param, first_state, first_unfed, is_equal, param_at, params_len_ok,
     state_len_ok, within,
 };
-use sci_base::{Rule, Ty};
+use sci_base::{Rule, Ty, limits};
 
 fn first_port(s: &Spec) -> Port
     ensures { result ≡ first_port s.now }
@@ -266,7 +266,7 @@ fn known_in(s: &Spec, k: usize) -> bool
 fn known_out(s: &Spec, k: usize) -> bool
     ensures { result ≡ known_out s.now k }
 {
-    is_known(s.outs.port(k)) && s.outs.port(k).elements() <= 256
+    is_known(s.outs.port(k)) && s.outs.port(k).elements() <= u128::from(limits::PORT_ELEMENTS)
 }
 
 fn type_not_here(side: i64, k: usize) -> Broken
@@ -408,7 +408,7 @@ impl Spec {
             && firing_ok (at self.now.firing 0) else nat_eq (length self.now.firing) 0) }
     {
         if self.kind.has_delay() {
-            self.firing.len() == 1 && self.firing.at(0) <= 2147483647
+            self.firing.len() == 1 && self.firing.at(0) <= limits::DELAY
         } else {
             self.firing.len() == 0
         }

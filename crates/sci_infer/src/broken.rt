@@ -64,20 +64,6 @@ fn specs_large(specs: &[Spec]) -> Option<(u32, Broken)>
     None
 }
 
-/// How many elements the outputs of a block have.
-fn total(ports: &Ports) -> u64
-    requires few { length ports.now ≤ PORTS }
-    requires small { outs_large 1 ports.now ≡ None }
-    ensures value { result ≡ total ports.now }
-    ensures most { result ≤ 16384 }
-{
-    let mut sum = 0;
-    for at in 0..ports.len() {
-        sum += ports.get(at).elements() as u64;
-    }
-    sum
-}
-
 /// How many elements all outputs have.
 fn all_elements(specs: &[Spec]) -> u64
     requires few { length specs.now ≤ BLOCKS }
@@ -88,7 +74,7 @@ fn all_elements(specs: &[Spec]) -> u64
 {
     let mut sum = 0;
     for spec in specs {
-        sum += total(&spec.outs);
+        sum += u64::from(spec.outs.total());
     }
     sum
 }

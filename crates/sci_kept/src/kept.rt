@@ -1,12 +1,10 @@
 // What a run keeps.
 ghost use Rattle.std.specs.Prelude.{◌≡◌, ℕ, ◌-◌, ◌<◌, ◌≤◌, ◌^◌, ◌∷◌, [], ◌<ℤ◌, pos, length, nat_eq, true, All, Contains, IfOk, OnOk, OnErr};
 ghost use Rattle.std.specs.List.{IsDistinct};
-ghost use Rattle.sci_base.specs.Lists.{at};
 ghost use Rattle.sci_io.specs.Taken.{Writes};
 ghost use Rattle.sci_trace.specs.Lines.{line, text};
 ghost use Rattle.sci_forms.specs.declared.Kind.{Kind};
 ghost use Rattle.sci_forms.specs.Form.{has_delay};
-ghost use Rattle.sci_forms.specs.Ports.{total};
 ghost use Rattle.sci_forms.specs.Typed.{typed};
 ghost use Rattle.sci_net.specs.declared.Source.{Source};
 ghost use Rattle.sci_net.specs.Parts.{IsBlock, spec_of, rows_of};
@@ -319,15 +317,13 @@ impl Kept {
         self.store.held(&self.frame, block)
     }
 
-    /// A value of a block's outputs, the elements of all of them counted from 1.
+    /// The values that the outputs of all blocks hold, by block, port and element.
     #[inline(always)]
-    pub fn value(&self, block: u32, element: u32) -> i64
-        requires block { IsBlock self.now.fixed.net block }
-        requires least { 1 ≤ element }
-        requires most { element ≤ total (spec_of self.now.fixed.net block).outs }
-        ensures { result ≡ at (values_at self.now.fixed.net self.now.store.values block) (element - 1) }
+    pub fn values(&self) -> &[i64]
+        ensures values { result.now ≡ self.now.store.values }
+        ensures whole { IsWhole self.now.fixed.net result.now }
     {
-        self.store.value(&self.frame, block, element)
+        self.store.values()
     }
 
     /// How many values of its column each sensor has taken, by block; 0 for a block that is no sensor.

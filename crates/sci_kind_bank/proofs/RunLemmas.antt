@@ -221,20 +221,13 @@ went_no_further rest c p values new (Values vs) f w e = absurd (e w.0)
 went_no_further rest c p values new NoFit f w e = rw (w.0, w.1) refl
 went_no_further rest c p values new NoQuotient f w e = rw (w.0, w.1) refl
 
--- the first n calls of a run were made, and have left the bank and the values so
-pub record IsRanTo (b : Meaning) (places : List Place) (calls : List Call) (old : List ℤ) (n : ℕ) (now : Meaning) (values : List ℤ) : Type 0 where
-  pub rows : now.rows ≡ b.rows
-  pub outs : now.outs ≡ min (b.outs + n) 18446744073709551615
+-- the first n calls of a run were made, and have left the values so
+pub record IsRanTo (b : Meaning) (places : List Place) (calls : List Call) (old : List ℤ) (n : ℕ) (values : List ℤ) : Type 0 where
   pub ends : run_of b places calls old ≡ after n (run_of b places (drop n calls) values)
   pub typed : (types : List Ty) → AreOfTypes types old → ArePlaced b places types calls → AreOfTypes types values
 
-pub ran_none : (b : Meaning) (places : List Place) (calls : List Call) (old : List ℤ) → b.outs ≤ 18446744073709551615 → IsRanTo b places calls old 0 b old
-ran_none b places calls old h = record {
-  rows = refl;
-  outs = omega (arith, h);
-  ends = sym (after_none (run_of b places calls old));
-  typed = λ types a p. a;
-}
+pub ran_none : (b : Meaning) (places : List Place) (calls : List Call) (old : List ℤ) → IsRanTo b places calls old 0 old
+ran_none b places calls old = record { ends = sym (after_none (run_of b places calls old)); typed = λ types a p. a }
 
 next_call : (b : Meaning) (places : List Place) (calls : List Call) (n : ℕ) (d : Call) (values : List ℤ) → n < length calls
     → run_of b places (drop n calls) values
@@ -242,12 +235,10 @@ next_call : (b : Meaning) (places : List Place) (calls : List Call) (n : ℕ) (d
 next_call b places calls n d values h = rw (add-one, drop-cons calls n d h) refl
 
 -- one more call, whose block has values
-pub ran_more : (b : Meaning) (places : List Place) (calls : List Call) (old : List ℤ) (n : ℕ) (now next : Meaning) (values new : List ℤ) (d : Call) (f : Fate) → AreRows b.kind b.rows → n < length calls
-    → IsRanTo b places calls old n now values → IsWritten (answer_at b places (get_or calls n d) values) (place_in places (get_or calls n d).block).outs.start values new f → f ≡ Fates.Done
-    → next.rows ≡ now.rows → next.outs ≡ counted now.outs → IsRanTo b places calls old (n + 1) next new
-ran_more b places calls old n now next values new d f rows h r w done same more = record {
-  rows = same ∙ r.rows;
-  outs = omega (arith, more, r.outs);
+pub ran_more : (b : Meaning) (places : List Place) (calls : List Call) (old : List ℤ) (n : ℕ) (values new : List ℤ) (d : Call) (f : Fate) → AreRows b.kind b.rows → n < length calls
+    → IsRanTo b places calls old n values → IsWritten (answer_at b places (get_or calls n d) values) (place_in places (get_or calls n d).block).outs.start values new f → f ≡ Fates.Done
+    → IsRanTo b places calls old (n + 1) new
+ran_more b places calls old n values new d f rows h r w done = record {
   ends = r.ends ∙ ap (after n) (next_call b places calls n d values h
       ∙ went_on (run_of b places (drop (n + 1) calls)) (get_or calls n d) (place_in places (get_or calls n d).block) values new (answer_at b places (get_or calls n d) values) f w done)
       ∙ after_later n (run_of b places (drop (n + 1) calls) new);
@@ -255,17 +246,17 @@ ran_more b places calls old n now next values new d f rows h r w done same more 
 }
 
 -- a run that ends at a block without values
-pub ran_stuck : (b : Meaning) (places : List Place) (calls : List Call) (old : List ℤ) (n : ℕ) (now : Meaning) (values new : List ℤ) (d : Call) (f : Fate) → n < length calls
-    → IsRanTo b places calls old n now values → IsWritten (answer_at b places (get_or calls n d) values) (place_in places (get_or calls n d).block).outs.start values new f → (f ≡ Fates.Done → ⊥)
+pub ran_stuck : (b : Meaning) (places : List Place) (calls : List Call) (old : List ℤ) (n : ℕ) (values new : List ℤ) (d : Call) (f : Fate) → n < length calls
+    → IsRanTo b places calls old n values → IsWritten (answer_at b places (get_or calls n d) values) (place_in places (get_or calls n d).block).outs.start values new f → (f ≡ Fates.Done → ⊥)
     → run_of b places calls old ≡ StuckAt new n (get_or calls n d).block f
-ran_stuck b places calls old n now values new d f h r w stuck =
+ran_stuck b places calls old n values new d f h r w stuck =
     r.ends ∙ ap (after n) (next_call b places calls n d values h
     ∙ went_no_further (run_of b places (drop (n + 1) calls)) (get_or calls n d) (place_in places (get_or calls n d).block) values new (answer_at b places (get_or calls n d) values) f w stuck)
     ∙ ap (λ k. StuckAt new k (get_or calls n d).block f) (omega arith)
 
 -- a run that ends behind all calls
-pub ran_all : (b : Meaning) (places : List Place) (calls : List Call) (old : List ℤ) (n : ℕ) (now : Meaning) (values : List ℤ) → length calls ≤ n → IsRanTo b places calls old n now values → run_of b places calls old ≡ Went values
-ran_all b places calls old n now values h r = r.ends ∙ ap (λ cs. after n (run_of b places cs values)) (drop_all n calls h)
+pub ran_all : (b : Meaning) (places : List Place) (calls : List Call) (old : List ℤ) (n : ℕ) (values : List ℤ) → length calls ≤ n → IsRanTo b places calls old n values → run_of b places calls old ≡ Went values
+ran_all b places calls old n values h r = r.ends ∙ ap (λ cs. after n (run_of b places cs values)) (drop_all n calls h)
 
 -- ---- the states that were stepped
 
@@ -335,14 +326,13 @@ found b places types c rows row p long i er ep =
     }
 
 -- what the next call of a run of outputs asks
-pub may_run : (b : Meaning) (places : List Place) (calls : List Call) (old : List ℤ) (n : ℕ) (now : Meaning) (values : List ℤ) (rows : List Instance) (row : Instance) (p : Place) → n < length calls → MayRun b places old calls
-    → IsRanTo b places calls old n now values → rows ≡ now.rows → AreRows b.kind rows → row ≡ get_or rows (get_or calls n no_call).slot row → p ≡ get_or places ((get_or calls n no_call).block - 1) p
+pub may_run : (b : Meaning) (places : List Place) (calls : List Call) (old : List ℤ) (n : ℕ) (values : List ℤ) (rows : List Instance) (row : Instance) (p : Place) → n < length calls → MayRun b places old calls
+    → IsRanTo b places calls old n values → rows ≡ b.rows → AreRows b.kind rows → row ≡ get_or rows (get_or calls n no_call).slot row → p ≡ get_or places ((get_or calls n no_call).block - 1) p
     → IsFound b.rows places (get_or calls n no_call) row p × MayCall b.kind row (get_or calls n no_call).mask p values
-may_run b places calls old n now values rows row p h may r same inv er ep =
+may_run b places calls old n values rows row p h may r whole inv er ep =
     let c = get_or calls n no_call in
     let types = may.0 in
     let i = may.1.1.each n no_call h in
-    let whole : rows ≡ b.rows = same ∙ r.rows in
     let kept = subst (AreRows b.kind) whole inv in
     let f = found b places types c b.rows row p refl i (subst (λ (xs : List Instance). row ≡ get_or xs c.slot row) whole er) ep in
     let typed : IsOfKind b.kind row.spec = subst (λ (x : Instance). IsOfKind b.kind x.spec) (sym f.row_is) (IsOfKind-row b.kind b.rows c.slot kept f.known) in
@@ -398,10 +388,6 @@ same_meaning a b k r o =
     let by_outs : ℕ → Meaning = λ q. record { kind = b.kind; rows = b.rows; outs = q } in
     ap by_kind k ∙ ap by_rows r ∙ ap by_outs o
 
--- the bank behind a run that ends at a block without values
-pub counted_stuck : (b : Meaning) (places : List Place) (calls : List Call) (old : List ℤ) (n : ℕ) (now next : Meaning) (values new : List ℤ) (f : Fate) → n < length calls → IsRanTo b places calls old n now values
-    → IsWritten (answer_at b places (get_or calls n no_call) values) (place_in places (get_or calls n no_call).block).outs.start values new f → (f ≡ Fates.Done → ⊥) → next.kind ≡ b.kind → next.rows ≡ now.rows → next.outs ≡ counted now.outs
-    → next ≡ after_outs b (calls_made (length calls) (run_of b places calls old))
-counted_stuck b places calls old n now next values new f h r w stuck kind same more =
-    let made : next ≡ after_outs b (n + 1) = same_meaning next (after_outs b (n + 1)) kind (same ∙ r.rows) (omega (arith, more, r.outs)) in
-    made ∙ ap (λ q. after_outs b (calls_made (length calls) q)) (sym (ran_stuck b places calls old n now values new no_call f h r w stuck))
+-- the bank behind so many calls more
+pub counted_calls : (b next : Meaning) (n made : ℕ) → next.kind ≡ b.kind → next.rows ≡ b.rows → next.outs ≡ min (b.outs + n) 18446744073709551615 → n ≡ made → next ≡ after_outs b made
+counted_calls b next n made kind rows more e = same_meaning next (after_outs b n) kind rows more ∙ ap (after_outs b) e

@@ -1,11 +1,12 @@
 // A bank over the functions of one kind.
-ghost use Rattle.std.specs.Prelude.{◌≡◌, ℕ, ◌+◌, ◌<◌, true, List, [], ◌∷◌, length, IfOk, OnErr, slice_set};
+ghost use Rattle.std.specs.Prelude.{◌≡◌, ℕ, ◌+◌, ◌<◌, true, List, [], ◌∷◌, length, min, IfOk, OnErr, slice_set};
 ghost use Rattle.sci_span.specs.Values.{gathered, AreWithin, IsLone};
-ghost use Rattle.sci_bank.specs.Runs.{IsWritten};
+ghost use Rattle.sci_base.specs.declared.Ty.{Ty};
+ghost use Rattle.sci_bank.specs.Runs.{IsWritten, run_of, calls_made, EndsRun, AreOfTypes, ArePlaced, MayRun};
 ghost use Rattle.sci_forms.specs.Ports.{total, Fills};
 ghost use Rattle.sci_kinds.specs.Asks.{IsState, IsMask, entering_of};
 ghost use Rattle.sci_kinds.specs.Table.{branch, delay, out, state_len, first_state, next};
-ghost use Rattle.sci_bank.specs.Bank.{Meaning, IsOfKind, Tells, Held, counted, row_in, row_after_update};
+ghost use Rattle.sci_bank.specs.Bank.{Meaning, IsOfKind, Tells, Held, bank_with, counted, row_in, row_after_update};
 
 use crate::rule::Rule;
 use sci_bank::words::Words;
@@ -66,6 +67,52 @@ impl<R: Rule> KindBank<R> {
         ensures outs { self.new.outs ≡ counted self.old.outs }
     {
         self.outs = self.outs.saturating_add(1);
+    }
+
+    // Counts some calls of `out`.
+    #[inline(always)]
+    fn count_calls(&mut self, made: usize)
+        ensures rows { self.new.rows ≡ self.old.rows }
+        ensures outs { self.new.outs ≡ min (self.old.outs + made) 18446744073709551615 }
+    {
+        self.outs = self.outs.saturating_add(made as u64);
+    }
+
+    // Computes blocks one after the other, up to the first that has no values, without a count of them. The answer is how many calls were made, and
+    // this block.
+    #[inline(always)]
+    fn fill_run(
+        &self,
+        calls: &[Call],
+        places: &[Place],
+        values: &mut [i64],
+    ) -> (usize, Option<Stuck>)
+        requires { MayRun (bank_with R.kind self.now) places.now values.old calls.now }
+        ensures made { result.0 ≡ calls_made (length calls.now) (run_of (bank_with R.kind self.now) places.now calls.now values.old) }
+        ensures ended { EndsRun (run_of (bank_with R.kind self.now) places.now calls.now values.old) result.1 values.new }
+        ensures in_range { (types : List Ty) → AreOfTypes types values.old → ArePlaced (bank_with R.kind self.now) places.now types calls.now
+            → AreOfTypes types values.new }
+    {
+        for (at, call) in calls.iter().enumerate() {
+            let row = &self.rows[call.slot];
+            let fate = fill_at(
+                &self.rule,
+                row,
+                call.mask,
+                &places[call.block as usize - 1],
+                values,
+            );
+            if fate != Fate::Done {
+                return (
+                    at + 1,
+                    Some(Stuck {
+                        block: call.block,
+                        fate,
+                    }),
+                );
+            }
+        }
+        (calls.len(), None)
     }
 }
 
@@ -149,7 +196,7 @@ fn advance<R: Rule>(rule: &R, spec: &Words, state: &mut Ints, mask: u64, ins: &E
 }
 
 impl<R: Rule> Bank for KindBank<R> {
-    ghost meaning = { λ b. record { kind = R.kind; rows = b.rows; outs = b.outs } };
+    ghost meaning = { λ b. bank_with R.kind b };
 
     fn kind(&self) -> Kind {
         self.rule.kind()
@@ -190,26 +237,9 @@ impl<R: Rule> Bank for KindBank<R> {
 
     #[inline(never)]
     fn out_run(&mut self, calls: &[Call], places: &[Place], values: &mut [i64]) -> Option<Stuck> {
-        // the count is in its range
-        let _counted = self.outs;
-        for call in calls {
-            let row = &self.rows[call.slot];
-            let fate = fill_at(
-                &self.rule,
-                row,
-                call.mask,
-                &places[call.block as usize - 1],
-                values,
-            );
-            self.count();
-            if fate != Fate::Done {
-                return Some(Stuck {
-                    block: call.block,
-                    fate,
-                });
-            }
-        }
-        None
+        let (made, stuck) = self.fill_run(calls, places, values);
+        self.count_calls(made);
+        stuck
     }
 
     fn branch(&self, slot: usize, ins: &[i64]) -> u32 {

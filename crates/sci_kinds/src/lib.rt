@@ -2,8 +2,12 @@
 //! that the table keeps. With it come the kinds' forms and specs.
 #![tactic(auto)]
 
+ghost use Rattle.std.specs.Prelude.{◌≡◌};
+ghost use Rattle.sci_kinds.specs.Table.{mode_of};
 ghost use Rattle.sci_kinds.specs.Laws.{FreeInputLaw, FedInputsLaw, LaidInputsLaw, RangeLaw, FirstHeldLaw, DelayLaw, BranchLaw};
 
+use sci_base::Mode;
+use sci_forms::values::is_equal;
 pub use sci_forms::{Broken, Counts, Detail, Kind, Port, Ports, Role, Spec};
 
 /// What one element of an output is.
@@ -15,6 +19,19 @@ pub enum Cell {
     Overflow,
     /// The divisor is 0.
     Zero,
+}
+
+/// How a result that the type doesn't hold is met, by a code: 0 wraps, 1 saturates, and 2, as any other, stops.
+pub fn mode_of(code: i64) -> Mode
+    ensures { result ≡ mode_of code }
+{
+    if is_equal(code, 0) {
+        Mode::Wrap
+    } else if is_equal(code, 1) {
+        Mode::Saturate
+    } else {
+        Mode::Stop
+    }
 }
 
 /// Where an input of a typed spec has no feedthrough, the outputs and the branch are the same for all values of this input.

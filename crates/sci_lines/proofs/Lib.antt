@@ -1,3 +1,4 @@
 pub mod Paging
 pub mod Digits
 pub mod Threes
+pub mod Signs

@@ -1,7 +1,7 @@
 // Numbers in digits, three digits at once.
 ghost use Rattle.std.specs.Prelude.{◌≡◌, ◌+◌, ◌<◌, ◌≤◌, ◌++◌, codes, length, take};
 ghost use Rattle.std.specs.Fmt.{decimal, signed_decimal};
-ghost use Rattle.sci_lines.specs.Threes.{spelled};
+ghost use Rattle.sci_lines.specs.Threes.{spelled, AreThrees};
 
 use crate::pieces::{array_at, byte_at, digits_at};
 use sci_base::NoMemory;
@@ -22,7 +22,7 @@ const TRILLION: u64 = 1_000_000_000_000;
 
 /// A number below 1,000 in digits.
 #[derive(Drop)]
-struct ThreeDigits {
+pub struct ThreeDigits {
     // its digits, and then anything
     short: [u8; 4],
     len: u8,
@@ -118,67 +118,81 @@ impl DigitTable {
         Ok(DigitTable { numbers })
     }
 
-    // Those of a number below 1,000.
+    /// The digits of all numbers below 1,000, in their order.
     #[inline(always)]
-    fn number(&self, n: u64) -> &ThreeDigits
-        requires { n < 1000 }
-        ensures { result.now ≡ spelled n }
+    pub fn numbers(&self) -> &[ThreeDigits]
+        ensures { AreThrees result.now }
     {
-        &self.numbers[n as usize]
+        &self.numbers
     }
+}
 
-    /// Puts the digits of a number, at most 20, behind what stands before them. The answer is where they end.
-    #[inline(always)]
-    pub fn digits_at(&self, text: &mut [u8], at: usize, n: u64) -> usize
-        requires { at + 20 ≤ length text.old }
-        ensures text { take result text.new ≡ take at text.old ++ decimal n }
-        ensures start { at ≤ result }
-        ensures end { result ≤ at + 20 }
-    {
-        if n < THOUSAND {
-            return self.number(n).short_at(text, at);
-        }
-        if n < MILLION {
-            let second = self.number(n / THOUSAND).short_at(text, at);
-            return self.number(n % THOUSAND).whole_at(text, second);
-        }
-        if n < BILLION {
-            let second = self.number(n / MILLION).short_at(text, at);
-            let third = self.number(n / THOUSAND % THOUSAND).whole_at(text, second);
-            return self.number(n % THOUSAND).whole_at(text, third);
-        }
-        if n < TRILLION {
-            let second = self.number(n / BILLION).short_at(text, at);
-            let third = self.number(n / MILLION % THOUSAND).whole_at(text, second);
-            let fourth = self.number(n / THOUSAND % THOUSAND).whole_at(text, third);
-            return self.number(n % THOUSAND).whole_at(text, fourth);
-        }
-        digits_at(text, at, n)
-    }
+// The calls below take the digits of all numbers below 1,000 as a slice, so that they stay at hand where several numbers are spelled.
 
-    /// Puts a number with its sign, at most 21 bytes, behind what stands before it. The answer is where it ends.
-    #[inline(always)]
-    pub fn number_at(&self, text: &mut [u8], at: usize, n: i64) -> usize
-        requires { at + 21 ≤ length text.old }
-        ensures text { take result text.new ≡ take at text.old ++ signed_decimal n }
-        ensures start { at ≤ result }
-        ensures end { result ≤ at + 21 }
-    {
-        // the sign is put in any case, and stays where there is one: which numbers have one can't be foreseen
-        let behind = byte_at(text, at, b'-');
-        let first = if n < 0 { behind } else { at };
-        self.digits_at(text, first, n.unsigned_abs())
-    }
+/// Those of a number below 1,000.
+#[inline(always)]
+fn number(numbers: &[ThreeDigits], n: u64) -> &ThreeDigits
+    requires numbers { AreThrees numbers.now }
+    requires small { n < 1000 }
+    ensures { result.now ≡ spelled n }
+{
+    &numbers[n as usize]
+}
 
-    /// Puts a space, and a number behind it: at most 22 bytes.
-    #[inline(always)]
-    pub fn spaced_at(&self, text: &mut [u8], at: usize, n: i64) -> usize
-        requires { at + 22 ≤ length text.old }
-        ensures text { take result text.new ≡ take at text.old ++ (codes " " ++ signed_decimal n) }
-        ensures start { at ≤ result }
-        ensures end { result ≤ at + 22 }
-    {
-        let first = byte_at(text, at, b' ');
-        self.number_at(text, first, n)
+/// Puts the digits of a number, at most 20, behind what stands before them. The answer is where they end.
+#[inline(always)]
+pub fn natural_at(numbers: &[ThreeDigits], text: &mut [u8], at: usize, n: u64) -> usize
+    requires numbers { AreThrees numbers.now }
+    requires room { at + 20 ≤ length text.old }
+    ensures text { take result text.new ≡ take at text.old ++ decimal n }
+    ensures start { at ≤ result }
+    ensures end { result ≤ at + 20 }
+{
+    if n < THOUSAND {
+        return number(numbers, n).short_at(text, at);
     }
+    if n < MILLION {
+        let second = number(numbers, n / THOUSAND).short_at(text, at);
+        return number(numbers, n % THOUSAND).whole_at(text, second);
+    }
+    if n < BILLION {
+        let second = number(numbers, n / MILLION).short_at(text, at);
+        let third = number(numbers, n / THOUSAND % THOUSAND).whole_at(text, second);
+        return number(numbers, n % THOUSAND).whole_at(text, third);
+    }
+    if n < TRILLION {
+        let second = number(numbers, n / BILLION).short_at(text, at);
+        let third = number(numbers, n / MILLION % THOUSAND).whole_at(text, second);
+        let fourth = number(numbers, n / THOUSAND % THOUSAND).whole_at(text, third);
+        return number(numbers, n % THOUSAND).whole_at(text, fourth);
+    }
+    digits_at(text, at, n)
+}
+
+/// Puts a number with its sign, at most 21 bytes, behind what stands before it. The answer is where it ends.
+#[inline(always)]
+pub fn integer_at(numbers: &[ThreeDigits], text: &mut [u8], at: usize, n: i64) -> usize
+    requires numbers { AreThrees numbers.now }
+    requires room { at + 21 ≤ length text.old }
+    ensures text { take result text.new ≡ take at text.old ++ signed_decimal n }
+    ensures start { at ≤ result }
+    ensures end { result ≤ at + 21 }
+{
+    // the sign is put in any case, and stays where there is one: which numbers have one can't be foreseen
+    let behind = byte_at(text, at, b'-');
+    let first = if n < 0 { behind } else { at };
+    natural_at(numbers, text, first, n.unsigned_abs())
+}
+
+/// Puts a space, and a number behind it: at most 22 bytes.
+#[inline(always)]
+pub fn spaced_at(numbers: &[ThreeDigits], text: &mut [u8], at: usize, n: i64) -> usize
+    requires numbers { AreThrees numbers.now }
+    requires room { at + 22 ≤ length text.old }
+    ensures text { take result text.new ≡ take at text.old ++ (codes " " ++ signed_decimal n) }
+    ensures start { at ≤ result }
+    ensures end { result ≤ at + 22 }
+{
+    let first = byte_at(text, at, b' ');
+    integer_at(numbers, text, first, n)
 }

@@ -1,12 +1,13 @@
 // Lines of a reaction that wait before a sink: that of its start or event, and those of its values.
-ghost use Rattle.std.specs.Prelude.{◌≡◌, ◌+◌, ◌≤◌, ◌++◌, [], codes, length, take, IfOk, OnErr};
+ghost use Rattle.std.specs.Prelude.{◌≡◌, ◌+◌, ◌*◌, ◌<◌, ◌^◌, ◌≤◌, ◌++◌, [], codes, length, take, IfOk, OnErr};
 ghost use Rattle.sci_io.specs.Taken.{Writes};
 ghost use Rattle.sci_trace.specs.Lines.{line};
 ghost use Rattle.sci_base.specs.declared.observation.Obs.TheVariants.{Start, Event};
 ghost use Rattle.sci_lines.specs.Lines.{value_line, value_lines, IsHeader};
+ghost use Rattle.sci_lines.specs.Threes.{AreThrees};
 ghost use Rattle.sci_lines.specs.Paged.{paged, IsKeptBack, WaitsWithin};
 
-use crate::digit_table::DigitTable;
+use crate::digit_table::{DigitTable, ThreeDigits, integer_at, spaced_at};
 use crate::head::Head;
 use crate::pieces::byte_at;
 use sci_base::{NoMemory, Obs};
@@ -17,7 +18,10 @@ use std::marker::Model;
 /// How many bytes there is room for.
 const ROOM: usize = 4096;
 
-/// Up to so many bytes there is room for the line of one value more: its head of 24 bytes, a number of 21 and the end of the line.
+/// The most bytes of the line of a value: its head of 24 bytes, a number of 21 and the end of the line.
+const LONGEST_LINE: usize = 46;
+
+/// Up to so many bytes there is room for the line of one value more.
 const ONE_MORE: usize = 4050;
 
 /// The line of the start of a run.
@@ -41,16 +45,53 @@ fn event_word(text: &mut [u8]) -> usize
 }
 
 /// The line of an event.
-fn event_line(digits: &DigitTable, text: &mut [u8], date: i64, block: i64, port: i64) -> usize
-    requires { 72 ≤ length text.old }
+fn event_line(numbers: &[ThreeDigits], text: &mut [u8], date: i64, block: i64, port: i64) -> usize
+    requires numbers { AreThrees numbers.now }
+    requires room { 72 ≤ length text.old }
     ensures text { take result text.new ≡ line (Event date block port) }
     ensures end { result ≤ 72 }
 {
     let at = event_word(text);
-    let at = digits.spaced_at(text, at, date);
-    let at = digits.spaced_at(text, at, block);
-    let at = digits.spaced_at(text, at, port);
+    let at = spaced_at(numbers, text, at, date);
+    let at = spaced_at(numbers, text, at, block);
+    let at = spaced_at(numbers, text, at, port);
     byte_at(text, at, b'\n')
+}
+
+/// The line of a value, at most 46 bytes, behind what stands before it.
+#[inline(always)]
+fn line_at(numbers: &[ThreeDigits], text: &mut [u8], at: usize, head: &Head, value: i64) -> usize
+    requires numbers { AreThrees numbers.now }
+    requires room { at + 46 ≤ length text.old }
+    ensures text { take result text.new ≡ take at text.old ++ value_line head.now value }
+    ensures end { result ≤ at + 46 }
+{
+    let at = head.put_at(text, at);
+    let at = integer_at(numbers, text, at, value);
+    byte_at(text, at, b'\n')
+}
+
+/// The lines of values behind what stands before them.
+#[inline(always)]
+fn lines_at(
+    numbers: &[ThreeDigits],
+    text: &mut [u8],
+    start: usize,
+    heads: &[Head],
+    values: &[i64],
+) -> usize
+    requires numbers { AreThrees numbers.now }
+    requires one_each { length heads.now ≡ length values.now }
+    requires room { start + 46 * length values.now ≤ length text.old }
+    requires small { length text.old < 2 ^ 63 }
+    ensures text { take result text.new ≡ take start text.old ++ value_lines heads.now values.now }
+    ensures end { result ≤ start + 46 * length values.now }
+{
+    let mut end = start;
+    for at in 0..values.len() {
+        end = line_at(numbers, text, end, &heads[at], values[at]);
+    }
+    end
 }
 
 /// Lines of a reaction that wait before a sink: that of its start or event, and those of its values.
@@ -93,7 +134,7 @@ impl Lines {
         self.len = match *o {
             Obs::Start => start_line(&mut self.text),
             Obs::Event(date, block, port) => event_line(
-                &self.digits,
+                self.digits.numbers(),
                 &mut self.text,
                 date,
                 block,
@@ -122,9 +163,23 @@ impl Lines {
         requires { length self.old ≤ 4050 }
         ensures { self.new ≡ self.old ++ (value_line head.now value) }
     {
-        let at = head.put_at(&mut self.text, self.len);
-        let at = self.digits.number_at(&mut self.text, at, value);
-        self.len = byte_at(&mut self.text, at, b'\n');
+        self.len = line_at(self.digits.numbers(), &mut self.text, self.len, head, value);
+    }
+
+    // Adds lines, for which there is room.
+    #[inline(always)]
+    fn add_all(&mut self, heads: &[Head], values: &[i64])
+        requires one_each { length heads.now ≡ length values.now }
+        requires room { length self.old + 46 * length values.now ≤ 4096 }
+        ensures { self.new ≡ self.old ++ value_lines heads.now values.now }
+    {
+        self.len = lines_at(
+            self.digits.numbers(),
+            &mut self.text,
+            self.len,
+            heads,
+            values,
+        );
     }
 
     // Writes the line of a value behind its start; where there is no room for it, what waits is given to the sink first.
@@ -138,6 +193,25 @@ impl Lines {
             self.give(out)?;
         }
         self.add(head, value);
+        Ok(())
+    }
+
+    // Writes the lines of values, each behind its start; where there is no room for one, what waits is given to the sink first.
+    #[inline(never)]
+    fn put_each<S: Sink>(
+        &mut self,
+        heads: &[Head],
+        values: &[i64],
+        out: &mut S,
+    ) -> Result<(), Failed>
+        requires { length heads.now ≡ length values.now }
+        ensures written { Writes (paged (S.state out.old) self.old) (paged (S.state out.new) self.new) (value_lines heads.now values.now) result }
+        ensures emptied { OnErr result (self.new ≡ []) }
+        ensures waits { WaitsWithin 4050 (S.state out.old) (S.state out.new) self.old self.new (value_lines heads.now values.now) result }
+    {
+        for at in 0..values.len() {
+            self.put(&heads[at], values[at], out)?;
+        }
         Ok(())
     }
 
@@ -155,9 +229,10 @@ impl Lines {
         ensures emptied { OnErr result (self.new ≡ []) }
         ensures waits { WaitsWithin 4050 (S.state out.old) (S.state out.new) self.old self.new (value_lines heads.now values.now) result }
     {
-        for at in 0..values.len() {
-            self.put(&heads[at], values[at], out)?;
+        if values.len() <= (ROOM - self.len) / LONGEST_LINE {
+            self.add_all(heads, values);
+            return Ok(());
         }
-        Ok(())
+        self.put_each(heads, values, out)
     }
 }

@@ -1,5 +1,5 @@
 -- What a bulk diagram comes to.
-use Rattle.std.proofs.Common.{◌≡◌, ◌<◌, ◌≤◌, ◌^◌, min, ℕ, zero, suc, ℤ, List, [], length, Contains, refl, sym, ◌∙◌, ap, subst, arith, Result, Ok, Err, false}
+use Rattle.std.proofs.Common.{◌≡◌, ◌<◌, ◌≤◌, ◌^◌, min, ℕ, zero, suc, ℤ, List, [], length, Contains, refl, sym, ◌∙◌, subst, arith, Result, Ok, Err, false}
 use Rattle.std.specs.Prelude.{IfOk, None}
 use Rattle.sci_base.specs.Plain.{Violation, violation_of}
 use Rattle.sci_base.specs.declared.stop.Stop.{Stop}

@@ -4,7 +4,7 @@ use Rattle.sci_io.specs.Files.{FolderState}
 use Rattle.sci_sched.specs.Plain.{rows_of}
 use Rattle.c_ast.specs.Syntax.{Whole}
 use Rattle.c_ast.specs.Spelling.{spelling}
-use Rattle.sci_cgen.specs.Program.{program}
+use Rattle.sci_program.specs.Program.{program}
 use Rattle.sci_verdict.specs.Verdict.{Plan, Accepts, Breaks, plan_of}
 use Rattle.sci_verdict.specs.declared.checked.Checked.{Checked}
 use Rattle.sci_verdict.proofs.Verdicts.{given_is_net}

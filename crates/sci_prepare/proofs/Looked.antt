@@ -9,7 +9,7 @@ use Rattle.sci_answers.specs.Host.{host_text}
 use Rattle.sci_answers.specs.Counts.{CountsRunOf}
 use Rattle.sci_answers.specs.Coming.{ReachesTo, Reaches, ReachesCounting, ReachesCounted}
 use Rattle.sci_answers.specs.Prepared.{IsAnswerOf, IsPrepared, MayLack}
-use Rattle.sci_prepare.specs.Prepare.{LooksLeave, LooksAt}
+use Rattle.sci_prepare.specs.Prepare.{LooksLeave, LooksAt, LooksWithoutBanks}
 use Rattle.sci_files.specs.Look.{stop_answer}
 use Rattle.sci_files.specs.declared.look.LookStop.{LookStop}
 use Rattle.sci_files.specs.declared.look.LookStop.TheVariants.{Refused, Fault, Memory}
@@ -32,10 +32,25 @@ stopped_looks old new banks c s e is h =
       lacks = λ x. absurd x;
     })
 
+-- the same of one that asks no bank
+pub stopped_without : (old new : FolderState) (c : Request) (s : Result Prepared LookStop) (e : LookStop) → s ≡ Err e → ReachesTo old new (course_of c) (stop_answer e) → LooksWithoutBanks old new c s
+stopped_without old new c s e is h = record { each = λ banks. stopped_looks old new banks c s e is h }
+
 -- a command that has no run to count
 pub without_run : (old new : FolderState) (c : Request) (a : Answer) (Left : List Meaning → Type 0) → ((bytes : List (List ℕ)) (banks : List Meaning) → CountsRunOf c bytes banks) → ReachesTo old new (course_of c) a
     → ReachesCounting old new c a Left
 without_run old new c a Left none h = (h.0, h.1, λ banks done left. none h.0 banks)
+
+-- one that asks no bank, whose files pass, and for which memory can't lack when it begins
+pub passed_without : (old new : FolderState) (c : Request) (p : Prepared) → ((bytes : List (List ℕ)) (banks : List Meaning) → CountsRunOf c bytes banks)
+    → ((a : Answer) → IsAnswerOf p a → ReachesTo old new (course_of c) a) → ((banks : List Meaning) → IsPrepared banks p) → (MayLack p → ⊥) → LooksWithoutBanks old new c (Ok p)
+passed_without old new c p none reaches prepared never = record {
+  each = λ banks. record {
+    reaches = λ a is. without_run old new c a (LooksLeave (Ok p) banks) none (reaches a is);
+    prepared = prepared banks;
+    lacks = λ may. absurd (never may);
+  };
+}
 
 -- a whole command
 pub spelled_reaches : (words : List (List ℕ)) (old new : FolderState) (c : Request) (a : Answer) → Spells words c → ReachesTo old new (course_of c) a → Reaches words old new a

@@ -1,5 +1,5 @@
 -- What a simulation comes to, of which a trace or a dump is due, and that its net can run.
-use Rattle.std.proofs.Common.{◌≡◌, ◌≤◌, ◌^◌, ℕ, ℤ, List, [], ◌∷◌, sym, subst}
+use Rattle.std.proofs.Common.{◌≡◌, ◌≤◌, ◌^◌, ℕ, List, [], ◌∷◌, sym, subst}
 use Rattle.sci_base.specs.declared.observation.Obs.{Obs}
 use Rattle.sci_io.specs.Files.{FolderState}
 use Rattle.sci_net.specs.Parts.{Parts}

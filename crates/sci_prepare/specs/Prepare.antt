@@ -35,3 +35,7 @@ pub record LooksAt (old new : FolderState) (banks : List Meaning) (c : Request) 
   pub reaches : (a : Answer) → IsLookedAnswer result a → ReachesCounting old new c a (LooksLeave result banks)
   pub prepared : IsLookedAt banks result
   pub lacks : LooksMayLack result → ReachesTo old new (course_of c) no_memory
+
+-- The same whatever the banks are, of a command for which no bank is asked.
+pub record LooksWithoutBanks (old new : FolderState) (c : Request) (result : Result Prepared LookStop) : Type 0 where
+  pub each : (banks : List Meaning) → LooksAt old new banks c result

@@ -4,14 +4,13 @@ ghost use Rattle.sci_base.specs.declared.limits.TheConstants.{TICKS, EVENTS};
 ghost use Rattle.sci_bank.specs.Bank.{Meaning};
 ghost use Rattle.sci_bank.specs.Library.{IsFull};
 ghost use Rattle.sci_io.specs.Files.{FolderState};
-ghost use Rattle.sci_words.specs.Words.{report as tell, simulate, judge, save, resume, code, run_c, bulk, dump, dump_at, InBounds};
-ghost use Rattle.sci_words.specs.Parsed.{asked_by};
+ghost use Rattle.sci_words.specs.Words.{report as tell, simulate, judge, save, resume, code, run_c, bulk, dump, dump_at, InBounds, asked_by};
 ghost use Rattle.sci_answers.specs.Coming.{Reaches, ReachesCounted};
 ghost use Rattle.sci_answers.specs.Answer.{Answer, no_memory};
 ghost use Rattle.sci_files.specs.Look.{IsRefusal, stop_answer};
 ghost use Rattle.sci_answers.specs.Save.{run_ended};
 ghost use Rattle.sci_answers.specs.Prepared.{IsAnswerOf, IsPrepared, LeavesBanks, MayLack};
-ghost use Rattle.sci_prepare.specs.Prepare.{LooksAt};
+ghost use Rattle.sci_prepare.specs.Prepare.{LooksAt, LooksWithoutBanks};
 ghost use Rattle.sci_prepare.specs.Defined.{LooksAtCode, LooksDefined, PreparesDefined};
 
 use crate::bulk::count_bulk;
@@ -31,7 +30,7 @@ use sci_judge::judge_trace;
 use sci_resume::{Reached, run_to};
 use sci_sim::Ready;
 use sci_vcd::VcdOut;
-use sci_words::command::{Command, Report};
+use sci_words::command::{Command, Report, RunWords};
 use sci_words::words::parse;
 use std::alloc::Global;
 
@@ -41,7 +40,7 @@ fn for_report<F: Folder>(
     report: Report,
     file: &str,
 ) -> Result<Prepared, LookStop>
-    ensures looks { (banks : List Meaning) → LooksAt (F.state folder.old) (F.state folder.new) banks (tell report file.now) result }
+    ensures looks { LooksWithoutBanks (F.state folder.old) (F.state folder.new) (tell report file.now) result }
     ensures kept { (F.state folder.new).files ≡ (F.state folder.old).files }
 {
     let told = look(alloc, folder, file, 1, &DiagramRules { report })?;
@@ -51,50 +50,54 @@ fn for_report<F: Folder>(
 fn for_simulate<F: Folder, B: Bank>(
     alloc: Global,
     folder: &mut F,
-    file: &str,
-    inputs_file: &str,
-    until: u64,
-    limit: u64,
+    run: RunWords<'_>,
     lib: &mut Library<B>,
 ) -> Result<Prepared, LookStop>
-    requires until { until ≤ TICKS }
-    requires limit { limit ≤ EVENTS }
+    requires until { run.until ≤ TICKS }
+    requires limit { run.limit ≤ EVENTS }
     requires full { IsFull lib.old }
-    ensures looks { LooksAt (F.state folder.old) (F.state folder.new) lib.new (simulate file.now inputs_file.now until limit) result }
+    ensures looks { LooksAt (F.state folder.old) (F.state folder.new) lib.new
+        (simulate run.entry.file.now run.entry.inputs_file.now run.entry.until run.entry.limit) result }
     ensures kept { (F.state folder.new).files ≡ (F.state folder.old).files }
     ensures full { IsFull lib.new }
 {
-    let files = look_at_run(alloc, folder, file, inputs_file)?;
+    let files = look_at_run(alloc, folder, run.file, run.inputs_file)?;
     let ready = Ready::new(alloc, files.checked.net, files.checked.schedule, lib)?;
     Ok(Prepared::Simulate(Simulation {
         ready,
         inputs: files.inputs,
-        until,
-        limit,
+        until: run.until,
+        limit: run.limit,
     }))
 }
 
 fn for_judge<F: Folder, B: Bank>(
     alloc: Global,
     folder: &mut F,
-    file: &str,
-    inputs_file: &str,
+    run: RunWords<'_>,
     trace_file: &str,
-    until: u64,
-    limit: u64,
     lib: &mut Library<B>,
 ) -> Result<Prepared, LookStop>
-    requires until { until ≤ TICKS }
-    requires limit { limit ≤ EVENTS }
+    requires until { run.until ≤ TICKS }
+    requires limit { run.limit ≤ EVENTS }
     requires full { IsFull lib.old }
-    ensures looks { LooksAt (F.state folder.old) (F.state folder.new) lib.new (judge file.now inputs_file.now trace_file.now until limit) result }
+    ensures looks { LooksAt (F.state folder.old) (F.state folder.new) lib.new
+        (judge run.entry.file.now run.entry.inputs_file.now trace_file.now run.entry.until run.entry.limit) result }
     ensures kept { (F.state folder.new).files ≡ (F.state folder.old).files }
     ensures full { IsFull lib.new }
 {
-    let files = look_at_run(alloc, folder, file, inputs_file)?;
+    let files = look_at_run(alloc, folder, run.file, run.inputs_file)?;
     let trace = look_text(alloc, folder, trace_file)?;
     let RunFiles { checked, inputs } = files;
-    let verdict = judge_trace(alloc, checked.net, lib, &inputs, until, limit, &trace)?;
+    let verdict = judge_trace(
+        alloc,
+        checked.net,
+        lib,
+        &inputs,
+        run.until,
+        run.limit,
+        &trace,
+    )?;
     Ok(Prepared::Judge(verdict))
 }
 
@@ -110,26 +113,26 @@ fn ended_by(alloc: Global, reaction: u64, count: u64) -> LookStop
 fn for_save<F: Folder, B: Bank>(
     alloc: Global,
     folder: &mut F,
-    file: &str,
-    inputs_file: &str,
-    until: u64,
-    limit: u64,
+    run: RunWords<'_>,
     reaction: u64,
     lib: &mut Library<B>,
 ) -> Result<Prepared, LookStop>
-    requires until { until ≤ TICKS }
-    requires limit { limit ≤ EVENTS }
+    requires until { run.until ≤ TICKS }
+    requires limit { run.limit ≤ EVENTS }
     requires least { 1 ≤ reaction }
     requires most { reaction ≤ EVENTS + 1 }
     requires full { IsFull lib.old }
-    ensures looks { LooksAt (F.state folder.old) (F.state folder.new) lib.new (save file.now inputs_file.now until limit reaction) result }
+    ensures looks { LooksAt (F.state folder.old) (F.state folder.new) lib.new
+        (save run.entry.file.now run.entry.inputs_file.now run.entry.until run.entry.limit reaction) result }
     ensures kept { (F.state folder.new).files ≡ (F.state folder.old).files }
     ensures full { IsFull lib.new }
 {
-    let files = look_at_run(alloc, folder, file, inputs_file)?;
+    let files = look_at_run(alloc, folder, run.file, run.inputs_file)?;
     let RunFiles { checked, inputs } = files;
     let mut ready = Ready::new(alloc, checked.net, checked.schedule, lib)?;
-    match run_to(alloc, &mut ready, lib, &inputs, until, limit, reaction) {
+    match run_to(
+        alloc, &mut ready, lib, &inputs, run.until, run.limit, reaction,
+    ) {
         Ok(Reached::Saved(image)) => Ok(Prepared::Save(SavedRun { ready, image })),
         Ok(Reached::Ended(count)) => Err(ended_by(alloc, reaction, count)),
         Err(NoMemory) => Err(LookStop::Memory),
@@ -139,21 +142,19 @@ fn for_save<F: Folder, B: Bank>(
 fn for_resume<F: Folder, B: Bank>(
     alloc: Global,
     folder: &mut F,
-    file: &str,
-    inputs_file: &str,
+    run: RunWords<'_>,
     saved_file: &str,
-    until: u64,
-    limit: u64,
     lib: &mut Library<B>,
 ) -> Result<Prepared, LookStop>
-    requires until { until ≤ TICKS }
-    requires limit { limit ≤ EVENTS }
+    requires until { run.until ≤ TICKS }
+    requires limit { run.limit ≤ EVENTS }
     requires full { IsFull lib.old }
-    ensures looks { LooksAt (F.state folder.old) (F.state folder.new) lib.new (resume file.now inputs_file.now saved_file.now until limit) result }
+    ensures looks { LooksAt (F.state folder.old) (F.state folder.new) lib.new
+        (resume run.entry.file.now run.entry.inputs_file.now saved_file.now run.entry.until run.entry.limit) result }
     ensures kept { (F.state folder.new).files ≡ (F.state folder.old).files }
     ensures full { IsFull lib.new }
 {
-    let files = look_at_run(alloc, folder, file, inputs_file)?;
+    let files = look_at_run(alloc, folder, run.file, run.inputs_file)?;
     let RunFiles { checked, inputs } = files;
     let rules = SavedRules {
         net: checked.net,
@@ -162,17 +163,20 @@ fn for_resume<F: Folder, B: Bank>(
     let image = look(alloc, folder, saved_file, 3, &rules)?;
     let SavedRules { net, inputs } = rules;
     let ready = Ready::restore(alloc, net, checked.schedule, lib, &image)?;
-    let run = Simulation {
+    let simulation = Simulation {
         ready,
         inputs,
-        until,
-        limit,
+        until: run.until,
+        limit: run.limit,
     };
-    Ok(Prepared::Resume(ResumedRun { image, run }))
+    Ok(Prepared::Resume(ResumedRun {
+        image,
+        run: simulation,
+    }))
 }
 
 fn for_code<F: Folder>(alloc: Global, folder: &mut F, file: &str) -> Result<Prepared, LookStop>
-    ensures looks { (banks : List Meaning) → LooksAt (F.state folder.old) (F.state folder.new) banks (code file.now) result }
+    ensures looks { LooksWithoutBanks (F.state folder.old) (F.state folder.new) (code file.now) result }
     ensures coded { LooksAtCode (F.state folder.old) (F.state folder.new) file.now result }
     ensures kept { (F.state folder.new).files ≡ (F.state folder.old).files }
 {
@@ -203,48 +207,44 @@ fn for_bulk<B: Bank>(
 fn for_run_c<F: Folder>(
     alloc: Global,
     folder: &mut F,
-    file: &str,
-    inputs_file: &str,
-    until: u64,
-    limit: u64,
+    run: RunWords<'_>,
 ) -> Result<Prepared, LookStop>
-    requires until { until ≤ TICKS }
-    requires limit { limit ≤ EVENTS }
-    ensures looks { (banks : List Meaning) → LooksAt (F.state folder.old) (F.state folder.new) banks (run_c file.now inputs_file.now until limit) result }
+    requires until { run.until ≤ TICKS }
+    requires limit { run.limit ≤ EVENTS }
+    ensures looks { LooksWithoutBanks (F.state folder.old) (F.state folder.new)
+        (run_c run.entry.file.now run.entry.inputs_file.now run.entry.until run.entry.limit) result }
     ensures kept { (F.state folder.new).files ≡ (F.state folder.old).files }
 {
-    let program = look(alloc, folder, file, 1, &CRules)?;
+    let program = look(alloc, folder, run.file, 1, &CRules)?;
     let rules = ColumnRules {
         needs: Vec::new(alloc),
     };
-    let inputs = look(alloc, folder, inputs_file, 2, &rules)?;
-    Ok(Prepared::RunC(program, inputs, until, limit))
+    let inputs = look(alloc, folder, run.inputs_file, 2, &rules)?;
+    Ok(Prepared::RunC(program, inputs, run.until, run.limit))
 }
 
 fn for_dump<F: Folder, B: Bank>(
     alloc: Global,
     folder: &mut F,
-    file: &str,
-    inputs_file: &str,
-    until: u64,
-    limit: u64,
+    run: RunWords<'_>,
     lib: &mut Library<B>,
 ) -> Result<Prepared, LookStop>
-    requires until { until ≤ TICKS }
-    requires limit { limit ≤ EVENTS }
+    requires until { run.until ≤ TICKS }
+    requires limit { run.limit ≤ EVENTS }
     requires full { IsFull lib.old }
-    ensures looks { LooksAt (F.state folder.old) (F.state folder.new) lib.new (dump file.now inputs_file.now until limit) result }
+    ensures looks { LooksAt (F.state folder.old) (F.state folder.new) lib.new
+        (dump run.entry.file.now run.entry.inputs_file.now run.entry.until run.entry.limit) result }
     ensures kept { (F.state folder.new).files ≡ (F.state folder.old).files }
     ensures full { IsFull lib.new }
 {
-    let files = look_at_run(alloc, folder, file, inputs_file)?;
+    let files = look_at_run(alloc, folder, run.file, run.inputs_file)?;
     let dump = VcdOut::new(alloc, &files.checked.net)?;
     let ready = Ready::new(alloc, files.checked.net, files.checked.schedule, lib)?;
     let simulation = Simulation {
         ready,
         inputs: files.inputs,
-        until,
-        limit,
+        until: run.until,
+        limit: run.limit,
     };
     Ok(Prepared::Dump(simulation, dump))
 }
@@ -255,7 +255,7 @@ fn for_dump_at<F: Folder>(
     file: &str,
     tick: u64,
 ) -> Result<Prepared, LookStop>
-    ensures looks { (banks : List Meaning) → LooksAt (F.state folder.old) (F.state folder.new) banks (dump_at file.now tick) result }
+    ensures looks { LooksWithoutBanks (F.state folder.old) (F.state folder.new) (dump_at file.now tick) result }
     ensures kept { (F.state folder.new).files ≡ (F.state folder.old).files }
 {
     let dump = look(alloc, folder, file, 1, &DumpRules)?;
@@ -281,51 +281,12 @@ fn for_command<F: Folder, B: Bank>(
         Command::Host => Ok(Prepared::Print(host())),
         Command::Code(file) => for_code(alloc, folder, file),
         Command::Bulk(seed, size) => for_bulk(alloc, seed, size, lib),
-        Command::Simulate(file, inputs_file, until, limit) => {
-            for_simulate(alloc, folder, file, inputs_file, until, limit, lib)
-        }
-        Command::Judge(file, inputs_file, trace_file, until, limit) => {
-            for_judge(
-                alloc,
-                folder,
-                file,
-                inputs_file,
-                trace_file,
-                until,
-                limit,
-                lib,
-            )
-        }
-        Command::Save(file, inputs_file, until, limit, reaction) => {
-            for_save(
-                alloc,
-                folder,
-                file,
-                inputs_file,
-                until,
-                limit,
-                reaction,
-                lib,
-            )
-        }
-        Command::Resume(file, inputs_file, saved_file, until, limit) => {
-            for_resume(
-                alloc,
-                folder,
-                file,
-                inputs_file,
-                saved_file,
-                until,
-                limit,
-                lib,
-            )
-        }
-        Command::RunC(file, inputs_file, until, limit) => {
-            for_run_c(alloc, folder, file, inputs_file, until, limit)
-        }
-        Command::Dump(file, inputs_file, until, limit) => {
-            for_dump(alloc, folder, file, inputs_file, until, limit, lib)
-        }
+        Command::Simulate(run) => for_simulate(alloc, folder, run, lib),
+        Command::Judge(run, trace_file) => for_judge(alloc, folder, run, trace_file, lib),
+        Command::Save(run, reaction) => for_save(alloc, folder, run, reaction, lib),
+        Command::Resume(run, saved_file) => for_resume(alloc, folder, run, saved_file, lib),
+        Command::RunC(run) => for_run_c(alloc, folder, run),
+        Command::Dump(run) => for_dump(alloc, folder, run, lib),
         Command::DumpAt(file, tick) => for_dump_at(alloc, folder, file, tick),
     }
 }

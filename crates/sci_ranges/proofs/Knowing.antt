@@ -35,8 +35,10 @@ use Rattle.sci_ranges.specs.Table.{Table}
 use Rattle.sci_ranges.specs.Reads.{fed_element}
 use Rattle.sci_ranges.specs.Closed.{IsBlockClosed, IsClosed}
 use Rattle.sci_ranges.proofs.Sensing.{sync_other, keep_in_type}
-use Rattle.sci_ranges.proofs.Reading.{IsBefore, Known, read_has, taking_has, apart}
-use Rattle.sci_ranges.proofs.Reacting.{first_there, fed_inside, first_input, given_in, given_fills, stop_in}
+use Rattle.sci_ranges.proofs.Reading.{IsBefore, Known, read_has, taking_has, apart, taken}
+use Rattle.sci_ranges.proofs.Reacting.{HaveMore, first_there, fed_inside, first_input, given_in, given_fills, stop_in}
+use Rattle.sci_ranges.proofs.Needing.{Needs, direct, need_possible, handed_on, needs_end}
+use Rattle.sci_ranges.proofs.Refining.{taken_more}
 
 -- a kind that chooses a branch has feedthrough, and one element goes in
 sync_feeds : (c : Kind) (k : ℕ) → is_sync c ≡ true → feeds c k ≡ true
@@ -56,19 +58,19 @@ module _ (n : Parts) (i j : Columns) (t : Table) (m : Memory) (s : Source) (y : 
     (states : (b k : ℕ) → IsBlock n b → k < state_len (spec_of n b) → IsIn (state_range (t.states b) k) (at (m.state b) k)) (columns : AreColumns n i) (keeps : KeepWithin n i j)
     (closed : IsClosed n i t) where
   -- a block is known where what it depends on is
-  module _ (b : ℕ) (block : IsBlock n b) (needs : (c : ℕ) → Depends n s b c → Known n j t m s y c)
+  module _ (b : ℕ) (block : IsBlock n b) (needs : (c : ℕ) → Needs n s b c → Known n j t m s y c)
       (idle : (c : ℕ) → IsBlock n c → (Possible n s c → ⊥) → Known n j t m s y c) where
     feeders : Active n s y b → (k : ℕ) → k < length (spec_of n b).ins → truth_at (spec_of n b).feed k ≡ true → Known n j t m s y (wire_of n b (suc k)).block
     feeders on k l through =
         let within : IsInput n b (suc k) = record { block = block; least = omega arith; most = omega (arith, l) } in
         ⊎_elim
-        (λ p. needs (wire_of n b (suc k)).block
-        (record { possible = possible n s _ on; on_possible = p; waits = inl (record { input = suc k; within = within; from = refl; through = through }) }))
+        (λ p. needs (wire_of n b (suc k)).block (direct (wire_of n b (suc k)).block
+        (record { possible = possible n s _ on; on_possible = p; waits = inl (record { input = suc k; within = within; from = refl; through = through }) })))
         (λ out. idle (wire_of n b (suc k)).block (net.wired.wires_lead b (suc k) within).block out)
         (decide_possible n s (wire_of n b (suc k)).block)
 
     conditions : Active n s y b → (c : ℕ) → Conditions n c b → Active n s y c → Known n j t m s y c
-    conditions on c decides active = needs c (record { possible = possible n s _ on; on_possible = possible n s _ active; waits = inr decides })
+    conditions on c decides active = needs c (direct c (record { possible = possible n s _ on; on_possible = possible n s _ active; waits = inr decides }))
 
     are_known : Active n s y b → AreKnown n t.dead s y b
     are_known on c p active decides takes = let k = conditions on c decides active in (k.acts active, k.takes p active decides.sync takes)
@@ -79,22 +81,25 @@ module _ (n : Parts) (i j : Columns) (t : Table) (m : Memory) (s : Source) (y : 
     block_closed : Active n s y b → IsBlockClosed n i t b
     block_closed on = closed.blocks b (record { source = s; live = live; acts = may_act on })
 
+    have_more : (on : Active n s y b) → HaveMore n i t b (block_closed on).inputs (all_inputs (spec_of n b) (taken n m y b))
+    have_more on = taken_more n i j t m s y net live old idle b (record { block = block; on = on; needs = needs }) (block_closed on).inputs (block_closed on).enter
+
     -- ---- what it shows, and what stops it
 
     shows_in : (vs : List ℤ) → Gives n m j s y b (Ok vs) → (e : ℕ) → e < total (spec_of n b).outs → IsInSome (range_at (t.shows b) e) (at vs e)
     shows_in vs g e l =
         given_in n i j t m s y net memory live old states columns keeps b g.mask block g.active (may_act g.active) (are_known g.active) g.mask_is (conditions g.active)
-        (block_closed g.active) (feeders g.active) vs e g.answer_is l
+        (block_closed g.active) (feeders g.active) (have_more g.active) vs e g.answer_is l
 
     fills_in : (vs : List ℤ) → Gives n m j s y b (Ok vs) → Fills (spec_of n b).outs vs
     fills_in vs g =
         given_fills n i j t m s y net memory live old states columns keeps b g.mask block g.active (may_act g.active) (are_known g.active) g.mask_is (conditions g.active)
-        (block_closed g.active) (feeders g.active) (keep_in_type n i j columns keeps) vs g.answer_is
+        (block_closed g.active) (feeders g.active) (have_more g.active) (keep_in_type n i j columns keeps) vs g.answer_is
 
     pub word_listed : (word : StopWord) → Gives n m j s y b (Err word) → t.stops b word ≡ true
     word_listed word g =
         stop_in n i j t m s y net memory live old states columns keeps b g.mask block g.active (may_act g.active) (are_known g.active) g.mask_is (conditions g.active)
-        (block_closed g.active) (feeders g.active) word g.answer_is
+        (block_closed g.active) (feeders g.active) (have_more g.active) word g.answer_is
 
     -- ---- a condition
 
@@ -158,17 +163,19 @@ module _ (n : Parts) (i j : Columns) (t : Table) (m : Memory) (s : Source) (y : 
       entering = λ on. absurd (out (possible n s _ on));
     }
 
-    known_at : {b : ℕ} → Grounded (Depends n s) b → IsBlock n b → done b → Known n j t m s y b
+    known_at : {b : ℕ} → Grounded (Needs n s) b → IsBlock n b → done b → Known n j t m s y b
     known_at (grounded b needs) block d =
-        known_of b block (λ c need. known_at (needs c need) (Spread-block n s _ need.on_possible) (onward b c d need)) idle_known (meets b block d)
+        known_of b block (λ c need. known_at (needs c need) (Spread-block n s _ (need_possible n s b need)) (handed_on n s b done (λ a w. onward b a d w) onward need)) idle_known
+        (meets b block d)
 
     pub all_known : (b : ℕ) → IsBlock n b → done b → Known n j t m s y b
-    all_known b block d = known_at (ground n s free b block) block d
+    all_known b block d = known_at (needs_end n s (ground n s free b block)) block d
 
     -- a block that has no value stops by a word that is listed, where what it depends on is done
     pub stop_listed : (b : ℕ) (word : StopWord) → ((c : ℕ) → Depends n s b c → done c) → Gives n m j s y b (Err word) → t.stops b word ≡ true
     stop_listed b word before g =
-        word_listed b (Spread-block n s _ g.active) (λ c need. all_known c (Spread-block n s _ need.on_possible) (before c need)) idle_known word g
+        word_listed b (Spread-block n s _ g.active)
+        (λ c need. all_known c (Spread-block n s _ (need_possible n s b need)) (handed_on n s b done before onward need)) idle_known word g
 
   -- where all equations are met, each block is known
   pub whole_known : IsLoopFree n s → IsResult n m j s (Whole y) → (b : ℕ) → IsBlock n b → Known n j t m s y b

@@ -3,6 +3,8 @@ pub mod Answering
 pub mod Sensing
 pub mod Reading
 pub mod Reacting
+pub mod Needing
+pub mod Refining
 pub mod Knowing
 pub mod Programming
 pub mod Following

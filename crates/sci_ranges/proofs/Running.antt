@@ -2,6 +2,7 @@
 use Rattle.std.proofs.Common.{◌≡◌, ℕ, ◌+◌, ◌-◌, ◌<◌, ◌==◌, not, true, List, [], Some, refl, sym, ap, subst, ◌∙◌, arith, inl, inr, ⊎_elim}
 use Rattle.std.proofs.lemmas.Bool.{cases_lt}
 use Rattle.sci_base.specs.declared.observation.Obs.{Obs}
+use Rattle.sci_base.specs.declared.observation.StopWord.{StopWord}
 use Rattle.sci_base.specs.Lists.{at}
 use Rattle.sci_kinds.specs.Table.{first_held}
 use Rattle.sci_net.specs.declared.Feed.{Feed}
@@ -12,6 +13,7 @@ use Rattle.sci_net.specs.Parts.{Parts, IsBlock, spec_of}
 use Rattle.sci_net.specs.Sources.{sources_of, source_of}
 use Rattle.sci_reaction.specs.Active.{IsAlways}
 use Rattle.sci_reaction.specs.Memory.{Columns, AreColumns}
+use Rattle.sci_reaction.specs.Result.{Stopped, IsResult}
 use Rattle.sci_reaction.proofs.Next.{first_in_range}
 use Rattle.sci_pending.specs.Pending.{Event, next}
 use Rattle.sci_run.specs.Activity.{halts}
@@ -68,10 +70,10 @@ module _ (n : Parts) (i j : Columns) (t : Table) (net : IsNet n) (free : AreLoop
 
   -- ---- behind start
 
-  start_follows : (first : State) (seen : List Obs) → Reacts n j 0 Start (first_state n) first seen → Follows n t Start (first_state n) first
+  pub start_follows : (first : State) (seen : List Obs) → Reacts n j 0 Start (first_state n) first seen → Follows n t Start (first_state n) first
   start_follows first seen h = reacts_follows n i j t net columns keeps closed 0 Start (first_state n) first seen begins (free_at n free 0) start_stands (λ b block has. absurd has) h
 
-  behind_start : (first : State) (seen : List Obs) → Reacts n j 0 Start (first_state n) first seen → Behind n t first
+  pub behind_start : (first : State) (seen : List Obs) → Reacts n j 0 Start (first_state n) first seen → Behind n t first
   behind_start first seen h =
       let f = start_follows first seen h in
       let none : first.fired ≡ 0 = ap (λ (a : State). a.fired) h.leads in
@@ -82,6 +84,12 @@ module _ (n : Parts) (i j : Columns) (t : Table) (net : IsNet n) (free : AreLoop
         waits = λ quiet e. f.quiet quiet;
         fired = λ q is quiet some. absurd (omega (arith, none, some));
       }
+
+  -- where start stops, the table lists the word
+  pub start_listed : (b : ℕ) (word : StopWord) → IsResult n (first_state n).memory j Start (Stopped b word) → t.stops b word ≡ true
+  start_listed b word stop =
+      let h = start_stands in
+      stops_listed n i j t (first_state n).memory Start net h.memory begins (record { held = h.held; acted = λ c e has. absurd has }) h.states columns keeps closed (free_at n free 0) b word stop
 
   -- ---- an event
 
@@ -127,13 +135,13 @@ module _ (n : Parts) (i j : Columns) (t : Table) (net : IsNet n) (free : AreLoop
     pending = kept_live n t.dead (λ x. not (x.order == e.order)) st.pending.events h.pending;
   }
 
-  event_follows : (st after : State) (e : Event) (seen : List Obs) → Behind n t st → next st.pending.events ≡ Some e → Reacts n j e.date (source_of n e.source) (taken st e) after seen
+  pub event_follows : (st after : State) (e : Event) (seen : List Obs) → Behind n t st → next st.pending.events ≡ Some e → Reacts n j e.date (source_of n e.source) (taken st e) after seen
       → Follows n t (source_of n e.source) (taken st e) after
   event_follows st after e seen behind fires h =
       reacts_follows n i j t net columns keeps closed e.date (source_of n e.source) (taken st e) after seen (event_live st e behind fires) (free_at n free e.source)
       (taken_stands st e behind.stands) (has_acted st e behind fires) h
 
-  behind_event : (st after : State) (e : Event) (seen : List Obs) → Behind n t st → next st.pending.events ≡ Some e → Reacts n j e.date (source_of n e.source) (taken st e) after seen
+  pub behind_event : (st after : State) (e : Event) (seen : List Obs) → Behind n t st → next st.pending.events ≡ Some e → Reacts n j e.date (source_of n e.source) (taken st e) after seen
       → Behind n t after
   behind_event st after e seen behind fires h =
       let f = event_follows st after e seen behind fires h in
@@ -149,6 +157,13 @@ module _ (n : Parts) (i j : Columns) (t : Table) (net : IsNet n) (free : AreLoop
             (cases_lt 0 st.fired);
       }
 
+  -- where an event stops the run, the table lists the word
+  pub event_listed : (st : State) (e : Event) → Behind n t st → next st.pending.events ≡ Some e → (b : ℕ) (word : StopWord) → IsResult n st.memory j (source_of n e.source) (Stopped b word)
+      → t.stops b word ≡ true
+  event_listed st e behind fires b word stop =
+      stops_listed n i j t st.memory (source_of n e.source) net behind.stands.memory (event_live st e behind fires) (before_event st e behind fires) behind.stands.states columns keeps closed
+      (free_at n free e.source) b word stop
+
   -- ---- the run
 
   module _ (until limit : ℕ) where
@@ -159,7 +174,7 @@ module _ (n : Parts) (i j : Columns) (t : Table) (net : IsNet n) (free : AreLoop
     reaches_behind first h here = h
     reaches_behind first h (reacted st after e seen more before fires r) = behind_event st after e more (reaches_behind first h before) (fires_of st e fires) r
 
-    stands_behind : (st : State) (seen : List Obs) → Reachable n j until limit st seen → Behind n t st
+    pub stands_behind : (st : State) (seen : List Obs) → Reachable n j until limit st seen → Behind n t st
     stands_behind st seen r = reaches_behind r.first (behind_start r.first r.at_start r.started) r.reaches
 
     covered : (st : State) (seen : List Obs) → Reachable n j until limit st seen → IsCovered n t st
@@ -174,14 +189,8 @@ module _ (n : Parts) (i j : Columns) (t : Table) (net : IsNet n) (free : AreLoop
 
     over_listed : {st : State} → {how : Ending} → {seen : List Obs} → Finish n j until limit st how seen → Listed t how
     over_listed (ended st word seen r over) = tt
-    over_listed (stopped st e b word seen r fires stop) =
-        let h = stands_behind st seen r in
-        let is = fires_of st e fires in
-        stops_listed n i j t st.memory (source_of n e.source) net h.stands.memory (event_live st e h is) (before_event st e h is) h.stands.states columns keeps closed (free_at n free e.source)
-        b word stop
-    over_listed (stopped_at_start b word stop) =
-        let h = start_stands in
-        stops_listed n i j t (first_state n).memory Start net h.memory begins (record { held = h.held; acted = λ c e has. absurd has }) h.states columns keeps closed (free_at n free 0) b word stop
+    over_listed (stopped st e b word seen r fires stop) = event_listed st e (stands_behind st seen r) (fires_of st e fires) b word stop
+    over_listed (stopped_at_start b word stop) = start_listed b word stop
 
 pub closed_holds : ClosedHolds
 closed_holds n i t net free columns closed = record {

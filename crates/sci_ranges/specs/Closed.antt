@@ -9,22 +9,26 @@ use Rattle.sci_net.specs.Parts.{Parts, IsBlock, spec_of}
 use Rattle.sci_reaction.specs.Active.{IsSync}
 use Rattle.sci_reaction.specs.Memory.{Columns}
 use Rattle.sci_ranges_base.specs.declared.interval.Interval.{Interval}
+use Rattle.sci_ranges_base.specs.declared.cells.Cells.{Cells}
 use Rattle.sci_ranges_base.specs.declared.masks.Masks.{Masks}
 use Rattle.sci_ranges_base.specs.Intervals.{IsIn, meet, within, range_at}
-use Rattle.sci_ranges_rules.specs.Rules.{cells, next_range, state_range, taking}
+use Rattle.sci_ranges_rules.specs.Rules.{next_range, state_range, taking}
 use Rattle.sci_ranges_reads.specs.Live.{IsPossible}
 use Rattle.sci_ranges.specs.Table.{Table}
 use Rattle.sci_ranges.specs.Reads.{Reads, Enters, HaveMasks}
+use Rattle.sci_ranges.specs.Told.{Tells}
 
--- the block's rule, on what goes in and its masks, tells nothing that the table doesn't
+-- what is told of the block, from what goes in and its masks, is in the table
 pub record IsBlockClosed (n : Parts) (i : Columns) (t : Table) (b : ℕ) : Type 0 where
   pub inputs : List (Option Interval)
   pub enter : Enters n i t b inputs
   pub masks : List Masks
   pub masks_are : HaveMasks n t b masks
-  pub values : (e : ℕ) → e < total (spec_of n b).outs → within ((cells (spec_of n b) (t.states b) masks inputs e).values) (range_at (t.shows b) e) ≡ true
-  pub overflow : (e : ℕ) → e < total (spec_of n b).outs → (cells (spec_of n b) (t.states b) masks inputs e).overflow ≡ true → t.stops b Overflow ≡ true
-  pub zero : (e : ℕ) → e < total (spec_of n b).outs → (cells (spec_of n b) (t.states b) masks inputs e).zero ≡ true → t.stops b Zero ≡ true
+  pub told : ℕ → Cells
+  pub tells : (e : ℕ) → e < total (spec_of n b).outs → Tells n i t b masks inputs e (told e)
+  pub values : (e : ℕ) → e < total (spec_of n b).outs → within ((told e).values) (range_at (t.shows b) e) ≡ true
+  pub overflow : (e : ℕ) → e < total (spec_of n b).outs → (told e).overflow ≡ true → t.stops b Overflow ≡ true
+  pub zero : (e : ℕ) → e < total (spec_of n b).outs → (told e).zero ≡ true → t.stops b Zero ≡ true
   pub ends : is_sensor (spec_of n b).kind ≡ true → t.stops b Input ≡ true
   pub next : (k : ℕ) → k < state_len (spec_of n b) → within (next_range (spec_of n b) (t.states b) inputs k) (Some (state_range (t.states b) k)) ≡ true
 

@@ -8,8 +8,6 @@ mod cells;
 pub mod fitting;
 mod interval;
 pub mod masks;
-#[cfg(test)]
-mod tests;
 mod wide;
 
 pub use cells::Cells;

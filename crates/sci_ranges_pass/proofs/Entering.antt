@@ -39,7 +39,7 @@ wire b p = record { block = b; port = p }
 same_parts : (a b p q : ℕ) → a ≡ b → p ≡ q → wire a p ≡ wire b q
 same_parts a b p q e f = λ i. record { block = e i; port = f i }
 
-wires_same : (v w : Wire) → same_wire v w ≡ true → v ≡ w
+pub wires_same : (v w : Wire) → same_wire v w ≡ true → v ≡ w
 wires_same v w h =
     let p = and_both (nat_eq v.block w.block) (nat_eq v.port w.port) h in
     same_parts v.block w.block v.port w.port (nat_same v.block w.block p.0) (nat_same v.port w.port p.1)
@@ -49,6 +49,37 @@ few_inputs : (c : Kind) (s : Spec) → reads_mask c ≡ false → Tests c s → 
 few_inputs Select s h t = absurd (true≢false h)
 few_inputs AndLog s h t = absurd (true≢false h)
 few_inputs _ s h t = omega (arith, t.evtin_most)
+
+-- ---- all elements, one after the other
+
+module _ (n : Parts) (m : Marks) (r : Ranges) where
+  pub port_at_place : (c k count : ℕ) → (length (read_port n m r c k count) ≡ count) × ((d : ℕ) → d < count → range_at (read_port n m r c k count) d ≡ read_range n m r c k d)
+  port_at_place c k zero = (refl, λ d l. absurd (omega (arith, l)))
+  port_at_place c k (suc count) =
+      let front = port_at_place c k count in (
+        simp length-append (omega (arith, front.0)),
+        λ d q. elim (cases_lt d count) [
+          | inl l ↦ get_or_append_left (read_port n m r c k count) (read_range n m r c k count ∷ []) None d (omega (arith, front.0, l)) ∙ front.1 d l
+          | inr l ↦
+              let e : d ≡ count = omega (arith, q, l) in
+              subst (λ j. range_at (read_port n m r c k (suc count)) j ≡ read_range n m r c k j) (sym e) (get_or_push (read_port n m r c k count) (read_range n m r c k count) None count front.0)
+        ],
+      )
+
+  pub ports_at_place : (c k : ℕ) (ps : List Port) (p d : ℕ) → p < length ps → d < elements (port_at ps p) → range_at (read_ports n m r c k ps) (before ps p + d) ≡ read_range n m r c (k + p) d
+  ports_at_place c k [] p d h l = absurd (omega (arith, h))
+  ports_at_place c k (q ∷ ps) zero d h l =
+      let g = port_at_place c k (elements q) in
+      let place : 0 + d ≡ d = omega arith in
+      let same : k ≡ k + 0 = omega arith in
+      ap (range_at (read_ports n m r c k (q ∷ ps))) place
+      ∙ (get_or_append_left (read_port n m r c k (elements q)) (read_ports n m r c (k + 1) ps) None d (omega (arith, l, g.0)) ∙ (g.1 d l ∙ ap (λ j. read_range n m r c j d) same))
+  ports_at_place c k (q ∷ ps) (suc p) d h l =
+      let g = (port_at_place c k (elements q)).0 in
+      let place : (elements q + before ps p + d) - elements q ≡ before ps p + d = omega arith in
+      let same : (k + 1) + p ≡ k + suc p = omega arith in
+      get_or-append_right (read_port n m r c k (elements q)) (read_ports n m r c (k + 1) ps) (elements q) (elements q + before ps p + d) None g (omega arith)
+      ∙ (ap (range_at (read_ports n m r c (k + 1) ps)) place ∙ (ports_at_place c (k + 1) ps p d (omega (arith, h)) l ∙ ap (λ j. read_range n m r c j d) same))
 
 module _ (n : Parts) (i : Columns) (m : Marks) (r : Ranges) (net : IsNet n) (free : AreLoopFree n) (marks : AreMarks n m) where
   -- ---- one element
@@ -81,36 +112,6 @@ module _ (n : Parts) (i : Columns) (m : Marks) (r : Ranges) (net : IsNet n) (fre
               (wires_same (wire_of n q.block 1) (wire_of n c (suc p)) w.0) (nat_same d 0 a.0)
           by_test false e = plain_reads c p d
 
-  -- ---- all elements, one after the other
-
-  port_at_place : (c k count : ℕ) → (length (read_port n m r c k count) ≡ count) × ((d : ℕ) → d < count → range_at (read_port n m r c k count) d ≡ read_range n m r c k d)
-  port_at_place c k zero = (refl, λ d l. absurd (omega (arith, l)))
-  port_at_place c k (suc count) =
-      let front = port_at_place c k count in (
-        simp length-append (omega (arith, front.0)),
-        λ d q. elim (cases_lt d count) [
-          | inl l ↦ get_or_append_left (read_port n m r c k count) (read_range n m r c k count ∷ []) None d (omega (arith, front.0, l)) ∙ front.1 d l
-          | inr l ↦
-              let e : d ≡ count = omega (arith, q, l) in
-              subst (λ j. range_at (read_port n m r c k (suc count)) j ≡ read_range n m r c k j) (sym e) (get_or_push (read_port n m r c k count) (read_range n m r c k count) None count front.0)
-        ],
-      )
-
-  ports_at_place : (c k : ℕ) (ps : List Port) (p d : ℕ) → p < length ps → d < elements (port_at ps p) → range_at (read_ports n m r c k ps) (before ps p + d) ≡ read_range n m r c (k + p) d
-  ports_at_place c k [] p d h l = absurd (omega (arith, h))
-  ports_at_place c k (q ∷ ps) zero d h l =
-      let g = port_at_place c k (elements q) in
-      let place : 0 + d ≡ d = omega arith in
-      let same : k ≡ k + 0 = omega arith in
-      ap (range_at (read_ports n m r c k (q ∷ ps))) place
-      ∙ (get_or_append_left (read_port n m r c k (elements q)) (read_ports n m r c (k + 1) ps) None d (omega (arith, l, g.0)) ∙ (g.1 d l ∙ ap (λ j. read_range n m r c j d) same))
-  ports_at_place c k (q ∷ ps) (suc p) d h l =
-      let g = (port_at_place c k (elements q)).0 in
-      let place : (elements q + before ps p + d) - elements q ≡ before ps p + d = omega arith in
-      let same : (k + 1) + p ≡ k + suc p = omega arith in
-      get_or-append_right (read_port n m r c k (elements q)) (read_ports n m r c (k + 1) ps) (elements q) (elements q + before ps p + d) None g (omega arith)
-      ∙ (ap (range_at (read_ports n m r c (k + 1) ps)) place ∙ (ports_at_place c (k + 1) ps p d (omega (arith, h)) l ∙ ap (λ j. read_range n m r c j d) same))
-
   -- ---- what goes in, and the masks
 
   pub enters : (c : ℕ) → IsBlock n c → Enters n i (table_of n m.dead r) c (entered n i m r c)
@@ -123,7 +124,7 @@ module _ (n : Parts) (i : Columns) (m : Marks) (r : Ranges) (net : IsNet n) (fre
           let less : suc p - 1 ≡ p = omega arith in
           let one : 1 + p ≡ suc p = omega arith in
           let there : range_at (read_ports n m r c 1 (spec_of n c).ins) (before (spec_of n c).ins p + d) ≡ read_range n m r c (suc p) d =
-          ports_at_place c 1 (spec_of n c).ins p d (omega (arith, inside.most)) l ∙ ap (λ j. read_range n m r c j d) one in
+          ports_at_place n m r c 1 (spec_of n c).ins p d (omega (arith, inside.most)) l ∙ ap (λ j. read_range n m r c j d) one in
           subst (λ h. Reads n (table_of n m.dead r) c (suc p) d (range_at (read_ports n m r c 1 (spec_of n c).ins) (before (spec_of n c).ins h + d))) (sym less)
           (subst (Reads n (table_of n m.dead r) c (suc p) d) (sym there) (read_reads c p d))
 

@@ -1,5 +1,5 @@
 -- A table that passes is one that no rule widens.
-use Rattle.std.proofs.Common.{◌≡◌, ℕ, zero, suc, ◌+◌, ◌<◌, Bool, true, false, not, ◌||◌, ◌&&◌, ℤ, List, [], ◌∷◌, length, slice_index_or, Option, Some, None, refl, sym, subst, ◌∙◌, arith, add-one, true≢false}
+use Rattle.std.proofs.Common.{◌≡◌, ℕ, zero, suc, ◌+◌, ◌<◌, Bool, true, false, not, ◌||◌, ◌&&◌, cond, ℤ, List, [], ◌∷◌, length, slice_index_or, Option, Some, None, refl, sym, subst, ◌∙◌, arith, add-one, true≢false}
 use Rattle.std.specs.Prelude.{is_none, int_le}
 use Rattle.sci_base.specs.Lists.{at, truth_at}
 use Rattle.sci_forms.specs.declared.spec.Spec.{Spec}
@@ -18,6 +18,7 @@ use Rattle.sci_ranges_base.specs.declared.interval.Interval.{Interval}
 use Rattle.sci_ranges_base.specs.declared.cells.Cells.{Cells}
 use Rattle.sci_ranges_base.specs.Intervals.{IsIn, has, meet, within, range_at}
 use Rattle.sci_ranges_rules.specs.Rules.{cells, next_range, state_range, taking}
+use Rattle.sci_ranges_refined.specs.Sums.{is_sum, sum_cells}
 use Rattle.sci_ranges_reads.specs.Live.{MayAct, IsPossible}
 use Rattle.sci_ranges.specs.Reads.{Reads}
 use Rattle.sci_ranges.specs.Closed.{IsBlockClosed}
@@ -27,9 +28,12 @@ use Rattle.sci_ranges_rows.proofs.Marking.{not_of}
 use Rattle.sci_ranges_rows.proofs.Placed.{place_of}
 use Rattle.sci_ranges_rows.proofs.Testing.{below_to, not_yes, may_here}
 use Rattle.sci_ranges_pass.specs.Ranges.{Ranges, table_of, read_range, entered, masks_for}
-use Rattle.sci_ranges_pass.specs.Pass.{holds_cells, holds_values, holds_next, holds_first, are_dead, is_possible, holds_rule, holds_block, is_closed}
-use Rattle.sci_ranges_pass.specs.Laws.{ClosedByTest}
+use Rattle.sci_ranges_pass.specs.Taken.{told_inputs}
+use Rattle.sci_ranges_pass.specs.Told.{sum_range, told}
+use Rattle.sci_ranges_pass.specs.Pass.{holds_cells, holds_values, holds_sums, holds_told, holds_next, holds_first, are_dead, is_possible, holds_rule, holds_block, is_closed}
+use Rattle.sci_ranges_pass.specs.Laws.{ClosedByTest, PossibleByTest}
 use Rattle.sci_ranges_pass.proofs.Entering.{read_reads, enters, masks_are}
+use Rattle.sci_ranges_pass.proofs.Telling.{told_tells}
 
 has_told : (j : Interval) (v : ℤ) → has j v ≡ true → IsIn j v
 has_told j v h =
@@ -68,6 +72,13 @@ not_not : (b : Bool) → b ≡ true → not b ≡ false
 not_not true h = refl
 not_not false h = cc
 
+-- some live source may activate it
+pub possible_by_test : PossibleByTest
+possible_by_test n m c net free marks h =
+    let p = place_of n m marks h.live in
+    let on = may_here n m net free marks p.0 c p.1 p.3 (subst (λ s. MayAct n (dead_of m.dead) s c) (sym p.2) h.acts) in
+    all_fails (λ k. not (may_act m k c)) (length m.rows) p.0 p.1 (not_not (may_act m p.0 c) on)
+
 module _ (n : Parts) (i : Columns) (m : Marks) (r : Ranges) (net : IsNet n) (free : AreLoopFree n) (marks : AreMarks n m) (passed : is_closed n i m r ≡ true) where
   block_holds : (c : ℕ) → IsBlock n c → holds_block n i m r c ≡ true
   block_holds zero block = absurd (omega (arith, block.least))
@@ -93,36 +104,34 @@ module _ (n : Parts) (i : Columns) (m : Marks) (r : Ranges) (net : IsNet n) (fre
         not_yes (is_possible m c) (holds_rule n i m r c)
         (and_both (not (is_sync (spec_of n c).kind) || are_dead n m r c) (not (is_possible m c) || holds_rule n i m r c) rest).1 possible
 
-    -- some live source may activate it
-    possible_yes : IsPossible n (dead_of m.dead) c → is_possible m c ≡ true
-    possible_yes h =
-        let p = place_of n m marks h.live in
-        let on = may_here n m net free marks p.0 c p.1 p.3 (subst (λ s. MayAct n (dead_of m.dead) s c) (sym p.2) h.acts) in
-        all_fails (λ k. not (may_act m k c)) (length m.rows) p.0 p.1 (not_not (may_act m p.0 c) on)
-
   rule_closed : (c : ℕ) → IsPossible n (dead_of m.dead) c → IsBlockClosed n i (table_of n m.dead r) c
   rule_closed c h =
       let block : IsBlock n c = Spread-block n h.source _ h.acts in
-      let both = and_both (holds_values (spec_of n c) r c (masks_for n m c) (entered n i m r c)) (holds_next (spec_of n c) r c (entered n i m r c)) (rule_part c block (possible_yes c block h)) in
-      let each = λ (e : ℕ) (l : e < total (spec_of n c).outs).
-      below_to (λ e. holds_cells r c e (cells (spec_of n c) (slice_index_or r.states c []) (masks_for n m c) (entered n i m r c) e)) (total (spec_of n c).outs) e both.0 l in
+      let both = and_both (holds_told n i m r c (entered n i m r c)) (holds_next (spec_of n c) r c (entered n i m r c)) (rule_part c block (possible_by_test n m c net free marks h)) in
+      let each = by_kind (is_sum (spec_of n c).kind) both.0 in
       record {
         inputs = entered n i m r c;
         enter = enters n i m r net free marks c block;
         masks = masks_for n m c;
         masks_are = masks_are n i m r net free marks c block;
-        values = λ e l. (parts e (cells (spec_of n c) (slice_index_or r.states c []) (masks_for n m c) (entered n i m r c) e) (each e l)).0;
+        told = told n i m r c (entered n i m r c);
+        tells = λ e l. told_tells n i m r net free marks c block e;
+        values = λ e l. (parts e (told n i m r c (entered n i m r c) e) (each e l)).0;
         overflow = λ e l on.
-            not_yes ((cells (spec_of n c) (slice_index_or r.states c []) (masks_for n m c) (entered n i m r c) e).overflow) (truth_at r.overflows c)
-            (parts e (cells (spec_of n c) (slice_index_or r.states c []) (masks_for n m c) (entered n i m r c) e) (each e l)).1 on;
-        zero = λ e l on.
-            not_yes ((cells (spec_of n c) (slice_index_or r.states c []) (masks_for n m c) (entered n i m r c) e).zero) (truth_at r.zeros c)
-            (parts e (cells (spec_of n c) (slice_index_or r.states c []) (masks_for n m c) (entered n i m r c) e) (each e l)).2 on;
+            not_yes ((told n i m r c (entered n i m r c) e).overflow) (truth_at r.overflows c) (parts e (told n i m r c (entered n i m r c) e) (each e l)).1 on;
+        zero = λ e l on. not_yes ((told n i m r c (entered n i m r c) e).zero) (truth_at r.zeros c) (parts e (told n i m r c (entered n i m r c) e) (each e l)).2 on;
         ends = λ sensor. sensor;
         next = λ k l.
             below_to (λ k. within (next_range (spec_of n c) (slice_index_or r.states c []) (entered n i m r c) k) (Some (state_range (slice_index_or r.states c []) k))) (state_len (spec_of n c)) k both.1 l;
       }
     where
+      by_kind : (b : Bool) → cond b (holds_sums n i m r c (entered n i m r c)) (holds_values (spec_of n c) r c (masks_for n m c) (told_inputs n i m r c (entered n i m r c))) ≡ true
+          → (e : ℕ) → e < total (spec_of n c).outs → holds_cells r c e (cond b (sum_cells (spec_of n c) (sum_range n i m r c (entered n i m r c) e))
+          (cells (spec_of n c) (slice_index_or r.states c []) (masks_for n m c) (told_inputs n i m r c (entered n i m r c)) e)) ≡ true
+      by_kind true h e l = below_to (λ e. holds_cells r c e (sum_cells (spec_of n c) (sum_range n i m r c (entered n i m r c) e))) (total (spec_of n c).outs) e h l
+      by_kind false h e l =
+          below_to (λ e. holds_cells r c e (cells (spec_of n c) (slice_index_or r.states c []) (masks_for n m c) (told_inputs n i m r c (entered n i m r c)) e)) (total (spec_of n c).outs) e h l
+
       parts : (e : ℕ) (cs : Cells) → holds_cells r c e cs ≡ true
           → (within cs.values (range_at (slice_index_or r.shows c []) e) ≡ true) × ((not cs.overflow || truth_at r.overflows c) ≡ true) × ((not cs.zero || truth_at r.zeros c) ≡ true)
       parts e cs h =

@@ -1,5 +1,5 @@
 -- The pass over a table: whether a rule widens it.
-use Rattle.std.specs.Prelude.{ℕ, ◌+◌, Bool, not, ◌&&◌, ◌||◌, int_le, List, [], length, Option, Some, is_none, slice_index_or, pos}
+use Rattle.std.specs.Prelude.{ℕ, ◌+◌, Bool, not, ◌&&◌, ◌||◌, int_le, if◌then◌else◌, List, [], length, Option, Some, is_none, slice_index_or, pos}
 use Rattle.sci_base.specs.Lists.{at, truth_at}
 use Rattle.sci_forms.specs.declared.spec.Spec.{Spec}
 use Rattle.sci_forms.specs.Form.{is_sync}
@@ -16,10 +16,13 @@ use Rattle.sci_ranges_base.specs.declared.cells.Cells.{Cells}
 use Rattle.sci_ranges_base.specs.declared.masks.Masks.{Masks}
 use Rattle.sci_ranges_base.specs.Intervals.{has, meet, within, range_at}
 use Rattle.sci_ranges_rules.specs.Rules.{cells, next_range, state_range, taking}
+use Rattle.sci_ranges_refined.specs.Sums.{is_sum, sum_cells}
 use Rattle.sci_ranges_reads.specs.Live.{may_program}
 use Rattle.sci_ranges_rows.specs.Marks.{Marks, dead_of, may_act}
 use Rattle.sci_ranges_rows.specs.Tests.{all_below}
 use Rattle.sci_ranges_pass.specs.Ranges.{Ranges, read_range, entered, masks_for}
+use Rattle.sci_ranges_pass.specs.Taken.{told_inputs}
+use Rattle.sci_ranges_pass.specs.Told.{sum_range}
 
 -- ---- one block
 
@@ -31,6 +34,14 @@ holds_cells r c e cs =
 -- of these states, masks and inputs the rule tells nothing more
 abbrev pub holds_values : Spec → Ranges → ℕ → List Masks → List (Option Interval) → Bool
 holds_values s r c ms us = all_below (λ e. holds_cells r c e (cells s (slice_index_or r.states c []) ms us e)) (total s.outs)
+
+-- and nothing more is told of a sum
+abbrev pub holds_sums : Parts → Columns → Marks → Ranges → ℕ → List (Option Interval) → Bool
+holds_sums n i m r c us = all_below (λ e. holds_cells r c e (sum_cells (spec_of n c) (sum_range n i m r c us e))) (total (spec_of n c).outs)
+
+abbrev pub holds_told : Parts → Columns → Marks → Ranges → ℕ → List (Option Interval) → Bool
+holds_told n i m r c us =
+    if is_sum (spec_of n c).kind then holds_sums n i m r c us else holds_values (spec_of n c) r c (masks_for n m c) (told_inputs n i m r c us)
 
 abbrev pub holds_next : Spec → Ranges → ℕ → List (Option Interval) → Bool
 holds_next s r c us =
@@ -52,7 +63,7 @@ is_possible m c = not (all_below (λ k. not (may_act m k c)) (length m.rows))
 abbrev pub holds_rule : Parts → Columns → Marks → Ranges → ℕ → Bool
 holds_rule n i m r c =
     let us = entered n i m r c in
-    holds_values (spec_of n c) r c (masks_for n m c) us && holds_next (spec_of n c) r c us
+    holds_told n i m r c us && holds_next (spec_of n c) r c us
 
 abbrev pub holds_block : Parts → Columns → Marks → Ranges → ℕ → Bool
 holds_block n i m r c =

@@ -29,8 +29,8 @@ use Rattle.sci_ranges_base.specs.declared.masks.Masks.{Masks}
 use Rattle.sci_ranges_reads.specs.Live.{MayAct}
 use Rattle.sci_ranges_reads.specs.Reading.{MayBeTaken, ActsToo, FedToo, ActsWith, HasActed, IsUnder, AreMasksAt}
 use Rattle.sci_ranges_rows.specs.Marks.{Marks, AreMarks, dead_of, lets, acts_at, entry_of, entry_at, may_act}
-use Rattle.sci_ranges_rows.specs.Tests.{same_branch, covers, feeds_port, acts_too, fed_too, is_always, same_feed, is_port, acted_first, has_acted, acts_by_entry, shows_at, all_below, is_shown, is_branch, under_by_entry, under_at, is_under, fed_by, mask_at, masks_below}
-use Rattle.sci_ranges_rows.specs.Laws.{ShownByTest, UnderByTest, MasksByTest}
+use Rattle.sci_ranges_rows.specs.Tests.{same_branch, covers, feeds_port, acts_too, fed_too, is_always, same_feed, is_port, acted_first, has_acted, acts_by_entry, shows_at, all_below, is_shown, acts_by_entries, along_at, is_along, is_branch, under_by_entry, under_at, is_under, fed_by, mask_at, masks_below}
+use Rattle.sci_ranges_rows.specs.Laws.{ShownByTest, AlongByTest, UnderByTest, MasksByTest}
 use Rattle.sci_ranges_rows.proofs.Marking.{not_true, not_of}
 use Rattle.sci_ranges_rows.proofs.Placed.{place_of, acts_is, entry_here, entry_fit, always_here}
 
@@ -138,6 +138,16 @@ module _ (n : Parts) (m : Marks) (net : IsNet n) (free : AreLoopFree n) (marks :
           let fa = entry_fit n m net free marks.acts k within a d e in
           let fc = entry_fit n m net free marks.acts k within c x f in fed_too_holds a c p d x fa.0 fc.0 fa.1 fc.1 block h
       by_entries _ (Some d) (Some x) e f h =
+          let fa = entry_fit n m net free marks.acts k within a d e in
+          let fc = entry_fit n m net free marks.acts k within c x f in acts_too_holds a c d x fa.0 fc.0 fa.1 fc.1 h
+
+  acts_by_entries_holds : (a c : ℕ) → acts_by_entries m k (entry_at m k a) (entry_at m k c) ≡ true → ActsToo n (dead_of m.dead) (source_of n k) a c
+  acts_by_entries_holds a c h = by_entries (entry_at m k a) (entry_at m k c) refl refl h
+    where
+      by_entries : (o r : Option Entry) → entry_at m k a ≡ o → entry_at m k c ≡ r → acts_by_entries m k o r ≡ true → ActsToo n (dead_of m.dead) (source_of n k) a c
+      by_entries o None e f h = absurd (true≢false (sym h))
+      by_entries None (Some d) e f h = absurd (true≢false (sym h))
+      by_entries (Some d) (Some x) e f h =
           let fa = entry_fit n m net free marks.acts k within a d e in
           let fc = entry_fit n m net free marks.acts k within c x f in acts_too_holds a c d x fa.0 fc.0 fa.1 fc.1 h
 
@@ -276,6 +286,13 @@ module _ (n : Parts) (m : Marks) (net : IsNet n) (free : AreLoopFree n) (marks :
       (λ too. inr (acts_with_holds n m net free marks k within (spec_of n c).kind a c p (Spread-block n (source_of n k) _ may) too))
       (or_cases (has_acted n m (source_of n k) a) (acts_by_entry (spec_of n c).kind m k (entry_at m k a) (entry_at m k c) p) rest)
 
+  along_here : (a c k : ℕ) → is_along m a c ≡ true → k < length m.rows → truth_at m.live k ≡ true → MayAct n (dead_of m.dead) (source_of n k) c
+      → ActsToo n (dead_of m.dead) (source_of n k) a c
+  along_here a c k h within live may =
+      let test = below_to (λ k. along_at m k a c) (length m.rows) k h within in
+      acts_by_entries_holds n m net free marks k within a c
+      (not_yes (may_act m k c) (acts_by_entries m k (entry_at m k a) (entry_at m k c)) test (may_here k c within live may))
+
   under_here : (q : Feed) (c k : ℕ) → is_under m q c ≡ true → k < length m.rows → truth_at m.live k ≡ true → MayAct n (dead_of m.dead) (source_of n k) c
       → IsUnder n (dead_of m.dead) (source_of n k) c q
   under_here q c k h within live may =
@@ -298,6 +315,11 @@ shown_by_test n m c p net free marks h s live may =
     let r = place_of n m marks live in
     subst (λ t. HasActed n (dead_of m.dead) t (wire_of n c (p + 1)).block ⊎ ActsWith (spec_of n c).kind n (dead_of m.dead) t (wire_of n c (p + 1)).block c (p + 1)) r.2
     (shown_here n m net free marks c p r.0 h r.1 r.3 (subst (λ t. MayAct n (dead_of m.dead) t c) (sym r.2) may))
+
+pub along_by_test : AlongByTest
+along_by_test n m a c s net free marks h live may =
+    let r = place_of n m marks live in
+    subst (λ t. ActsToo n (dead_of m.dead) t a c) r.2 (along_here n m net free marks a c r.0 h r.1 r.3 (subst (λ t. MayAct n (dead_of m.dead) t c) (sym r.2) may))
 
 pub under_by_test : UnderByTest
 under_by_test n m q c s net free marks h live may =

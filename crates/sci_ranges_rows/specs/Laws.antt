@@ -10,9 +10,9 @@ use Rattle.sci_reaction.specs.Schedule.{Entry, IsRow}
 use Rattle.sci_run.specs.Laws.{AreLoopFree}
 use Rattle.sci_ranges_base.specs.declared.masks.Masks.{Masks}
 use Rattle.sci_ranges_reads.specs.Live.{Dead, MayAct, IsLive}
-use Rattle.sci_ranges_reads.specs.Reading.{IsShown, IsUnder, AreMasksAt}
+use Rattle.sci_ranges_reads.specs.Reading.{ActsToo, IsShown, IsUnder, AreMasksAt}
 use Rattle.sci_ranges_rows.specs.Marks.{Marks, AreMarks, dead_of, acts_in}
-use Rattle.sci_ranges_rows.specs.Tests.{is_shown, is_under, masks_of}
+use Rattle.sci_ranges_rows.specs.Tests.{is_shown, is_along, is_under, masks_of}
 
 -- the marks of a row are those of the blocks that its source may activate
 abbrev pub MarkedMayAct : Type 0
@@ -24,6 +24,12 @@ MarkedMayAct =
 abbrev pub ShownByTest : Type 0
 ShownByTest =
     (n : Parts) (m : Marks) (c p : ℕ) → IsNet n → AreLoopFree n → AreMarks n m → is_shown n m c p ≡ true → IsShown n (dead_of m.dead) c (p + 1)
+
+-- and one that holds of blocks a and c, that a acts wherever c does
+abbrev pub AlongByTest : Type 0
+AlongByTest =
+    (n : Parts) (m : Marks) (a c : ℕ) (s : Source) → IsNet n → AreLoopFree n → AreMarks n m → is_along m a c ≡ true → IsLive n (dead_of m.dead) s →
+    MayAct n (dead_of m.dead) s c → ActsToo n (dead_of m.dead) s a c
 
 abbrev pub UnderByTest : Type 0
 UnderByTest =

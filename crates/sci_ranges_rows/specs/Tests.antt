@@ -84,6 +84,20 @@ all_below f (suc k) = all_below f k && f k
 abbrev pub is_shown : Parts → Marks → ℕ → ℕ → Bool
 is_shown n m c p = all_below (λ k. shows_at n m k c p) (length m.rows)
 
+-- ---- acting along
+
+abbrev pub acts_by_entries : Marks → ℕ → Option Entry → Option Entry → Bool
+acts_by_entries m k a None = false
+acts_by_entries m k a (Some c) = acts_too m k a c
+
+-- where the source of place k may activate c, it activates a
+abbrev pub along_at : Marks → (k a c : ℕ) → Bool
+along_at m k a c = not (may_act m k c) || acts_by_entries m k (entry_at m k a) (entry_at m k c)
+
+-- wherever c acts, a acts too
+abbrev pub is_along : Marks → (a c : ℕ) → Bool
+is_along m a c = all_below (λ k. along_at m k a c) (length m.rows)
+
 -- ---- under a branch
 
 -- a guard whose branch may be taken is this branch

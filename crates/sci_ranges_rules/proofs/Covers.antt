@@ -4,14 +4,15 @@ use Rattle.std.proofs.lemmas.Int.{ints}
 use Rattle.std.proofs.lemmas.Bool.Decides.{nat_tests}
 use Rattle.std.specs.Prelude.{int_lt, int_le, nat_eq, unsigned_abs, option_map}
 use Rattle.sci_base.specs.declared.Ty.{Ty}
-use Rattle.sci_base.specs.Fit.{fit, int_eq, span}
+use Rattle.sci_base.specs.Fit.{InRange, fit, int_eq, span}
 use Rattle.sci_base.specs.Lists.{at, spread}
 use Rattle.sci_base.proofs.FitLemmas.{int_le_yes}
-use Rattle.sci_kinds.specs.declared.Cell.TheVariants.{Value}
+use Rattle.sci_kinds.specs.declared.Cell.{Cell}
+use Rattle.sci_kinds.specs.declared.Cell.TheVariants.{Value, Overflow, Zero}
 use Rattle.sci_forms.specs.declared.Kind.{Kind}
-use Rattle.sci_forms.specs.declared.Kind.TheVariants.{Const, Summation, GainBlk, Product, AbsValue, Signum, MaxMin, Saturation, DeadBand, Convert, Mux, Demux, Extractor, LogicalOp, RelationalOp, Shift, BitSet, BitClear, ExtractBits, Switch2, Select, Logic, AndLog, Dollar, SampHold, Register, ModuloCount, GatedDelay, Sensor, EvtDly, EvtVarDly, IfThEl, ESelect, Halt}
+use Rattle.sci_forms.specs.declared.Kind.TheVariants.{Const, Summation, GainBlk, Product, AbsValue, Signum, MaxMin, Saturation, DeadBand, Convert, Mux, Demux, Extractor, LogicalOp, RelationalOp, Shift, BitSet, BitClear, ExtractBits, Switch2, Select, Logic, AndLog, Dollar, SampHold, Register, ModuloCount, GatedDelay, Sensor}
 use Rattle.sci_forms.specs.declared.spec.Spec.{Spec}
-use Rattle.sci_forms.specs.Ports.{total, before, Fills, IsAlike}
+use Rattle.sci_forms.specs.Ports.{total, before, type_at, Fills, IsAlike}
 use Rattle.sci_forms.specs.Words.{param, in_type, out_type, size}
 use Rattle.sci_forms.specs.Form.{feeds}
 use Rattle.sci_forms.specs.Typed.{typed}
@@ -20,7 +21,7 @@ use Rattle.sci_kinds.specs.Asks.{Asks, IsState, IsMask, entering_of}
 use Rattle.sci_kinds.specs.Table.{mode_of, input, sign, brought, sum_to, least_set, row_to, fitted, cell_of, product_cell, quotient_cell, truth, relation, switches}
 use Rattle.sci_kinds.proofs.Elements.{total_one}
 use Rattle.sci_kinds.proofs.TypedLemmas.{tests, only_total}
-use Rattle.sci_kinds.proofs.Ranges.{elem, least_set_below, row_below}
+use Rattle.sci_kinds.proofs.Ranges.{elem, least_set_below, row_below, cell_in_range}
 use Rattle.sci_kinds.proofs.LawLemmas.{gate}
 use Rattle.sci_kinds.proofs.LawProofs.{asks}
 use Rattle.sci_ranges_base.specs.declared.interval.Interval.{Interval}
@@ -33,7 +34,7 @@ use Rattle.sci_ranges_base.proofs.Fitted.{fitted_has, brought_rises}
 use Rattle.sci_ranges_base.proofs.Chosen.{least_bit, some_choose_least, both_may_be, one_may_lack}
 use Rattle.sci_ranges_rules.specs.Words.{input_range, magnitudes, beyond, quotient_cells, relation_range, allows, by_sign, set_bits, kept_bits, shifted_range, turned_range, if_so, may_take_first, may_take_third}
 use Rattle.sci_ranges_rules.specs.Patterns.{patterns_of, numbers_of, extracted}
-use Rattle.sci_ranges_rules.specs.Rules.{state_range, fitted_out, exact_sums, product_cells, cells_of}
+use Rattle.sci_ranges_rules.specs.Rules.{state_range, fitted_out, exact_sums, product_cells, anything, cells_of}
 use Rattle.sci_ranges_rules.specs.Laws.{AreStates, AreFed, RuleCovers}
 use Rattle.sci_ranges_rules.proofs.Handing.{one_has, on_some_has, on_both_has, map_has, map_may, then_may, both_has, join_has, so_has, sums_have, joins_have, extremes_have}
 use Rattle.sci_ranges_rules.proofs.Arithmetic.{magnitudes_have, abs_is_fitted, sign_rises, beyond_rises, beyond_is_fitted, quotient_cells_have}
@@ -350,8 +351,16 @@ module _ (s : Spec) (xs : List Interval) (x : List ℤ) (ms : List Masks) (m : �
   sensor_covers : Covered Sensor
   sensor_covers k = k.fed.sensed 0 k.asks.2 (rw k.kind (omega (arith, k.element)))
 
-  nothing_covers : MayBe (record { values = Some (one (pos 0)); overflow = false; zero = false }) (Value (pos 0))
-  nothing_covers = one_has (pos 0)
+  -- a value of any kind is in its type, and both stops are told
+  anything_covers : (c : Kind) → Acts c s xs x ms m us u e → MayBe (anything (type_at s.outs e)) (cell_of c s x m u e)
+  anything_covers c k = by_cell (cell_of c s x m u e) refl
+    where
+      by_cell : (d : Cell) → cell_of c s x m u e ≡ d → MayBe (anything (type_at s.outs e)) d
+      by_cell (Value v) q =
+          let inside : InRange (type_at s.outs e) v = cell_in_range c s x m u k.kind k.asks k.state k.mask k.fills e v k.element q in
+          record { above = inside.above; below = inside.below }
+      by_cell Overflow q = refl
+      by_cell Zero q = refl
 
   covered : (c : Kind) → Covered c
   covered Const k = const_covers k
@@ -383,11 +392,7 @@ module _ (s : Spec) (xs : List Interval) (x : List ℤ) (ms : List Masks) (m : �
   covered ModuloCount k = counter_covers k
   covered GatedDelay k = gated_covers k
   covered Sensor k = sensor_covers k
-  covered EvtDly k = nothing_covers
-  covered EvtVarDly k = nothing_covers
-  covered IfThEl k = nothing_covers
-  covered ESelect k = nothing_covers
-  covered Halt k = nothing_covers
+  covered c k = anything_covers c k
 
 pub rule_covers : RuleCovers
 rule_covers s xs x ms m us u e h st mk f states masks fed l =

@@ -12,7 +12,7 @@ use Rattle.sci_base.specs.declared.Mode.TheVariants.{Wrap, Saturate, Stop}
 use Rattle.sci_base.specs.Fit.{InRange, low, high, span, width, wrap, in_range, int_eq}
 use Rattle.sci_base.proofs.FitLemmas.{low≤high, low+span, span-pow, wrap_bounds}
 use Rattle.sci_forms.specs.declared.Kind.{Kind}
-use Rattle.sci_forms.specs.declared.Kind.TheVariants.{Const, Summation, GainBlk, Product, AbsValue, Signum, MaxMin, Saturation, DeadBand, Convert, Mux, Demux, Extractor, LogicalOp, RelationalOp, Shift, BitSet, BitClear, ExtractBits, Switch2, Select, Logic, AndLog, Dollar, SampHold, Register, ModuloCount, GatedDelay, Sensor, EvtDly, EvtVarDly, IfThEl, ESelect, Halt}
+use Rattle.sci_forms.specs.declared.Kind.TheVariants.{Const, Summation, GainBlk, Product, AbsValue, Signum, MaxMin, Saturation, DeadBand, Convert, Mux, Demux, Extractor, LogicalOp, RelationalOp, Shift, BitSet, BitClear, ExtractBits, Switch2, Select, Logic, AndLog, Dollar, SampHold, Register, ModuloCount, GatedDelay, Sensor}
 use Rattle.sci_forms.specs.declared.spec.Spec.{Spec}
 use Rattle.sci_forms.specs.Ports.{total, type_at, IsAlike}
 use Rattle.sci_forms.specs.Typed.{typed}
@@ -35,8 +35,8 @@ use Rattle.sci_ranges_base.proofs.Numbers.{le_along, min_below, max_above}
 use Rattle.sci_ranges_rules.specs.declared.patterns.Patterns.{Patterns}
 use Rattle.sci_ranges_rules.specs.Patterns.{numbers_of}
 use Rattle.sci_ranges_rules.specs.Words.{input_range, sums, extremes, joins, if_so, quotients, quotient_cells, truth_range, logical_range, relation_range, allows, all_joined, turned_by, below_zero, from_zero, by_sign, shifted_range, turned_range}
-use Rattle.sci_ranges_rules.specs.Rules.{state_range, fitted_out, product_cells, logical_cells, cells_of}
-use Rattle.sci_ranges_rules.specs.Laws.{IsOfType, IsSomeOfType, RuleInType}
+use Rattle.sci_ranges_rules.specs.Rules.{state_range, fitted_out, product_cells, logical_cells, anything, cells_of, next_range_of}
+use Rattle.sci_ranges_rules.specs.Laws.{IsOfType, IsSomeOfType, RuleInType, NextInType}
 use Rattle.sci_ranges_rules.proofs.Covers.{one_below}
 
 -- ---- intervals that may be there
@@ -50,7 +50,7 @@ none_of t i e = cc
 pub some_of : (t : Ty) (i : Interval) → IsOfType t i → IsSomeOfType t (Some i)
 some_of t i h j e = subst (IsOfType t) (some_same i j e) h
 
-one_of : (t : Ty) (v : ℤ) → InRange t v → IsOfType t (one v)
+pub one_of : (t : Ty) (v : ℤ) → InRange t v → IsOfType t (one v)
 one_of t v h = record { least = h; greatest = h }
 
 map_of : (t r : Ty) (f : Interval → Interval) (o : Option Interval) → IsSomeOfType t o → ((i : Interval) → IsOfType t i → IsOfType r (f i)) → IsSomeOfType r (option_map f o)
@@ -68,7 +68,7 @@ hull_in t i j h k = record {
   greatest = cond_in_range t (int_lt j.greatest i.greatest) i.greatest j.greatest (λ _. h.greatest) (λ _. k.greatest);
 }
 
-join_in : (t : Ty) (o p : Option Interval) → IsSomeOfType t o → IsSomeOfType t p → IsSomeOfType t (join o p)
+pub join_in : (t : Ty) (o p : Option Interval) → IsSomeOfType t o → IsSomeOfType t p → IsSomeOfType t (join o p)
 join_in t None p h k = k
 join_in t (Some i) None h k = h
 join_in t (Some i) (Some j) h k = some_of t (hull i j) (hull_in t i j (h i refl) (k j refl))
@@ -269,6 +269,9 @@ module _ (s : Spec) (xs : List Interval) (ms : List Masks) (us : List (Option In
   one_in : (t : Ty) (v : ℤ) → InRange t v → IsSomeOfType t (Some (one v))
   one_in t v h = some_of t (one v) (one_of t v h)
 
+  any_in : (t : Ty) → IsSomeOfType t ((anything t).values)
+  any_in t = some_of t (whole t) (record { least = (ends_in t).0; greatest = (ends_in t).1 })
+
   flag_in : (t : Ty) (z : ℤ) → (z ≡ pos 0) ⊎ (z ≡ pos 1) → InRange t z
   flag_in t z (inl p) = subst (InRange t) (sym p) (zero_in_range t)
   flag_in t z (inr p) = subst (InRange t) (sym p) (truth_in t true)
@@ -334,11 +337,37 @@ module _ (s : Spec) (xs : List Interval) (ms : List Masks) (us : List (Option In
   in_type Sensor kd h a y l =
       let z : e ≡ 0 = omega (arith, element a.0.outs_alike a.0.one l, a.1) in
       subst (λ d. IsSomeOfType (type_at s.outs d) (range_at us 0)) (sym z) (y.entering 0)
-  in_type EvtDly kd h a y l = one_in (type_at s.outs e) (pos 0) (zero_in_range (type_at s.outs e))
-  in_type EvtVarDly kd h a y l = one_in (type_at s.outs e) (pos 0) (zero_in_range (type_at s.outs e))
-  in_type IfThEl kd h a y l = one_in (type_at s.outs e) (pos 0) (zero_in_range (type_at s.outs e))
-  in_type ESelect kd h a y l = one_in (type_at s.outs e) (pos 0) (zero_in_range (type_at s.outs e))
-  in_type Halt kd h a y l = one_in (type_at s.outs e) (pos 0) (zero_in_range (type_at s.outs e))
+  in_type _ kd h a y l = any_in (type_at s.outs e)
 
 pub rule_in_type : RuleInType
 rule_in_type s xs ms us e h states fed l = in_type s xs ms us e s.kind refl h (asks s h) (record { states = states; entering = fed }) l
+
+-- ---- the next state
+
+counted_in : (s : Spec) → pos 1 ≤ℤ param s 0 → (param s 0 -ℤ pos 1) ≤ℤ high (out_type s) → IsOfType (out_type s) (from_to (pos 0) (param s 0 -ℤ pos 1))
+counted_in s least most =
+    let z = zero_in_range (out_type s) in record { least = z; greatest = record { above = omega (arith, ints, z.above, least); below = most } }
+
+module _ (s : Spec) (xs : List Interval) (us : List (Option Interval)) (i : ℕ) where
+  abbrev NextTyped : Kind → Type 0
+  NextTyped c = s.kind ≡ c → Asks c s → ((j : ℕ) → IsOfType (out_type s) (state_range xs j)) → ((d : ℕ) → IsSomeOfType (type_at (entering_of c s) d) (range_at us d)) →
+      i < state_len_of c s → IsSomeOfType (out_type s) (next_range_of c s xs us i)
+
+  rest_in : IsSomeOfType (out_type s) (Some (one (pos 0)))
+  rest_in = some_of (out_type s) (one (pos 0)) (one_of (out_type s) (pos 0) (zero_in_range (out_type s)))
+
+  next_typed : (c : Kind) → NextTyped c
+  next_typed Dollar kd a states fed l =
+      subst (λ t. IsSomeOfType t (range_at us i))
+      (type_at_alike s.ins (out_type s) (size s) a.0.ins_alike i (omega (arith, l, total_one s.ins (out_type s) (size s) a.0.ins_alike a.1))) (fed i)
+  next_typed GatedDelay kd a states fed l = subst (λ t. IsSomeOfType t (range_at us i)) (a.0.first i l) (fed i)
+  next_typed Register kd a states fed l =
+      both_in (out_type s) hull (Some (state_range xs (i + 1))) (range_at us 0) (some_of (out_type s) _ (states (i + 1)))
+      (subst (λ t. IsSomeOfType t (range_at us 0))
+      (type_at_alike s.ins (out_type s) (size s) a.0.ins_alike 0 (omega (arith, a.2, total_one s.ins (out_type s) (size s) a.0.ins_alike a.1))) (fed 0))
+      (hull_in (out_type s))
+  next_typed ModuloCount kd a states fed l = some_of (out_type s) _ (counted_in s a.2 a.4)
+  next_typed _ kd a states fed l = rest_in
+
+pub next_in_type : NextInType
+next_in_type s xs us i h states fed l = next_typed s xs us i s.kind refl (asks s h) states fed l

@@ -74,3 +74,10 @@ RuleInType =
     (s : Spec) (xs : List Interval) (ms : List Masks) (us : List (Option Interval)) (e : ℕ) →
     typed s ≡ true → ((i : ℕ) → i < state_len s → IsOfType (out_type s) (state_range xs i)) → ((d : ℕ) → IsSomeOfType (type_at (entering s) d) (range_at us d)) →
     e < total s.outs → IsSomeOfType (type_at s.outs e) ((cells s xs ms us e).values)
+
+-- and so the next state
+abbrev pub NextInType : Type 0
+NextInType =
+    (s : Spec) (xs : List Interval) (us : List (Option Interval)) (i : ℕ) →
+    typed s ≡ true → ((j : ℕ) → IsOfType (out_type s) (state_range xs j)) → ((d : ℕ) → IsSomeOfType (type_at (entering s) d) (range_at us d)) →
+    i < state_len s → IsSomeOfType (out_type s) (next_range s xs us i)

@@ -1,12 +1,14 @@
 -- What each kind of block makes of intervals, element by element: beside each row of its meaning (`sci_kinds`, `Table`) the interval of the values
 -- that it may give, and the stops that may be.
-use Rattle.std.specs.Prelude.{ℕ, ◌+◌, ◌-◌, ◌*◌, ◌^◌, pos, negsuc, ◌-ℤ◌, ◌*ℤ◌, int_lt, int_le, nat_eq, if◌then◌else◌, List, length, Option, Some, option_map, option_and_then, Bool, unsigned_abs, slice_index_or}
+use Rattle.std.specs.Prelude.{ℕ, ◌+◌, ◌-◌, ◌*◌, ◌^◌, pos, negsuc, ◌-ℤ◌, ◌*ℤ◌, int_lt, int_le, nat_eq, if◌then◌else◌, List, length, Option, Some, option_map, option_and_then, Bool, true, unsigned_abs, slice_index_or}
 use Rattle.std.specs.Int.{int_min, int_max}
+use Rattle.sci_base.specs.declared.Ty.{Ty}
 use Rattle.sci_base.specs.Fit.{low, high, span, int_eq}
 use Rattle.sci_base.specs.Lists.{spread}
 use Rattle.sci_forms.specs.declared.Kind.{Kind}
-use Rattle.sci_forms.specs.declared.Kind.TheVariants.{Const, Summation, GainBlk, Product, AbsValue, Signum, MaxMin, Saturation, DeadBand, Convert, Mux, Demux, Extractor, LogicalOp, RelationalOp, Shift, BitSet, BitClear, ExtractBits, Switch2, Select, Logic, AndLog, Dollar, SampHold, Register, ModuloCount, GatedDelay, Sensor, EvtDly, EvtVarDly, IfThEl, ESelect, Halt}
+use Rattle.sci_forms.specs.declared.Kind.TheVariants.{Const, Summation, GainBlk, Product, AbsValue, Signum, MaxMin, Saturation, DeadBand, Convert, Mux, Demux, Extractor, LogicalOp, RelationalOp, Shift, BitSet, BitClear, ExtractBits, Switch2, Select, Logic, AndLog, Dollar, SampHold, Register, ModuloCount, GatedDelay, Sensor, IfThEl, ESelect}
 use Rattle.sci_forms.specs.declared.spec.Spec.{Spec}
+use Rattle.sci_forms.specs.Ports.{type_at}
 use Rattle.sci_forms.specs.Words.{param, out_type, in_type, size}
 use Rattle.sci_kinds.specs.Table.{mode_of, sign, brought}
 use Rattle.sci_ranges_base.specs.declared.interval.Interval.{Interval}
@@ -40,9 +42,14 @@ logical_cells s f =
     if int_eq (param s 1) (pos 0) then valued (option_map (logical_range (param s 0) (length s.ins)) (sums (λ k. option_map truth_range (f k)) (length s.ins)))
     else valued (option_map (λ p. numbers_of (out_type s) (turned_by (out_type s) (param s 0) p)) (all_joined (out_type s) (param s 0) f (length s.ins - 1)))
 
+-- what is told of a type where nothing better is known: all its values, and both stops
+abbrev pub anything : Ty → Cells
+anything t = record { values = Some (whole t); overflow = true; zero = true }
+
 -- ---- the table
 
--- element e of the outputs, from the intervals of the states, the masks, and the intervals of all elements of the inputs
+-- Element e of the outputs, from the intervals of the states, the masks, and the intervals of all elements of the inputs. A kind without a rule of its own has
+-- anything there; those that program events, choose branches or end the run have no outputs.
 abbrev pub cells_of : Kind → Spec → List Interval → List Masks → List (Option Interval) → ℕ → Cells
 cells_of Const s xs ms us e = valued (Some (one (spread s.params e)))
 cells_of Summation s xs ms us e = on_some (fitted_out s) (exact_sums s us e)
@@ -81,11 +88,7 @@ cells_of ModuloCount s xs ms us e = valued (Some (state_range xs 0))
 cells_of GatedDelay s xs ms us e =
     on_some (λ i. valued (join (if_so (int_lt (pos 0) i.greatest) (Some (state_range xs e))) (if_so (int_le i.least (pos 0)) (Some (one (pos 0)))))) (range_at us (size s))
 cells_of Sensor s xs ms us e = valued (range_at us 0)
-cells_of EvtDly s xs ms us e = valued (Some (one (pos 0)))
-cells_of EvtVarDly s xs ms us e = valued (Some (one (pos 0)))
-cells_of IfThEl s xs ms us e = valued (Some (one (pos 0)))
-cells_of ESelect s xs ms us e = valued (Some (one (pos 0)))
-cells_of Halt s xs ms us e = valued (Some (one (pos 0)))
+cells_of _ s xs ms us e = anything (type_at s.outs e)
 
 abbrev pub cells : Spec → List Interval → List Masks → List (Option Interval) → ℕ → Cells
 cells s xs ms us e = cells_of s.kind s xs ms us e

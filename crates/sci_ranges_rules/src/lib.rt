@@ -3,7 +3,7 @@
 //! cover the meaning, whatever states, inputs and activation inputs there are.
 #![tactic(auto)]
 
-ghost use Rattle.sci_ranges_rules.specs.Laws.{RuleCovers, NextCovers, BranchCovers, ComparedCovers, RuleInType};
+ghost use Rattle.sci_ranges_rules.specs.Laws.{RuleCovers, NextCovers, BranchCovers, ComparedCovers, RuleInType, NextInType};
 
 mod patterns;
 
@@ -33,4 +33,9 @@ pub fn compared_covers()
 /// Intervals of numbers of the types give such intervals.
 pub fn rule_in_type()
     ensures { RuleInType }
+{}
+
+/// The same of the next state.
+pub fn next_in_type()
+    ensures { NextInType }
 {}

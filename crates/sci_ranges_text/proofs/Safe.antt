@@ -25,7 +25,7 @@ stops_at n i until limit (stopped st e b word seen reach fires stop) = Spread-bl
 stops_at n i until limit (stopped_at_start b word stop) = Spread-block n _ _ stop.2.active
 
 -- a block that may stop is found among the first ones
-found : (t : Table) (count b : ℕ) → 1 ≤ b → b ≤ count → (t.stops b Overflow || t.stops b Zero) ≡ true → may_stop t count ≡ true
+pub found : (t : Table) (count b : ℕ) → 1 ≤ b → b ≤ count → (t.stops b Overflow || t.stops b Zero) ≡ true → may_stop t count ≡ true
 found t zero b least most h = absurd (omega (arith, least, most))
 found t (suc k) b least most h = elim (cases_lt k b) [
   | inl p ↦

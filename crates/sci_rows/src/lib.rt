@@ -6,9 +6,6 @@
 
 ghost use Rattle.sci_rows.specs.Laws.{OriginLaw};
 
-/// The least and the greatest of the kinds that the rows of meanings are of.
-pub const KINDS: (u8, u8) = (1, 34);
-
 /// Every typed spec is what the check gives of some fields.
 pub fn origin_law()
     ensures { OriginLaw }

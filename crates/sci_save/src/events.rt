@@ -8,7 +8,7 @@ ghost use Rattle.sci_save.specs.Reading.{Gives, befores, is_port, free_place, ev
 use crate::bounds::Bounds;
 use crate::line::line;
 use crate::stop::LineStop;
-use sci_base::NoMemory;
+use sci_base::{NoMemory, limits};
 use sci_net::{Net, Source};
 use sci_text::after_text;
 use std::alloc::Global;
@@ -121,7 +121,7 @@ pub fn pending<'a>(
 {
     let before = sources_before(alloc, net)?;
     let mut marks = vec![in alloc; false; net.source_count() as usize]?;
-    let near = now + 2_147_483_647;
+    let near = now + limits::DELAY as u64;
     let mut events = Vec::new(alloc);
     let mut last = now;
     let mut rest = bytes;

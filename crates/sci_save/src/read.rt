@@ -12,6 +12,7 @@ use crate::line::line;
 use crate::rows::{firsts, rows};
 use crate::stop::LineStop;
 use crate::{Image, SaveStop};
+use sci_base::limits;
 use sci_net::Net;
 use sci_trace::inputs::Inputs;
 use std::alloc::Global;
@@ -20,11 +21,11 @@ use std::alloc::Global;
 const STANDS: [Bounds; 2] = [
     Bounds {
         low: 0,
-        high: 1_000_000,
+        high: limits::EVENTS as i64,
     },
     Bounds {
         low: 0,
-        high: 4_611_686_018_427_387_904,
+        high: limits::TICKS as i64,
     },
 ];
 

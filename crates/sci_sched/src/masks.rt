@@ -80,7 +80,8 @@ fn push_run(
     requires from { from ≤ length branches.now }
     ensures end { IfOk result (λ at. EndsRun branches.now from condition at) }
     ensures guards { IfOk result (λ at. (possible : List ℕ) → Contains possible condition
-        → AreGuards net.now possible (take from branches.now) block guards.old.items → AreGuards net.now possible (take at branches.now) block guards.new.items) }
+        → AreGuards net.now possible (take from branches.now) block guards.old.items
+        → AreGuards net.now possible (take at branches.now) block guards.new.items) }
 {
     let mut at = from;
     while at < branches.len() && branches[at].block == condition {

@@ -111,7 +111,8 @@ fn ordered(
     }
 }
 
-// The outline of the source at this place, by how many guards each block gives. The walk is over all numbers, and there is a depth for each; what they hold does not count.
+// The outline of the source at this place, by how many guards each block gives. The walk is over all numbers, and there is a depth for each; what they
+// hold does not count.
 fn outline_of(
     alloc: Global,
     net: &Net,

@@ -1,12 +1,10 @@
 // A net that is ready to run, and its run.
 ghost use Rattle.std.specs.Prelude.{◌≡◌, ℕ, ◌+◌, ◌-◌, ◌<◌, ◌≤◌, ◌↔◌, List, length, true, None, IfOk, if◌then◌else◌, AllPairs, Contains};
 ghost use Rattle.sci_base.specs.declared.limits.TheConstants.{TICKS, EVENTS};
-ghost use Rattle.sci_base.specs.Lists.{at};
 ghost use Rattle.sci_base.specs.declared.observation.Obs.{Obs};
 ghost use Rattle.sci_io.specs.Taken.{Writes};
 ghost use Rattle.sci_trace.specs.Lines.{text};
-ghost use Rattle.sci_forms.specs.Ports.{total};
-ghost use Rattle.sci_net.specs.Parts.{IsBlock, spec_of};
+ghost use Rattle.sci_net.specs.Parts.{IsBlock};
 ghost use Rattle.sci_reaction.specs.Active.{Possible};
 ghost use Rattle.sci_reaction.specs.Memory.{AreColumns};
 ghost use Rattle.sci_sched.specs.Plain.{rows_of};
@@ -66,7 +64,7 @@ impl Model for Ready {
 }
 
 impl Ready {
-    ghost use Rattle.sci_places.specs.Flat.{values_at};
+    ghost use Rattle.sci_places.specs.Flat.{values_at, IsWhole};
     ghost use Rattle.sci_store.specs.Marks.{mark_at};
     ghost use Rattle.sci_store.specs.Frame.{AreSeated};
     ghost use Rattle.sci_store.specs.Rows.{HasBegun};
@@ -277,15 +275,14 @@ impl Ready {
         unreachable!()
     }
 
-    /// A value that a block's outputs hold, the elements of all of them counted from 1. The run hasn't stopped.
-    pub fn held(&self, block: u32, element: u32) -> i64
-        requires block { IsBlock self.now.fixed.net block }
-        requires least { 1 ≤ element }
-        requires most { element ≤ total (spec_of self.now.fixed.net block).outs }
-        ensures value { result ≡ at (values_at self.entry.now.fixed.net self.entry.now.store.values block) (element - 1) }
-        ensures held { (banks : List Meaning) (st : State) → IsAt self.entry.now banks st → result ≡ at (st.memory.held block) (element - 1) }
+    /// The values that the outputs of all blocks hold, by block, port and element.
+    pub fn values(&self) -> &[i64]
+        ensures values { result.now ≡ self.entry.now.store.values }
+        ensures whole { IsWhole self.entry.now.fixed.net result.now }
+        ensures held { (banks : List Meaning) (st : State) → IsAt self.entry.now banks st → (b : ℕ) → IsBlock self.entry.now.fixed.net b
+            → values_at self.entry.now.fixed.net result.now b ≡ st.memory.held b }
     {
-        self.kept.value(block, element)
+        self.kept.values()
     }
 
     /// The net.

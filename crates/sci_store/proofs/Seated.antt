@@ -7,7 +7,7 @@ use Rattle.std.proofs.lemmas.Grind.{get_or-set_at}
 use Rattle.sci_forms.specs.declared.Kind.{Kind}
 use Rattle.sci_forms.specs.declared.spec.Spec.{Spec}
 use Rattle.sci_forms.specs.Form.{is_sync}
-use Rattle.sci_forms.specs.Numbers.{kind_at}
+use Rattle.sci_forms.specs.Numbers.{kind_at, kinds}
 use Rattle.sci_net.specs.declared.Source.{Source}
 use Rattle.sci_net.specs.declared.Source.TheVariants.{Start, Port}
 use Rattle.sci_net.specs.Parts.{Parts, numbered, spec_of, no_spec, rows_of}
@@ -91,7 +91,7 @@ reset_past banks n h e = record {
           absurd (e k (ap kind_at (sym is) ∙ at_place banks k h.full h.in_order))
     ]
 
-pub reset_all : (banks : List Meaning) (n : ℕ) → AreResetTo n banks → 35 ≤ n → AreReset banks
+pub reset_all : (banks : List Meaning) (n : ℕ) → AreResetTo n banks → kinds + 1 ≤ n → AreReset banks
 reset_all banks n h l = record {
   full = h.full;
   in_order = h.in_order;

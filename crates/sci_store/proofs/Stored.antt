@@ -1,9 +1,9 @@
 -- The values that the blocks hold before the run.
-use Rattle.std.proofs.Common.{◌≡◌, ℕ, zero, suc, ◌+◌, ◌-◌, ◌<◌, ◌≤◌, ℤ, pos, List, [], ◌∷◌, ◌++◌, length, get_or, take, drop, refl, ap, sym, ◌∙◌, subst, arith, inl, inr, length-append, length-drop, append_assoc}
+use Rattle.std.proofs.Common.{◌≡◌, ℕ, zero, suc, ◌+◌, ◌-◌, ◌<◌, ◌≤◌, ℤ, List, [], ◌∷◌, ◌++◌, length, get_or, take, drop, refl, ap, sym, ◌∙◌, subst, arith, inl, inr, length-append, length-drop, append_assoc}
 use Rattle.std.proofs.Math.ListN.{replicate}
 use Rattle.std.proofs.lemmas.Bool.{cases_lt}
-use Rattle.std.proofs.lemmas.List.{drop_at, take_all, take-append-le, drop-append-le, get_or-take, get_or-drop, get_or-replicate, get_or_default}
-use Rattle.sci_base.specs.Lists.{at, listed}
+use Rattle.std.proofs.lemmas.List.{drop_at, take_all, take-append-le, drop-append-le, get_or-replicate}
+use Rattle.sci_base.specs.Lists.{listed}
 use Rattle.sci_forms.specs.declared.spec.Spec.{Spec}
 use Rattle.sci_forms.specs.Ports.{total}
 use Rattle.sci_kinds.specs.Table.{first_held}
@@ -14,7 +14,6 @@ use Rattle.sci_net.specs.Net.{all_elements}
 use Rattle.sci_reaction.specs.Memory.{first_memory}
 use Rattle.sci_places.specs.Flat.{start_in, start_of, values_at, IsWhole}
 use Rattle.sci_places.proofs.Lists.{start_apart}
-use Rattle.sci_places.proofs.Outputs.{block_within}
 use Rattle.sci_places.proofs.Placed.{start_after}
 
 pub start_all : (ss : List Spec) → start_in ss (length ss) ≡ all_elements ss
@@ -81,26 +80,6 @@ held_whole n k values e h = h.long ∙ (ap (start_in n.specs) e ∙ start_all n.
 pub held_all : (n : Parts) (k : ℕ) (values : List ℤ) → k ≡ length n.specs → AreHeldTo n k values → (b : ℕ) → IsBlock n b
     → values_at n values b ≡ (first_memory n).held b
 held_all n k values e h b block = h.held b block.least (omega (arith, block.most, e))
-
--- an element of a block's values
-pub value_read : (n : Parts) (values : List ℤ) (b e : ℕ) → IsWhole n values → IsBlock n b → 1 ≤ e → e ≤ total (spec_of n b).outs
-    → get_or values (start_of n b + e - 1) (pos 0) ≡ at (values_at n values b) (e - 1)
-value_read n values b e w h least most =
-    let f : start_of n b + e - 1 ≡ start_of n b + (e - 1) = omega (arith, least) in
-    ap (λ i. get_or values i (pos 0)) f
-    ∙ (sym (get_or-drop (start_of n b) values (e - 1) (pos 0))
-    ∙ sym (get_or-take (total (spec_of n b).outs) (drop (start_of n b) values) (e - 1) (pos 0) (omega (arith, least, most))))
-
--- the same, of the list that is kept
-pub value_kept : (n : Parts) (values xs : List ℤ) (b e start : ℕ) (r : ℤ) → IsWhole n values → IsBlock n b → 1 ≤ e → e ≤ total (spec_of n b).outs
-    → xs ≡ values → start ≡ start_of n b
-    → r ≡ get_or xs (start + e - 1) r → r ≡ at (values_at n values b) (e - 1)
-value_kept n values xs b e start r w h least most same begins is =
-    let fits = block_within n b h in
-    let long = ap length same in
-    is
-    ∙ (get_or_default xs (start + e - 1) r (pos 0) (omega (arith, fits, long, w, least, most, begins))
-    ∙ (ap (λ ys. get_or ys (start + e - 1) (pos 0)) same ∙ (ap (λ i. get_or values (i + e - 1) (pos 0)) begins ∙ value_read n values b e w h least most)))
 
 -- one more value of a block
 pub listed_more : (f : ℕ → ℤ) (front xs new : List ℤ) (k : ℕ) (v : ℤ) → xs ≡ front ++ listed f k → v ≡ f k → new ≡ xs ++ v ∷ [] → new ≡ front ++ listed f (k + 1)

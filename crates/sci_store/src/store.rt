@@ -4,7 +4,6 @@ ghost use Rattle.std.specs.Prelude.{OnOk, OnErr};
 ghost use Rattle.sci_base.specs.Lists.{at, listed};
 ghost use Rattle.sci_io.specs.Taken.{Writes};
 ghost use Rattle.sci_trace.specs.Lines.{line, text};
-ghost use Rattle.sci_forms.specs.Ports.{total};
 ghost use Rattle.sci_forms.specs.Form.{has_delay};
 ghost use Rattle.sci_kinds.specs.Asks.{IsMask, IsState};
 ghost use Rattle.sci_forms.specs.Words.{held_of};
@@ -151,6 +150,13 @@ impl Store {
         &self.values[place.start..place.start + place.len]
     }
 
+    /// The values that the outputs of all blocks hold, by block, port and element.
+    pub fn values(&self) -> &[i64]
+        ensures { result.now ≡ self.now.values }
+    {
+        &self.values
+    }
+
     /// How many values of its column each sensor has taken, by block; 0 for a block that is no sensor.
     pub fn cursors(&self) -> &[usize]
         ensures { result.now ≡ self.now.cursors }
@@ -176,17 +182,6 @@ impl Store {
         write_obs(o, out)?;
         self.tally.count();
         Ok(())
-    }
-
-    /// A value of a block's outputs, the elements of all of them counted from 1.
-    pub fn value(&self, frame: &Frame, block: u32, element: u32) -> i64
-        requires store { IsStore frame.now self.now }
-        requires block { IsBlock frame.now.net block }
-        requires least { 1 ≤ element }
-        requires most { element ≤ total (spec_of frame.now.net block).outs }
-        ensures { result ≡ at (values_at frame.now.net self.now.values block) (element - 1) }
-    {
-        self.values[frame.places.outs(block).start + element as usize - 1]
     }
 
     /// Whether the last reaction activated the block.

@@ -1,5 +1,5 @@
 -- Writing a dump tick by tick, from values that are noted on the way.
-use Rattle.std.specs.Prelude.{◌≡◌, ℕ, ◌+◌, ◌-◌, ◌*◌, ◌/◌, min, ◌<◌, ◌≤◌, ℤ, pos, List, [], ◌∷◌, ◌++◌, take, drop, length, slice_set, slice_index_or, replicate, Option, Some, None, Bool, true, false, nat_lt, if◌then◌else◌}
+use Rattle.std.specs.Prelude.{◌≡◌, ℕ, ◌+◌, ◌-◌, ◌*◌, ◌/◌, min, ◌<◌, ◌≤◌, ℤ, pos, List, [], ◌∷◌, ◌++◌, take, drop, length, slice_index_or, replicate, Option, Some, None, Bool, true, false, nat_lt, if◌then◌else◌}
 use Rattle.sci_base.specs.Fit.{in_range, int_eq}
 use Rattle.sci_net.specs.Parts.{Parts}
 use Rattle.sci_vcd.specs.declared.signal.Signal.{Signal}
@@ -62,9 +62,9 @@ pub record IsOutset (n : Parts) (o : Writing) : Type 0 where
   pub noted : (k : ℕ) → first_of o.noted k ≡ pos 0
   pub closed : o.closed ≡ None
 
--- signal k is noted to have this value
-abbrev pub with_note : Writing → ℕ → ℤ → Writing
-with_note o k v = record o { noted = slice_set o.noted (k - 1) v }
+-- the signals behind the first k are noted to have these values
+abbrev pub with_notes : Writing → (k : ℕ) → List ℤ → Writing
+with_notes o k vs = record o { noted = take k o.noted ++ (vs ++ drop (k + length vs) o.noted) }
 
 -- ---- closing a tick
 

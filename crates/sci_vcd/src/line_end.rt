@@ -36,6 +36,17 @@ fn put_end(text: &mut [u8; ROOM], number: u64) -> usize
     word_before(text, at, " v")
 }
 
+/// Fills a text with an array. A copy of a slice would ask each time whether the two overlap.
+fn fill_with(text: &mut [u8], bytes: &[u8; ROOM])
+    requires { length text.old ≡ 24 }
+    ensures { text.new ≡ bytes.now }
+{
+    let Some(room) = text.as_mut_array() else {
+        unreachable!()
+    };
+    *room = *bytes;
+}
+
 /// An array before the bytes from `end` on, and where it begins.
 fn array_before(line: &mut [u8], end: usize, bytes: &[u8; ROOM]) -> usize
     requires room { 24 ≤ end }
@@ -44,7 +55,7 @@ fn array_before(line: &mut [u8], end: usize, bytes: &[u8; ROOM]) -> usize
     ensures start { result + 24 ≡ end }
 {
     let start = end - ROOM;
-    line[start..end].copy_from_slice(bytes);
+    fill_with(&mut line[start..end], bytes);
     start
 }
 

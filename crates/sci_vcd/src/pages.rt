@@ -1,6 +1,6 @@
 // Old and new values of all signals, by pages of 32 of which some are marked: those of the others are the same.
 
-ghost use Rattle.std.specs.Prelude.{◌≡◌, ℕ, ◌≤◌, ◌<◌, ◌*◌, ◌+◌, min, drop, length, IfOk, All, false};
+ghost use Rattle.std.specs.Prelude.{◌≡◌, ℕ, ◌≤◌, ◌<◌, ◌*◌, ◌/◌, ◌^◌, ◌+◌, ◌++◌, min, take, drop, length, slice_index_or, IfOk, All, true, false};
 ghost use Rattle.sci_base.specs.declared.limits.TheConstants.{ALL_ELEMENTS};
 ghost use Rattle.sci_io.specs.Taken.{Writes};
 ghost use Rattle.sci_text.specs.Lines.{joined};
@@ -124,6 +124,28 @@ pub fn put_changes<S: Sink>(
         last = put_any_page(signals, old, new, marked, page, last, tick, out)?;
     }
     Ok(())
+}
+
+/// Puts values in place of others, from a place on.
+pub fn note_from(noted: &mut [i64], start: usize, values: &[i64])
+    requires { start + length values.now ≤ length noted.old }
+    ensures { noted.new ≡ take start noted.old ++ (values.now ++ drop (start + length values.now) noted.old) }
+{
+    noted[start..start + values.len()].copy_from_slice(values);
+}
+
+/// Marks the pages of the values from one place to before another.
+pub fn mark_pages(marked: &mut [bool], start: usize, end: usize)
+    requires order { start ≤ end }
+    requires within { end ≤ 32 * length marked.old }
+    requires small { 32 * length marked.old < 2 ^ 32 }
+    ensures marked { (k : ℕ) → start ≤ k → k < end → slice_index_or marked.new (k / 32) false ≡ true }
+    ensures kept { (page : ℕ) → slice_index_or marked.new page false ≡ false → slice_index_or marked.old page false ≡ false }
+    ensures len { length marked.new ≡ length marked.old }
+{
+    for page in start / PAGE..(end + PAGE - 1) / PAGE {
+        marked[page] = true;
+    }
 }
 
 /// The new values of a page in place of the old.

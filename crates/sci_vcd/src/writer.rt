@@ -1,14 +1,14 @@
 // Writing a dump as a net runs.
 
-ghost use Rattle.std.specs.Prelude.{◌≡◌, ◌≤◌, ◌+◌, ◌-◌, true, length, slice_index_or, IfOk, OnOk, OnErr};
+ghost use Rattle.std.specs.Prelude.{◌≡◌, ℕ, ◌≤◌, ◌<◌, ◌+◌, ◌-◌, true, pos, length, slice_index_or, IfOk, OnOk, OnErr};
 ghost use Rattle.sci_base.specs.declared.limits.TheConstants.{TICKS};
 ghost use Rattle.sci_base.specs.Fit.{in_range};
 ghost use Rattle.sci_io.specs.Taken.{Writes};
 ghost use Rattle.sci_vcd.specs.Waveforms.{type_of};
-ghost use Rattle.sci_vcd.specs.Writing.{IsWriting, IsOutset, unwritten, MayClose, with_note, closed_at, tick_text};
+ghost use Rattle.sci_vcd.specs.Writing.{IsWriting, IsOutset, unwritten, MayClose, with_notes, closed_at, tick_text};
 
 use crate::net_signals::net_signals;
-use crate::pages::{PAGE, put_changes, settle};
+use crate::pages::{PAGE, mark_pages, note_from, put_changes, settle};
 use crate::put::put_head;
 use crate::signal_lines::SignalLines;
 use sci_base::NoMemory;
@@ -73,13 +73,6 @@ impl VcdOut {
         let _starts = self.starts.len();
     }
 
-    /// How many blocks the net has, at most 2,048.
-    pub fn blocks(&self) -> u32
-        ensures { result + 1 ≡ length self.now.starts }
-    {
-        self.starts.len() as u32 - 1
-    }
-
     /// How many signals stand before those of a block; for the number behind the last block, how many there are.
     pub fn before(&self, block: u32) -> u32
         requires least { 1 ≤ block }
@@ -89,16 +82,18 @@ impl VcdOut {
         self.starts[block as usize - 1]
     }
 
-    /// Notes that a signal has this value, which is one of its type, from the tick on that is closed next.
-    pub fn note(&mut self, signal: u32, value: i64)
-        requires least { 1 ≤ signal }
-        requires most { signal ≤ length self.old.signals }
-        requires fits { in_range (type_of self.old.signals signal) value ≡ true }
-        ensures { self.new ≡ with_note self.old signal value }
+    /// Notes that the signals behind the first `before` have these values, each one of its signal's type, from the tick on that is closed next.
+    pub fn note_values(&mut self, before: u32, values: &[i64])
+        requires within { before + length values.now ≤ length self.old.signals }
+        requires fits { (k : ℕ) → k < length values.now → in_range (type_of self.old.signals (before + k + 1)) (slice_index_or values.now k (pos 0)) ≡ true }
+        ensures { self.new ≡ with_notes self.old before values.now }
     {
-        let at = signal as usize - 1;
-        self.noted[at] = value;
-        self.marked[at / PAGE] = true;
+        if values.is_empty() {
+            return;
+        }
+        let start = before as usize;
+        note_from(&mut self.noted, start, values);
+        mark_pages(&mut self.marked, start, start + values.len());
     }
 
     // Writes what is due for a tick.

@@ -1,8 +1,8 @@
 -- Values of blocks that are noted one after another.
-use Rattle.std.proofs.Common.{◌≡◌, ◌≢◌, ℕ, zero, suc, ◌+◌, ◌-◌, ◌<◌, ◌≤◌, ℤ, pos, List, [], ◌∷◌, ◌++◌, take, drop, length, get_or, set, Bool, true, false, ◌⊎◌, inl, inr, refl, sym, ap, ◌∙◌, subst, arith, append_assoc, length-append}
+use Rattle.std.proofs.Common.{◌≡◌, ℕ, zero, suc, ◌+◌, ◌-◌, ◌<◌, ◌≤◌, ℤ, pos, List, [], ◌∷◌, ◌++◌, take, drop, length, get_or, Bool, true, false, ◌⊎◌, inl, inr, refl, sym, ap, ◌∙◌, subst, arith, append-nil}
 use Rattle.std.specs.Prelude.{nat_eq, nat_lt, if◌then◌else◌, Contains, ◌↔◌}
-use Rattle.std.proofs.lemmas.Bool.{cases_lt, cond-true, cond-false, lt-ltb, le-ltb, cases_Bool, eqb-true, eqb-false}
-use Rattle.std.proofs.lemmas.List.{set_at, drop_more, take_more, length-take, get_or_push, get_or_append_left, take_all, take-append-drop, get_or_default}
+use Rattle.std.proofs.lemmas.Bool.{cases_lt, cond-true, cond-false, lt-ltb, le-ltb, cases_Bool}
+use Rattle.std.proofs.lemmas.List.{length-drop, length-take-le, drop-drop, drop_all, drop_at, drop-append-le, take-append-le, get_or_push, get_or_append_left, get_or_default, get_or-drop, get_or-take}
 use Rattle.std.proofs.lemmas.List.Elements.{Contains-get_or}
 use Rattle.std.proofs.Math.Seq.{get_or-append_right}
 use Rattle.sci_base.specs.declared.Ty.{Ty}
@@ -17,16 +17,17 @@ use Rattle.sci_net.specs.Net.{IsNet, all_elements}
 use Rattle.sci_net.proofs.Numbered.{numbered_next}
 use Rattle.sci_places.specs.Flat.{start_in, start_of, values_at, IsWhole}
 use Rattle.sci_span.specs.Values.{overwritten}
-use Rattle.sci_places.proofs.Outputs.{outputs_law, block_within}
+use Rattle.sci_places.proofs.Lists.{written_length, kept_before, kept_behind, read_within}
+use Rattle.sci_places.proofs.Outputs.{block_within, blocks_apart}
 use Rattle.sci_span.proofs.Runs.{read_length}
 use Rattle.sci_vcd.specs.declared.signal.Signal.{Signal}
 use Rattle.sci_vcd.specs.Waveforms.{no_signal, type_of as signal_type}
 use Rattle.sci_vcd.specs.Reading.{signal_by}
 use Rattle.sci_vcd.specs.Signals.{element_signals, output_signals, block_signals, signals_of, before_block}
-use Rattle.sci_vcd.specs.Writing.{Writing, IsWriting, with_note, closed_at}
+use Rattle.sci_vcd.specs.Writing.{Writing, IsWriting, closed_at}
 use Rattle.sci_wave.specs.Following.{moved_to}
 use Rattle.sci_vcd.proofs.OfNet.{element_signals_length, output_signals_length, all_elements_next, net_signals}
-use Rattle.sci_wave.specs.Noted.{IsOf, IsMemoryThere, holds_there, with_block}
+use Rattle.sci_wave.specs.Noted.{IsOf, IsMemoryThere, IsActiveRun, AreNotedTo, holds_there, holds_between}
 use Rattle.sci_net.specs.declared.Source.{Source}
 use Rattle.sci_reaction.specs.Active.{Possible}
 use Rattle.sci_reaction.proofs.Spreading.{Spread-block}
@@ -127,160 +128,217 @@ type_there n o b i k h block within is =
     ∙ block_type 1 n.specs (b - 1) i (omega (arith, least, most)) (subst (λ (s : Spec). i < total s.outs) spec within)
     ∙ ap (λ (s : Spec). type_at s.outs i) (sym spec)
 
--- a value that a block holds is one of its signal's type
-pub fits_there : (n : Parts) (o : Writing) (b i k : ℕ) (vs : List ℤ) (v : ℤ) → IsOf n o → IsBlock n b → Fills (spec_of n b).outs vs → i < total (spec_of n b).outs → k ≡ (start_of n b + i) + 1 → v ≡ at vs i
-    → in_range (signal_type o.signals k) v ≡ true
-fits_there n o b i k vs v h block fills within is v_is =
-    let r = fills.in_range i within in
-    subst (λ (t : Ty). in_range t v ≡ true) (sym (type_there n o b i k h block within is)) (subst (λ (x : ℤ). in_range (type_at (spec_of n b).outs i) x ≡ true) (sym v_is) (in_range_yes (type_at (spec_of n b).outs i) (at vs i) r.above r.below))
+-- ---- the values of all blocks are those of the signals
 
--- ---- a block's values, one by one
+-- each is one of its signal's type
+values_fit : (b : ℕ) (ss : List Spec) (vs : List ℤ) (i : ℕ) → ((k : ℕ) → k < length ss → Fills (get_or ss k no_spec).outs (take (total (get_or ss k no_spec).outs) (drop (start_in ss k) vs))) → i < all_elements ss
+    → in_range (get_or (block_signals b ss) i no_signal).ty (get_or vs i (pos 0)) ≡ true
+values_fit b [] vs i h within = absurd (omega (arith, within))
+values_fit b (s ∷ ss) vs i h within =
+    let fills : Fills s.outs (take (total s.outs) vs) = h 0 (omega arith) in
+    elim (cases_lt i (total s.outs)) [
+      | inl lower ↦
+          let none : 0 + i ≡ i = omega arith in
+          let r = fills.in_range i lower in
+          let ty = ap (λ (j : ℕ). (get_or (block_signals b (s ∷ ss)) j no_signal).ty) (sym none) ∙ block_type b (s ∷ ss) 0 i (omega arith) lower in
+          subst (λ (t : Ty). in_range t (get_or vs i (pos 0)) ≡ true) (sym ty)
+          (subst (λ (v : ℤ). in_range (type_at s.outs i) v ≡ true) (get_or-take (total s.outs) vs i (pos 0) lower)
+          (in_range_yes (type_at s.outs i) (at (take (total s.outs) vs) i) r.above r.below))
+      | inr above ↦
+          let os = output_signals_length b 1 s.outs in
+          let e : total s.outs + (i - total s.outs) ≡ i = omega (arith, above) in
+          let f : i - length (output_signals b 1 s.outs) ≡ i - total s.outs = omega (arith, os) in
+          let rest : (k : ℕ) → k < length ss → Fills (get_or ss k no_spec).outs (take (total (get_or ss k no_spec).outs) (drop (start_in ss k) (drop (total s.outs) vs))) =
+          λ k g. subst (λ (l : List ℤ). Fills (get_or ss k no_spec).outs (take (total (get_or ss k no_spec).outs) l)) (sym (drop-drop (start_in ss k) (total s.outs) vs)) (h (suc k) (omega (arith, g))) in
+          subst (λ (g : Signal). in_range g.ty (get_or vs i (pos 0)) ≡ true)
+          (sym (get_or-append_right (output_signals b 1 s.outs) (block_signals (b + 1) ss) i no_signal (omega (arith, os, above)) ∙ ap (λ (j : ℕ). get_or (block_signals (b + 1) ss) j no_signal) f))
+          (subst (λ (v : ℤ). in_range (get_or (block_signals (b + 1) ss) (i - total s.outs) no_signal).ty v ≡ true) (get_or-drop (total s.outs) vs (i - total s.outs) (pos 0) ∙ ap (λ (j : ℕ). get_or vs j (pos 0)) e)
+          (values_fit (b + 1) ss (drop (total s.outs) vs) (i - total s.outs) rest (omega (arith, within, above))))
+    ]
 
-pub values_length : (n : Parts) (values : List ℤ) (b : ℕ) → IsWhole n values → IsBlock n b → length (values_at n values b) ≡ total (spec_of n b).outs
-values_length n values b w block = let f = outputs_law.within n values b w block in read_length values (start_of n b) (total (spec_of n b).outs) f
+block_fills : (r : Running) → IsMemoryThere r → (k : ℕ) → k < length r.fixed.net.specs
+    → Fills (get_or r.fixed.net.specs k no_spec).outs (take (total (get_or r.fixed.net.specs k no_spec).outs) (drop (start_in r.fixed.net.specs k) r.store.values))
+block_fills r fits k within =
+    let n = r.fixed.net in
+    let e : (k + 1) - 1 ≡ k = omega arith in
+    subst (λ (i : ℕ). Fills (get_or n.specs k no_spec).outs (take (total (get_or n.specs k no_spec).outs) (drop (start_in n.specs i) r.store.values))) e
+    (subst (λ (s : Spec). Fills s.outs (take (total s.outs) (drop (start_of n (k + 1)) r.store.values))) (numbered_next no_spec n.specs k)
+    (fits (k + 1) (record { least = omega arith; most = omega (arith, within) })))
 
-overwritten_none : (xs : List ℤ) (start : ℕ) → xs ≡ overwritten xs start []
-overwritten_none xs start = let e : start ≡ start + 0 = omega arith in sym (take-append-drop start xs) ∙ ap (λ (k : ℕ). take start xs ++ drop k xs) e
+pub value_fits : (r : Running) (o : Writing) (i k : ℕ) (v : ℤ) → IsOf r.fixed.net o → IsMemoryThere r → i < all_elements r.fixed.net.specs → k ≡ i + 1 → v ≡ at r.store.values i → in_range (signal_type o.signals k) v ≡ true
+value_fits r o i k v of fits within k_is v_is =
+    let n = r.fixed.net in
+    let one : k - 1 ≡ i = omega (arith, k_is) in
+    subst (λ (gs : List Signal). in_range (signal_type gs k) v ≡ true) (sym of.signals)
+    (subst (λ (j : ℕ). in_range (get_or (signals_of n) j no_signal).ty v ≡ true) (sym one)
+    (subst (λ (x : ℤ). in_range (get_or (signals_of n) i no_signal).ty x ≡ true) (sym v_is) (values_fit 1 n.specs r.store.values i (block_fills r fits) within)))
 
-pub nothing_noted : (n : Parts) (o : Writing) (b : ℕ) → o ≡ with_block n o b []
-nothing_noted n o b = ap (λ (vs : List ℤ). record o { noted = vs }) (overwritten_none o.noted (start_of n b))
+pub all_placed : (vs xs : List ℤ) → length vs ≡ length xs → take 0 xs ++ (vs ++ drop (0 + length vs) xs) ≡ vs
+all_placed vs xs long = ap (λ (l : List ℤ). vs ++ l) (drop_all (0 + length vs) xs (omega (arith, long))) ∙ append-nil vs
 
-overwritten_more : (xs vs : List ℤ) (start k j : ℕ) (v : ℤ) → start + length vs ≤ length xs → k < length vs → j ≡ start + k → v ≡ get_or vs k (pos 0)
-    → set (overwritten xs start (take k vs)) j v ≡ overwritten xs start (take (k + 1) vs)
-overwritten_more xs vs start k j v room within is v_is =
-    let us = take k vs in
-    let lu : length us ≡ k = (let t = length-take k vs in omega (arith, t, within)) in
-    let lm : length (take (k + 1) vs) ≡ k + 1 = (let t = length-take (k + 1) vs in omega (arith, t, within)) in
-    let ls : length (take start xs) ≡ start = (let t = length-take start xs in omega (arith, t, room)) in
-    let rest = drop (start + k + 1) xs in
-    let place : drop (start + length us) xs ≡ get_or xs (start + k) (pos 0) ∷ rest = ap (λ (i : ℕ). drop (start + i) xs) lu ∙ drop_more xs (start + k) (pos 0) (omega (arith, room, within)) in
-    let here : length (take start xs ++ us) ≡ j = (let l = length-append (take start xs) us in omega (arith, l, ls, lu, is)) in
-    let behind : start + k + 1 ≡ start + length (take (k + 1) vs) = omega (arith, lm) in
-    ap (λ (l : List ℤ). set (take start xs ++ (us ++ l)) j v) place
-    ∙ ap (λ (l : List ℤ). set l j v) (sym (append_assoc (take start xs) us (get_or xs (start + k) (pos 0) ∷ rest)))
-    ∙ set_at (take start xs ++ us) (get_or xs (start + k) (pos 0)) rest v j here
-    ∙ append_assoc (take start xs) us (v ∷ rest)
-    ∙ ap (λ (l : List ℤ). take start xs ++ l) (sym (append_assoc us (v ∷ []) rest) ∙ ap (λ (l : List ℤ). l ++ rest) (ap (λ (x : ℤ). us ++ x ∷ []) v_is ∙ sym (take_more vs k (pos 0) within)))
-    ∙ ap (λ (i : ℕ). take start xs ++ (take (k + 1) vs ++ drop i xs)) behind
+pub only_noted : (o p : Writing) (vs : List ℤ) → p ≡ record o { noted = vs } → p ≡ record o { noted = p.noted }
+only_noted o p vs e = e ∙ ap (λ (l : List ℤ). record o { noted = l }) (sym (ap (λ (q : Writing). q.noted) e))
 
-pub note_more : (n : Parts) (o p : Writing) (b k j : ℕ) (vs : List ℤ) (v : ℤ) → start_of n b + length vs ≤ length o.noted → k < length vs → j ≡ (start_of n b + k) + 1 → v ≡ get_or vs k (pos 0)
-    → p ≡ with_block n o b (take k vs) → with_note p j v ≡ with_block n o b (take (k + 1) vs)
-note_more n o p b k j vs v room within is v_is e =
-    ap (λ (q : Writing). with_note q j v) e ∙ ap (λ (l : List ℤ). record o { noted = l }) (overwritten_more o.noted vs (start_of n b) k (j - 1) v room within (omega (arith, is)) v_is)
+-- ---- the values of a run of blocks in place of others
 
-pub all_noted : (n : Parts) (o : Writing) (b k : ℕ) (vs : List ℤ) → length vs ≤ k → with_block n o b (take k vs) ≡ with_block n o b vs
-all_noted n o b k vs h = ap (λ (l : List ℤ). with_block n o b l) (take_all k vs h)
+pub run_ordered : (n : Parts) (b l : ℕ) → IsBlock n b → IsBlock n l → b ≤ l → start_of n b ≤ start_of n l + total (spec_of n l).outs
+run_ordered n b l first last order = elim (cases_lt b l) [
+  | inl less ↦ let a = blocks_apart n b l first last less in omega (arith, a)
+  | inr more ↦ let e : b ≡ l = omega (arith, order, more) in subst (λ (k : ℕ). start_of n b ≤ start_of n k + total (spec_of n k).outs) e (omega arith)
+]
 
-pub room_there : (n : Parts) (o : Writing) (b : ℕ) (vs : List ℤ) → IsNet n → IsOf n o → IsWriting o → IsBlock n b → length vs ≡ total (spec_of n b).outs → start_of n b + length vs ≤ length o.noted
-room_there n o b vs net h w block long = let f = block_within n b block in let all = whole_there n o net h w in omega (arith, f, all, long)
+-- a run of a list that was read
+pub read_is : (xs ys : List ℤ) (a b s e : ℕ) → xs ≡ ys → a ≡ s → b ≡ e → take (b - a) (drop a xs) ≡ take (e - s) (drop s ys)
+read_is xs ys a b s e l i j = ap (λ (vs : List ℤ). take (b - a) (drop a vs)) l ∙ ap (λ (k : ℕ). take (b - k) (drop k ys)) i ∙ ap (λ (k : ℕ). take (k - s) (drop s ys)) j
 
--- ---- the values of all blocks
+placed_within : (xs vs : List ℤ) (start from n : ℕ) → start ≤ from → from + n ≤ start + length vs → start + length vs ≤ length xs → take n (drop from (overwritten xs start vs)) ≡ take n (drop (from - start) vs)
+placed_within xs vs start from n low high room =
+    let front = length-take-le start xs (omega (arith, room)) in
+    let rest = drop (start + length vs) xs in
+    let split : from ≡ start + (from - start) = omega (arith, low) in
+    let long = length-drop (from - start) vs in
+    ap (λ (k : ℕ). take n (drop k (take start xs ++ (vs ++ rest)))) split
+    ∙ ap (take n) (sym (drop-drop (from - start) start (take start xs ++ (vs ++ rest))))
+    ∙ ap (λ (l : List ℤ). take n (drop (from - start) l)) (drop_at (take start xs) (vs ++ rest) start front)
+    ∙ ap (take n) (drop-append-le (from - start) vs rest (omega (arith, low, high)))
+    ∙ take-append-le n (drop (from - start) vs) rest (omega (arith, low, high, long))
 
--- the block has these values, and another keeps its own
-pub block_noted : (n : Parts) (o : Writing) (b : ℕ) (vs : List ℤ) → IsWhole n o.noted → IsBlock n b → length vs ≡ total (spec_of n b).outs → values_at n (with_block n o b vs).noted b ≡ vs
-block_noted n o b vs w block long = outputs_law.written n o.noted vs b w block long
+module _ (n : Parts) (values now : List ℤ) (b l : ℕ) (whole : IsWhole n values) (same : IsWhole n now) (first : IsBlock n b) (last : IsBlock n l) (order : b ≤ l) where
+  abbrev run : List ℤ
+  run = take ((start_of n l + total (spec_of n l).outs) - start_of n b) (drop (start_of n b) values)
 
-pub other_noted : (n : Parts) (o : Writing) (b c : ℕ) (vs : List ℤ) → IsWhole n o.noted → IsBlock n b → IsBlock n c → b ≢ c → length vs ≡ total (spec_of n b).outs
-    → values_at n (with_block n o b vs).noted c ≡ values_at n o.noted c
-other_noted n o b c vs w block other apart long = outputs_law.kept n o.noted vs b c w block other apart long
+  starts_behind : (c : ℕ) → IsBlock n c → b ≤ c → start_of n b ≤ start_of n c
+  starts_behind c block low = elim (cases_lt b c) [
+    | inl less ↦ let a = blocks_apart n b c first block less in omega (arith, a)
+    | inr more ↦ let e : b ≡ c = omega (arith, low, more) in subst (λ (k : ℕ). start_of n b ≤ start_of n k) e (omega arith)
+  ]
 
-pub still_whole : (n : Parts) (o : Writing) (b : ℕ) (vs : List ℤ) → IsWhole n o.noted → IsBlock n b → length vs ≡ total (spec_of n b).outs → IsWhole n (with_block n o b vs).noted
-still_whole n o b vs w block long = outputs_law.whole n o.noted vs b w block long
+  ends_before : (c : ℕ) → IsBlock n c → c ≤ l → start_of n c + total (spec_of n c).outs ≤ start_of n l + total (spec_of n l).outs
+  ends_before c block high = elim (cases_lt c l) [
+    | inl less ↦ let a = blocks_apart n c l block last less in omega (arith, a)
+    | inr more ↦ let e : c ≡ l = omega (arith, high, more) in subst (λ (k : ℕ). start_of n c + total (spec_of n c).outs ≤ start_of n k + total (spec_of n k).outs) e (omega arith)
+  ]
 
--- The values of all blocks below one are noted.
-pub record AllTo (n : Parts) (held : ℕ → List ℤ) (now : List ℤ) (k : ℕ) : Type 0 where
-  pub whole : IsWhole n now
-  pub noted : (b : ℕ) → IsBlock n b → b < k → values_at n now b ≡ held b
+  run_length : length run ≡ (start_of n l + total (spec_of n l).outs) - start_of n b
+  run_length =
+      let low = starts_behind l last order in
+      let high = block_within n l last in
+      read_length values (start_of n b) ((start_of n l + total (spec_of n l).outs) - start_of n b) (omega (arith, low, high, whole))
 
-pub all_more : (n : Parts) (held : ℕ → List ℤ) (now : List ℤ) (k : ℕ) → IsBlock n k → length (held k) ≡ total (spec_of n k).outs → AllTo n held now k → AllTo n held (overwritten now (start_of n k) (held k)) (k + 1)
-all_more n held now k block long h = record {
-  whole = outputs_law.whole n now (held k) k h.whole block long;
-  noted = λ b other below. elim (cases_Bool (nat_eq b k)) [
-    | inl e ↦
-        let same = eqb-true b k e in
-        subst (λ (c : ℕ). values_at n (overwritten now (start_of n k) (held k)) c ≡ held c) (sym same) (outputs_law.written n now (held k) k h.whole block long)
-    | inr e ↦
-        let apart = eqb-false b k e in
-        outputs_law.kept n now (held k) k b h.whole block other (λ f. apart (sym f)) long ∙ h.noted b other (omega (arith, below, apart))
+  pub run_room : start_of n b + length run ≤ length now
+  run_room =
+      let low = starts_behind l last order in
+      let high = block_within n l last in
+      let long = run_length in
+      omega (arith, low, high, same, long)
+
+  pub run_whole : IsWhole n (overwritten now (start_of n b) run)
+  run_whole = written_length now run (start_of n b) (length run) refl run_room ∙ same
+
+  pub run_there : (c : ℕ) → IsBlock n c → b ≤ c → c ≤ l → values_at n (overwritten now (start_of n b) run) c ≡ values_at n values c
+  run_there c block low high =
+      let from = starts_behind c block low in
+      let until = ends_before c block high in
+      let long = run_length in
+      let e : start_of n b + (start_of n c - start_of n b) ≡ start_of n c = omega (arith, from) in
+      placed_within now run (start_of n b) (start_of n c) (total (spec_of n c).outs) from (omega (arith, until, long, from)) run_room
+      ∙ read_within values (start_of n b) ((start_of n l + total (spec_of n l).outs) - start_of n b) (start_of n c - start_of n b) (total (spec_of n c).outs) (omega (arith, from, until))
+      ∙ ap (λ (k : ℕ). take (total (spec_of n c).outs) (drop k values)) e
+
+  pub run_else : (c : ℕ) → IsBlock n c → ((c < b) ⊎ (l < c)) → values_at n (overwritten now (start_of n b) run) c ≡ values_at n now c
+  run_else c block apart = elim apart [
+    | inl less ↦
+        let a = blocks_apart n c b block first less in
+        let room = run_room in
+        kept_before now (run ++ drop (start_of n b + length run) now) (start_of n b) (start_of n c) (total (spec_of n c).outs) a (omega (arith, room))
+    | inr more ↦
+        let a = blocks_apart n l c last block more in
+        let long = run_length in
+        let low = starts_behind l last order in
+        ap (take (total (spec_of n c).outs)) (kept_behind now run (start_of n b) (length run) (start_of n c) refl (omega (arith, a, long, low)) run_room)
+  ]
+
+-- ---- of some blocks those that are active are noted
+
+pub noted_none : (r : Running) (old : List ℤ) (bs : List ℕ) → IsWhole r.fixed.net old → AreNotedTo r old old bs 0
+noted_none r old bs w = record { whole = w; done = λ i h. absurd (omega (arith, h)); each = λ b block. inl refl }
+
+both : {A : Type 0} → true ≡ false → A
+both e = absurd (cc e)
+
+-- one that isn't is passed
+pub noted_pass : (r : Running) (old now : List ℤ) (bs : List ℕ) (k : ℕ) → (mark_at r.store.marks (get_or bs k 0)).active ≡ false → AreNotedTo r old now bs k → AreNotedTo r old now bs (k + 1)
+noted_pass r old now bs k off h = record {
+  whole = h.whole;
+  done = λ i below on. elim (cases_lt i k) [
+    | inl lower ↦ h.done i lower on
+    | inr above ↦ let e : i ≡ k = omega (arith, below, above) in both (sym on ∙ ap (λ (j : ℕ). (mark_at r.store.marks (get_or bs j 0)).active) e ∙ off)
   ];
+  each = h.each;
 }
 
--- Of the first so many blocks of a list those that are marked are noted, and no other is.
-pub record MarkedTo (n : Parts) (marked : ℕ → Bool) (held : ℕ → List ℤ) (old now : List ℤ) (bs : List ℕ) (k : ℕ) : Type 0 where
-  pub whole : IsWhole n now
-  pub done : (i : ℕ) → i < k → marked (get_or bs i 0) ≡ true → values_at n now (get_or bs i 0) ≡ held (get_or bs i 0)
-  pub each : (b : ℕ) → IsBlock n b → (values_at n now b ≡ values_at n old b) ⊎ ((marked b ≡ true) × (values_at n now b ≡ held b))
+-- a block stands among those of a run, or not
+among : (b l c : ℕ) → ((c < b) ⊎ (l < c)) ⊎ ((b ≤ c) × (c ≤ l))
+among b l c = elim (cases_lt c b) [ inl less ↦ inl (inl less) | inr low ↦ elim (cases_lt l c) [ inl more ↦ inl (inr more) | inr high ↦ inr (low, high) ] ]
 
-pub none_marked : (n : Parts) (marked : ℕ → Bool) (held : ℕ → List ℤ) (old : List ℤ) (bs : List ℕ) → IsWhole n old → MarkedTo n marked held old old bs 0
-none_marked n marked held old bs w = record { whole = w; done = λ i h. absurd (omega (arith, h)); each = λ b block. inl refl }
-
-pub marked_more : (n : Parts) (marked : ℕ → Bool) (held : ℕ → List ℤ) (old now new : List ℤ) (bs : List ℕ) (k : ℕ) → ((b : ℕ) → Contains bs b → IsBlock n b) → k < length bs
-    → ((b : ℕ) → IsBlock n b → length (held b) ≡ total (spec_of n b).outs)
-    → new ≡ (if marked (get_or bs k 0) then overwritten now (start_of n (get_or bs k 0)) (held (get_or bs k 0)) else now) → MarkedTo n marked held old now bs k → MarkedTo n marked held old new bs (k + 1)
-marked_more n marked held old now new bs k blocks within long is h =
-    elim (cases_Bool (marked (get_or bs k 0))) [
-      | inl on ↦ subst (λ (l : List ℤ). MarkedTo n marked held old l bs (k + 1)) (sym (is ∙ cond-true (marked (get_or bs k 0)) (overwritten now (start_of n (get_or bs k 0)) (held (get_or bs k 0))) now on)) (noted on)
-      | inr off ↦ subst (λ (l : List ℤ). MarkedTo n marked held old l bs (k + 1)) (sym (is ∙ cond-false (marked (get_or bs k 0)) (overwritten now (start_of n (get_or bs k 0)) (held (get_or bs k 0))) now off)) (passed off)
-    ]
-  where
-    here : IsBlock n (get_or bs k 0)
-    here = blocks (get_or bs k 0) (Contains-get_or bs k 0 within)
-
-    both : {A : Type 0} → true ≡ false → A
-    both e = absurd (cc e)
-
-    passed : marked (get_or bs k 0) ≡ false → MarkedTo n marked held old now bs (k + 1)
-    passed off = record {
-      whole = h.whole;
-      done = λ i below on. elim (cases_lt i k) [
-        | inl lower ↦ h.done i lower on
-        | inr above ↦ let e : i ≡ k = omega (arith, below, above) in both (sym on ∙ ap (λ (j : ℕ). marked (get_or bs j 0)) e ∙ off)
+pub noted_run : (r : Running) (old now : List ℤ) (bs : List ℕ) (k e : ℕ) → ((c : ℕ) → Contains bs c → IsBlock r.fixed.net c) → IsWhole r.fixed.net r.store.values → IsActiveRun r bs k e → AreNotedTo r old now bs k
+    → AreNotedTo r old (overwritten now (start_of r.fixed.net (get_or bs k 0)) (holds_between r (get_or bs k 0) (get_or bs (e - 1) 0))) bs e
+noted_run r old now bs k e blocks whole run h =
+    let n = r.fixed.net in
+    let least = run.least in
+    let most = run.most in
+    let b = get_or bs k 0 in
+    let l = get_or bs (e - 1) 0 in
+    let first : IsBlock n b = blocks b (Contains-get_or bs k 0 (omega (arith, least, most))) in
+    let last : IsBlock n l = blocks l (Contains-get_or bs (e - 1) 0 (omega (arith, least, most))) in
+    let l_is : l ≡ b + ((e - 1) - k) = run.adjoin (e - 1) (omega (arith, least)) (omega (arith, least)) in
+    let order : b ≤ l = omega (arith, l_is) in
+    let new = overwritten now (start_of n b) (holds_between r b l) in
+    let there : (c : ℕ) → IsBlock n c → b ≤ c → c ≤ l → values_at n new c ≡ holds_there r c = run_there n r.store.values now b l whole h.whole first last order in
+    let other : (c : ℕ) → IsBlock n c → ((c < b) ⊎ (l < c)) → values_at n new c ≡ values_at n now c = run_else n r.store.values now b l whole h.whole first last order in
+    let active : (c : ℕ) → b ≤ c → c ≤ l → (mark_at r.store.marks c).active ≡ true =
+    λ c low high.
+    let i = k + (c - b) in
+    let here : i < e = omega (arith, l_is, low, high, least) in
+    let from : k ≤ i = omega arith in
+    let at_i : get_or bs i 0 ≡ b + (i - k) = run.adjoin i from here in
+    let is : get_or bs i 0 ≡ c = omega (arith, at_i, low) in
+    subst (λ (j : ℕ). (mark_at r.store.marks j).active ≡ true) is (run.active i from here) in
+    record {
+      whole = run_whole n r.store.values now b l whole h.whole first last order;
+      done = λ i below on.
+          let block : IsBlock n (get_or bs i 0) = blocks (get_or bs i 0) (Contains-get_or bs i 0 (omega (arith, below, most))) in
+          elim (among b l (get_or bs i 0)) [
+            | inl apart ↦ elim (cases_lt i k) [
+              | inl lower ↦ other (get_or bs i 0) block apart ∙ h.done i lower on
+              | inr from ↦ let is = run.adjoin i from below in elim apart [ inl less ↦ absurd (omega (arith, is, less)) | inr more ↦ absurd (omega (arith, is, more, l_is, below)) ]
+            ]
+            | inr inside ↦ there (get_or bs i 0) block inside.0 inside.1
+          ];
+      each = λ c block. elim (among b l c) [
+        | inl apart ↦ elim (h.each c block) [ inl was ↦ inl (other c block apart ∙ was) | inr is ↦ inr (is.0, other c block apart ∙ is.1) ]
+        | inr inside ↦ inr (active c inside.0 inside.1, there c block inside.0 inside.1)
       ];
-      each = h.each;
     }
 
-    noted : marked (get_or bs k 0) ≡ true → MarkedTo n marked held old (overwritten now (start_of n (get_or bs k 0)) (held (get_or bs k 0))) bs (k + 1)
-    noted on =
-        let b = get_or bs k 0 in
-        let written = outputs_law.written n now (held b) b h.whole here (long b here) in
-        let new = overwritten now (start_of n b) (held b) in
-        record {
-          whole = outputs_law.whole n now (held b) b h.whole here (long b here);
-          done = λ i below mark. elim (cases_Bool (nat_eq (get_or bs i 0) b)) [
-            | inl e ↦ subst (λ (c : ℕ). values_at n new c ≡ held c) (sym (eqb-true (get_or bs i 0) b e)) written
-            | inr e ↦
-                let apart = eqb-false (get_or bs i 0) b e in
-                let lower : i < k = elim (cases_lt i k) [ inl l ↦ l | inr a ↦ let f : i ≡ k = omega (arith, below, a) in absurd (apart (ap (λ (j : ℕ). get_or bs j 0) f)) ] in
-                outputs_law.kept n now (held b) b (get_or bs i 0) h.whole here (blocks (get_or bs i 0) (Contains-get_or bs i 0 (omega (arith, lower, within)))) (λ f. apart (sym f)) (long b here) ∙ h.done i lower mark
-          ];
-          each = λ c other. elim (cases_Bool (nat_eq c b)) [
-            | inl e ↦ let same = eqb-true c b e in inr (ap marked same ∙ on, subst (λ (x : ℕ). values_at n new x ≡ held x) (sym same) written)
-            | inr e ↦
-                let apart = eqb-false c b e in
-                let kept = outputs_law.kept n now (held b) b c h.whole here other (λ f. apart (sym f)) (long b here) in
-                elim (h.each c other) [ inl was ↦ inl (kept ∙ was) | inr is ↦ inr (is.0, kept ∙ is.1) ]
-          ];
-        }
-
--- in the end all marked blocks are noted, and the others keep their values
-pub marked_all : (n : Parts) (marked : ℕ → Bool) (held : ℕ → List ℤ) (old now : List ℤ) (bs : List ℕ) (k : ℕ) → length bs ≤ k → MarkedTo n marked held old now bs k
-    → (b : ℕ) → IsBlock n b → (marked b ≡ true → Contains bs b) → values_at n now b ≡ (if marked b then held b else values_at n old b)
-marked_all n marked held old now bs k all h b block among =
-    elim (cases_Bool (marked b)) [
+-- in the end all active blocks are noted, and the others keep their values
+noted_all : (r : Running) (old now : List ℤ) (bs : List ℕ) (k : ℕ) → length bs ≤ k → AreNotedTo r old now bs k
+    → (b : ℕ) → IsBlock r.fixed.net b → ((mark_at r.store.marks b).active ≡ true → Contains bs b)
+    → values_at r.fixed.net now b ≡ (if (mark_at r.store.marks b).active then holds_there r b else values_at r.fixed.net old b)
+noted_all r old now bs k all h b block of =
+    let n = r.fixed.net in
+    let marked = (mark_at r.store.marks b).active in
+    elim (cases_Bool marked) [
       | inl on ↦
-          let c = among on in
-          done c.0 (omega (arith, c.1, all)) (get_or_default bs c.0 0 b c.1 ∙ c.2) on ∙ sym (cond-true (marked b) (held b) (values_at n old b) on)
+          let c = of on in
+          let is = get_or_default bs c.0 0 b c.1 ∙ c.2 in
+          subst (λ (x : ℕ). values_at n now x ≡ holds_there r x) is (h.done c.0 (omega (arith, c.1, all)) (ap (λ (x : ℕ). (mark_at r.store.marks x).active) is ∙ on))
+          ∙ sym (cond-true marked (holds_there r b) (values_at n old b) on)
       | inr off ↦ elim (h.each b block) [
-        | inl was ↦ was ∙ sym (cond-false (marked b) (held b) (values_at n old b) off)
-        | inr is ↦ absurd (both (sym is.0 ∙ off))
+        | inl was ↦ was ∙ sym (cond-false marked (holds_there r b) (values_at n old b) off)
+        | inr is ↦ both (sym is.0 ∙ off)
       ]
     ]
-  where
-    both : true ≡ false → ⊥
-    both e = cc e
-
-    done : (i : ℕ) → i < k → get_or bs i 0 ≡ b → marked b ≡ true → values_at n now b ≡ held b
-    done i below e on = subst (λ (c : ℕ). values_at n now c ≡ held c) e (h.done i below (ap marked e ∙ on))
 
 -- ---- the values of a net that stands at a state
 
@@ -290,39 +348,13 @@ in_range_there r banks st at b block = subst (Fills (spec_of r.fixed.net b).outs
 pub possible_blocks : (n : Parts) (s : Source) (bs : List ℕ) → ((b : ℕ) → Contains bs b ↔ Possible n s b) → (b : ℕ) → Contains bs b → IsBlock n b
 possible_blocks n s bs are b h = Spread-block n s _ ((are b).0 h)
 
-pub active_noted : (r : Running) (banks : List Meaning) (st : State) (old now : List ℤ) (bs : List ℕ) (k : ℕ) → IsAt r banks st → length bs ≤ k
-    → ((b : ℕ) → IsBlock r.fixed.net b → st.active b ≡ true → Contains bs b)
-    → MarkedTo r.fixed.net (λ b. (mark_at r.store.marks b).active) (holds_there r) old now bs k
-    → (b : ℕ) → IsBlock r.fixed.net b → values_at r.fixed.net now b ≡ (if st.active b then st.memory.held b else values_at r.fixed.net old b)
+pub active_noted : (r : Running) (banks : List Meaning) (st : State) (old now : List ℤ) (bs : List ℕ) (k : ℕ) → IsAt r banks st → length bs ≤ k → ((b : ℕ) → IsBlock r.fixed.net b → st.active b ≡ true → Contains bs b)
+    → AreNotedTo r old now bs k → (b : ℕ) → IsBlock r.fixed.net b → values_at r.fixed.net now b ≡ (if st.active b then st.memory.held b else values_at r.fixed.net old b)
 active_noted r banks st old now bs k at all among h b block =
     let mark = at.active b block in
-    marked_all r.fixed.net (λ c. (mark_at r.store.marks c).active) (holds_there r) old now bs k all h b block (λ on. among b block (sym mark ∙ on))
+    noted_all r old now bs k all h b block (λ on. among b block (sym mark ∙ on))
     ∙ ap (λ (m : Bool). if m then holds_there r b else values_at r.fixed.net old b) mark
     ∙ ap (λ (vs : List ℤ). if st.active b then vs else values_at r.fixed.net old b) (at.shown.memory.held b block)
-
-pub only_noted : (o p : Writing) (vs : List ℤ) → p ≡ record o { noted = vs } → p ≡ record o { noted = p.noted }
-only_noted o p vs e = e ∙ ap (λ (l : List ℤ). record o { noted = l }) (sym (ap (λ (q : Writing). q.noted) e))
-
-pub marked_step : (r : Running) (old now new : Writing) (bs : List ℕ) (k : ℕ) → ((b : ℕ) → Contains bs b → IsBlock r.fixed.net b) → k < length bs → IsMemoryThere r
-    → now ≡ record old { noted = now.noted }
-    → new ≡ (if (mark_at r.store.marks (get_or bs k 0)).active then with_block r.fixed.net now (get_or bs k 0) (holds_there r (get_or bs k 0)) else now)
-    → MarkedTo r.fixed.net (λ b. (mark_at r.store.marks b).active) (holds_there r) old.noted now.noted bs k
-    → record { rest : new ≡ record old { noted = new.noted }; noted : MarkedTo r.fixed.net (λ b. (mark_at r.store.marks b).active) (holds_there r) old.noted new.noted bs (k + 1) }
-marked_step r old now new bs k blocks within fits rest is h =
-    let on = (mark_at r.store.marks (get_or bs k 0)).active in
-    let there = with_block r.fixed.net now (get_or bs k 0) (holds_there r (get_or bs k 0)) in
-    record {
-      rest = elim (cases_Bool on) [
-        | inl e ↦ only_noted old new _ (is ∙ cond-true on there now e ∙ ap (λ (o : Writing). with_block r.fixed.net o (get_or bs k 0) (holds_there r (get_or bs k 0))) rest)
-        | inr e ↦ only_noted old new now.noted (is ∙ cond-false on there now e ∙ rest)
-      ];
-      noted = marked_more r.fixed.net (λ b. (mark_at r.store.marks b).active) (holds_there r) old.noted now.noted new.noted bs k blocks within (λ b block. (fits b block).enough)
-          (ap (λ (o : Writing). o.noted) is ∙ cond-ap on there now) h;
-    }
-  where
-    cond-ap : (b : Bool) (x y : Writing) → (if b then x else y).noted ≡ (if b then x.noted else y.noted)
-    cond-ap true x y = refl
-    cond-ap false x y = refl
 
 pub moved_noted : (o : Writing) (date now : ℕ) → (moved_to o date now).noted ≡ o.noted
 moved_noted o date now = chosen (nat_eq now date)

@@ -1,11 +1,10 @@
 -- What is noted of a net that runs.
-use Rattle.std.specs.Prelude.{◌≡◌, ℕ, ℤ, List, if◌then◌else◌}
-use Rattle.sci_forms.specs.Ports.{Fills}
+use Rattle.std.specs.Prelude.{◌≡◌, ℕ, ◌+◌, ◌-◌, ◌<◌, ◌≤◌, ◌⊎◌, ℤ, List, take, drop, length, slice_index, true, if◌then◌else◌}
+use Rattle.sci_forms.specs.Ports.{total, Fills}
 use Rattle.sci_net.specs.Parts.{Parts, IsBlock, spec_of}
-use Rattle.sci_places.specs.Flat.{start_of, values_at}
-use Rattle.sci_span.specs.Values.{overwritten}
+use Rattle.sci_places.specs.Flat.{start_of, values_at, IsWhole}
 use Rattle.sci_vcd.specs.Signals.{signals_of, AreStarts}
-use Rattle.sci_vcd.specs.Writing.{Writing}
+use Rattle.sci_vcd.specs.Writing.{Writing, with_notes}
 use Rattle.sci_run.specs.Run.{State}
 use Rattle.sci_bank.specs.Bank.{Meaning}
 use Rattle.sci_store.specs.Marks.{mark_at}
@@ -24,13 +23,29 @@ holds_there r b = values_at r.fixed.net r.store.values b
 abbrev pub IsMemoryThere : Running → Type 0
 IsMemoryThere r = (b : ℕ) → IsBlock r.fixed.net b → Fills (spec_of r.fixed.net b).outs (holds_there r b)
 
--- these values of a block are noted
-abbrev pub with_block : Parts → Writing → ℕ → List ℤ → Writing
-with_block n o b vs = record o { noted = overwritten o.noted (start_of n b) vs }
+-- the values that the outputs of blocks hold, from one block to another
+abbrev pub holds_between : Running → (first last : ℕ) → List ℤ
+holds_between r b l =
+    let start = start_of r.fixed.net b in
+    take ((start_of r.fixed.net l + total (spec_of r.fixed.net l).outs) - start) (drop start r.store.values)
 
--- where the last reaction activated the block
-abbrev pub with_active : Running → Writing → ℕ → Writing
-with_active r o b = if (mark_at r.store.marks b).active then with_block r.fixed.net o b (holds_there r b) else o
+-- these are noted
+abbrev pub with_run : Running → Writing → (first last : ℕ) → Writing
+with_run r o b l = with_notes o (start_of r.fixed.net b) (holds_between r b l)
+
+-- The last reaction activated the blocks from place k to before place e of these, and their numbers adjoin.
+pub record IsActiveRun (r : Running) (blocks : List ℕ) (k e : ℕ) : Type 0 where
+  pub least : k < e
+  pub most : e ≤ length blocks
+  pub adjoin : (i : ℕ) → k ≤ i → i < e → slice_index blocks i ≡ slice_index blocks k + (i - k)
+  pub active : (i : ℕ) → k ≤ i → i < e → (mark_at r.store.marks (slice_index blocks i)).active ≡ true
+
+-- Of the first k of these blocks those that the last reaction activated are noted, and no other is.
+pub record AreNotedTo (r : Running) (old now : List ℤ) (blocks : List ℕ) (k : ℕ) : Type 0 where
+  pub whole : IsWhole r.fixed.net now
+  pub done : (i : ℕ) → i < k → (mark_at r.store.marks (slice_index blocks i)).active ≡ true → values_at r.fixed.net now (slice_index blocks i) ≡ holds_there r (slice_index blocks i)
+  pub each : (b : ℕ) → IsBlock r.fixed.net b
+      → (values_at r.fixed.net now b ≡ values_at r.fixed.net old b) ⊎ (((mark_at r.store.marks b).active ≡ true) × (values_at r.fixed.net now b ≡ holds_there r b))
 
 -- of the blocks that the last reaction activated what they hold is noted; of the others what was noted before
 abbrev pub NotesActive : Running → (old new : Writing) → Type 0

@@ -6,8 +6,7 @@ use Rattle.std.specs.declared.alloc.Global.{Global}
 use Rattle.sci_words.specs.declared.command.Report.{Report}
 use Rattle.sci_words.specs.declared.words.Runs.{Runs}
 use Rattle.sci_words.specs.declared.words.Runs.TheVariants.{Simulate, RunC, Dump}
-use Rattle.sci_words.specs.Words.{report, simulate, judge, save, resume, code, run_c, host, bulk, dump, dump_at, report_word, NoCommand, Request, spelled, InBounds}
-use Rattle.sci_words.specs.Parsed.{run_word}
+use Rattle.sci_words.specs.Words.{report, simulate, judge, save, resume, code, run_c, host, bulk, dump, dump_at, report_word, run_word, NoCommand, Request, spelled, InBounds}
 use Rattle.sci_words.specs.declared.command.Report.TheVariants.{Check, Map, Schedule}
 
 pub five_words : (ws : List (String Global)) (a b c d e : String Global) → a ≡ get_or ws 0 a → b ≡ get_or ws 1 b → c ≡ get_or ws 2 c → d ≡ get_or ws 3 d → e ≡ get_or ws 4 e
@@ -48,121 +47,53 @@ three_words (v ∷ w ∷ x ∷ y ∷ ws) a b c ha hb hc low high = absurd (omega
 
 -- five words with another first word are no command
 pub no_run : (name file inputs until limit : List ℕ) → ((r : Runs) → name ≢ run_word r) → NoCommand (name ∷ file ∷ inputs ∷ until ∷ limit ∷ [])
-no_run name file inputs until limit none (report r d) s = absurd (cc s.0)
 no_run name file inputs until limit none (simulate d i t n) s = none Simulate (cc s.0)
-no_run name file inputs until limit none (judge d i v t m) s = absurd (cc s.0)
-no_run name file inputs until limit none (save d i t m k) s = absurd (cc s.0)
-no_run name file inputs until limit none (resume d i v t m) s = absurd (cc s.0)
 no_run name file inputs until limit none (run_c d i t n) s = none RunC (cc s.0)
-no_run name file inputs until limit none (code d) s = absurd (cc s.0)
-no_run name file inputs until limit none host s = absurd (cc s.0)
-no_run name file inputs until limit none (bulk seed size) s = absurd (cc s.0)
 no_run name file inputs until limit none (dump d i t n) s = none Dump (cc s.0)
-no_run name file inputs until limit none (dump_at v tick) s = absurd (cc s.0)
+no_run name file inputs until limit none c s = absurd (cc s.0)
 
 -- two words with another first word are no command
 pub no_report : (name diagram : List ℕ) → ((r : Report) → name ≢ report_word r) → name ≢ codes "ccode" → NoCommand (name ∷ diagram ∷ [])
 no_report name diagram none other (report r d) s = none r (cc s.0)
-no_report name diagram none other (simulate d i t n) s = absurd (cc s.0)
-no_report name diagram none other (judge d i v t m) s = absurd (cc s.0)
-no_report name diagram none other (save d i t m k) s = absurd (cc s.0)
-no_report name diagram none other (resume d i v t m) s = absurd (cc s.0)
 no_report name diagram none other (code d) s = other (cc s.0)
-no_report name diagram none other (run_c d i t n) s = absurd (cc s.0)
-no_report name diagram none other host s = absurd (cc s.0)
-no_report name diagram none other (bulk seed size) s = absurd (cc s.0)
-no_report name diagram none other (dump d i t n) s = absurd (cc s.0)
-no_report name diagram none other (dump_at v tick) s = absurd (cc s.0)
+no_report name diagram none other c s = absurd (cc s.0)
 
 -- three words with another first word are none
 pub other_name : (name second third : List ℕ) → name ≢ codes "bulk" → name ≢ codes "vcdat" → NoCommand (name ∷ second ∷ third ∷ [])
-other_name name second third bulk_not vcdat_not (report r d) s = absurd (cc s.0)
-other_name name second third bulk_not vcdat_not (simulate d i t n) s = absurd (cc s.0)
-other_name name second third bulk_not vcdat_not (judge d i v t m) s = absurd (cc s.0)
-other_name name second third bulk_not vcdat_not (save d i t m k) s = absurd (cc s.0)
-other_name name second third bulk_not vcdat_not (resume d i v t m) s = absurd (cc s.0)
-other_name name second third bulk_not vcdat_not (code d) s = absurd (cc s.0)
-other_name name second third bulk_not vcdat_not (run_c d i t n) s = absurd (cc s.0)
-other_name name second third bulk_not vcdat_not host s = absurd (cc s.0)
 other_name name second third bulk_not vcdat_not (bulk x z) s = bulk_not (cc s.0)
-other_name name second third bulk_not vcdat_not (dump d i t n) s = absurd (cc s.0)
 other_name name second third bulk_not vcdat_not (dump_at v k) s = vcdat_not (cc s.0)
+other_name name second third bulk_not vcdat_not c s = absurd (cc s.0)
 
 -- nor with a word that is no seed
 pub no_seed : (seed size : List ℕ) → ((n : ℕ) → n ≤ 4294967295 → seed ≢ decimal n) → NoCommand (codes "bulk" ∷ seed ∷ size ∷ [])
-no_seed seed size none (report r d) s = absurd (cc s.0)
-no_seed seed size none (simulate d i t n) s = absurd (cc s.0)
-no_seed seed size none (judge d i v t m) s = absurd (cc s.0)
-no_seed seed size none (save d i t m k) s = absurd (cc s.0)
-no_seed seed size none (resume d i v t m) s = absurd (cc s.0)
-no_seed seed size none (code d) s = absurd (cc s.0)
-no_seed seed size none (run_c d i t n) s = absurd (cc s.0)
-no_seed seed size none host s = absurd (cc s.0)
 no_seed seed size none (bulk x z) s = none x s.1.0 (cc s.0)
-no_seed seed size none (dump d i t n) s = absurd (cc s.0)
-no_seed seed size none (dump_at v k) s = absurd (cc s.0)
+no_seed seed size none c s = absurd (cc s.0)
 
 -- nor with one that is no size
 pub no_size : (seed size : List ℕ) → ((n : ℕ) → n ≤ 2000 → size ≢ decimal n) → NoCommand (codes "bulk" ∷ seed ∷ size ∷ [])
-no_size seed size none (report r d) s = absurd (cc s.0)
-no_size seed size none (simulate d i t n) s = absurd (cc s.0)
-no_size seed size none (judge d i v t m) s = absurd (cc s.0)
-no_size seed size none (save d i t m k) s = absurd (cc s.0)
-no_size seed size none (resume d i v t m) s = absurd (cc s.0)
-no_size seed size none (code d) s = absurd (cc s.0)
-no_size seed size none (run_c d i t n) s = absurd (cc s.0)
-no_size seed size none host s = absurd (cc s.0)
 no_size seed size none (bulk x z) s = none z s.1.2 (cc s.0)
-no_size seed size none (dump d i t n) s = absurd (cc s.0)
-no_size seed size none (dump_at v k) s = absurd (cc s.0)
+no_size seed size none c s = absurd (cc s.0)
 
 -- which 0 is none
 pub size_zero : (seed size : List ℕ) (n : ℕ) → size ≡ decimal n → n ≡ 0 → NoCommand (codes "bulk" ∷ seed ∷ size ∷ [])
-size_zero seed size n is none (report r d) s = absurd (cc s.0)
-size_zero seed size n is none (simulate d i t m) s = absurd (cc s.0)
-size_zero seed size n is none (judge d i v t m) s = absurd (cc s.0)
-size_zero seed size n is none (save d i t m k) s = absurd (cc s.0)
-size_zero seed size n is none (resume d i v t m) s = absurd (cc s.0)
-size_zero seed size n is none (code d) s = absurd (cc s.0)
-size_zero seed size n is none (run_c d i t m) s = absurd (cc s.0)
-size_zero seed size n is none host s = absurd (cc s.0)
 size_zero seed size n is none (bulk x z) s =
     let same : decimal n ≡ decimal z = cc (is, s.0) in
     let number : n ≡ z = decimal_injective n z (omega (arith, none)) (omega (arith, s.1.2)) same in
     absurd (omega (arith, number, none, s.1.1))
-size_zero seed size n is none (dump d i t m) s = absurd (cc s.0)
-size_zero seed size n is none (dump_at v k) s = absurd (cc s.0)
+size_zero seed size n is none c s = absurd (cc s.0)
 
 -- nor with one that is no tick
 pub no_tick : (file tick : List ℕ) → ((n : ℕ) → n ≤ 2 ^ 62 → tick ≢ decimal n) → NoCommand (codes "vcdat" ∷ file ∷ tick ∷ [])
-no_tick file tick none (report r d) s = absurd (cc s.0)
-no_tick file tick none (simulate d i t n) s = absurd (cc s.0)
-no_tick file tick none (judge d i v t m) s = absurd (cc s.0)
-no_tick file tick none (save d i t m k) s = absurd (cc s.0)
-no_tick file tick none (resume d i v t m) s = absurd (cc s.0)
-no_tick file tick none (code d) s = absurd (cc s.0)
-no_tick file tick none (run_c d i t n) s = absurd (cc s.0)
-no_tick file tick none host s = absurd (cc s.0)
-no_tick file tick none (bulk x z) s = absurd (cc s.0)
-no_tick file tick none (dump d i t n) s = absurd (cc s.0)
 no_tick file tick none (dump_at v k) s = none k s.1 (cc s.0)
+no_tick file tick none c s = absurd (cc s.0)
 
 -- a reaction is counted from 1
 pub reaction_zero : (d i until limit reaction : List ℕ) (k : ℕ) → reaction ≡ decimal k → k ≡ 0 → NoCommand (codes "save" ∷ d ∷ i ∷ until ∷ limit ∷ reaction ∷ [])
-reaction_zero d i until limit reaction k is none (report r e) s = absurd (cc s.0)
-reaction_zero d i until limit reaction k is none (simulate e j t n) s = absurd (cc s.0)
-reaction_zero d i until limit reaction k is none (judge e j v t n) s = absurd (cc s.0)
 reaction_zero d i until limit reaction k is none (save e j t n l) s =
     let same : decimal k ≡ decimal l = cc (is, s.0) in
     let number : k ≡ l = decimal_injective k l (omega (arith, none)) (omega (arith, s.1.3)) same in
     absurd (omega (arith, number, none, s.1.2))
-reaction_zero d i until limit reaction k is none (resume e j v t n) s = absurd (cc s.0)
-reaction_zero d i until limit reaction k is none (code e) s = absurd (cc s.0)
-reaction_zero d i until limit reaction k is none (run_c e j t n) s = absurd (cc s.0)
-reaction_zero d i until limit reaction k is none host s = absurd (cc s.0)
-reaction_zero d i until limit reaction k is none (bulk x z) s = absurd (cc s.0)
-reaction_zero d i until limit reaction k is none (dump e j t n) s = absurd (cc s.0)
-reaction_zero d i until limit reaction k is none (dump_at v tick) s = absurd (cc s.0)
+reaction_zero d i until limit reaction k is none c s = absurd (cc s.0)
 
 -- ---- one command
 

@@ -1,8 +1,12 @@
 -- The words of the command line.
-use Rattle.std.specs.Prelude.{ℕ, ◌≡◌, ◌+◌, ◌≤◌, List, [], ◌∷◌, codes, decimal}
+use Rattle.std.specs.Prelude.{ℕ, ◌≡◌, ◌+◌, ◌≤◌, List, [], ◌∷◌, Option, Some, None, codes, decimal}
 use Rattle.sci_base.specs.declared.limits.TheConstants.{TICKS, EVENTS}
 use Rattle.sci_words.specs.declared.command.Report.{Report}
 use Rattle.sci_words.specs.declared.command.Report.TheVariants.{Check, Map, Schedule}
+use Rattle.sci_words.specs.declared.command.Command.{Command}
+use Rattle.sci_words.specs.declared.command.Command.TheVariants.{Report as Tell, Simulate, Judge, Save, Resume, Code, RunC, Host, Bulk, Dump, DumpAt}
+use Rattle.sci_words.specs.declared.words.Runs.{Runs}
+use Rattle.sci_words.specs.declared.words.Runs.TheVariants.{Simulate as Simulating, RunC as RunningC, Dump as Dumping}
 
 -- what a command line asks for: to tell something of the diagram of a file; to simulate it, with an input file, the last date and the
 -- most events; to judge whether a file is its trace; to save its run behind a reaction; to go on with it from what a file saves; for the C of
@@ -26,6 +30,10 @@ abbrev pub report_word : Report → List ℕ
 report_word Check = codes "check"
 report_word Map = codes "map"
 report_word Schedule = codes "schedule"
+
+-- what is told where the words are no command
+unfoldable pub usage_line : List ℕ
+usage_line = codes "usage: scicos check D | map D | schedule D | simulate D I T N | ccode D | crun C I T N | host | bulk SEED SIZE | judge D I V T N | save D I T N K | resume D I S T N | vcd D I T N | vcdat V K\n"
 
 -- the words that spell a command; a number has its decimal digits alone
 abbrev pub spelled : Request → List (List ℕ)
@@ -76,3 +84,28 @@ files_of host = []
 files_of (bulk seed size) = []
 files_of (dump d i until limit) = d ∷ i ∷ []
 files_of (dump_at v tick) = v ∷ []
+
+-- ---- what the code makes of the words
+
+abbrev pub run_word : Runs → List ℕ
+run_word Simulating = codes "simulate"
+run_word RunningC = codes "crun"
+run_word Dumping = codes "vcd"
+
+-- what the code's command asks for
+abbrev pub asked_by : Command → Request
+asked_by (Tell r d) = report r d.now
+asked_by (Simulate r) = simulate r.file.now r.inputs_file.now r.until r.limit
+asked_by (Judge r v) = judge r.file.now r.inputs_file.now v.now r.until r.limit
+asked_by (Save r k) = save r.file.now r.inputs_file.now r.until r.limit k
+asked_by (Resume r s) = resume r.file.now r.inputs_file.now s.now r.until r.limit
+asked_by (Code d) = code d.now
+asked_by (RunC r) = run_c r.file.now r.inputs_file.now r.until r.limit
+asked_by Host = host
+asked_by (Bulk seed size) = bulk seed size
+asked_by (Dump r) = dump r.file.now r.inputs_file.now r.until r.limit
+asked_by (DumpAt v tick) = dump_at v.now tick
+
+abbrev pub Parses : List (List ℕ) → Option Command → Type 0
+Parses words None = NoCommand words
+Parses words (Some c) = Spells words (asked_by c)

@@ -2,10 +2,9 @@ ghost use Rattle.std.specs.Prelude.{◌≡◌, ◌≢◌, ◌≤◌, [], ◌∷�
 ghost use Rattle.sci_base.specs.declared.limits.TheConstants.{TICKS, EVENTS};
 ghost use Rattle.sci_words.specs.declared.command.Report.{Report};
 ghost use Rattle.sci_words.specs.declared.words.Runs.{Runs};
-ghost use Rattle.sci_words.specs.Words.{report_word};
-ghost use Rattle.sci_words.specs.Parsed.{Parses, run_word};
+ghost use Rattle.sci_words.specs.Words.{Parses, report_word, run_word};
 
-use crate::command::{Command, Report};
+use crate::command::{Command, Report, RunWords};
 use itoa::Buffer;
 use sci_base::limits;
 
@@ -65,62 +64,86 @@ fn runs_of(name: &str) -> Option<Runs>
 fn of_five<'a>(
     name: &str,
     file: &'a str,
-    inputs: &'a str,
+    inputs_file: &'a str,
     until: &str,
     limit: &str,
 ) -> Option<Command<'a>>
-    ensures { Parses (name.now ∷ file.now ∷ inputs.now ∷ until.now ∷ limit.now ∷ []) result }
+    ensures { Parses (name.now ∷ file.now ∷ inputs_file.now ∷ until.now ∷ limit.now ∷ []) result }
 {
     let runs = runs_of(name)?;
     let (until, limit) = bounds_of(until, limit)?;
+    let run = RunWords {
+        file,
+        inputs_file,
+        until,
+        limit,
+    };
     Some(match runs {
-        Runs::Simulate => Command::Simulate(file, inputs, until, limit),
-        Runs::RunC => Command::RunC(file, inputs, until, limit),
-        Runs::Dump => Command::Dump(file, inputs, until, limit),
+        Runs::Simulate => Command::Simulate(run),
+        Runs::RunC => Command::RunC(run),
+        Runs::Dump => Command::Dump(run),
     })
 }
 
 fn of_judge<'a>(
-    diagram: &'a str,
-    inputs: &'a str,
+    file: &'a str,
+    inputs_file: &'a str,
     trace: &'a str,
     until: &str,
     limit: &str,
 ) -> Option<Command<'a>>
-    ensures { Parses (codes "judge" ∷ diagram.now ∷ inputs.now ∷ trace.now ∷ until.now ∷ limit.now ∷ []) result }
+    ensures { Parses (codes "judge" ∷ file.now ∷ inputs_file.now ∷ trace.now ∷ until.now ∷ limit.now ∷ []) result }
 {
     let (until, limit) = bounds_of(until, limit)?;
-    Some(Command::Judge(diagram, inputs, trace, until, limit))
+    let run = RunWords {
+        file,
+        inputs_file,
+        until,
+        limit,
+    };
+    Some(Command::Judge(run, trace))
 }
 
 fn of_save<'a>(
-    diagram: &'a str,
-    inputs: &'a str,
+    file: &'a str,
+    inputs_file: &'a str,
     until: &str,
     limit: &str,
     reaction: &str,
 ) -> Option<Command<'a>>
-    ensures { Parses (codes "save" ∷ diagram.now ∷ inputs.now ∷ until.now ∷ limit.now ∷ reaction.now ∷ []) result }
+    ensures { Parses (codes "save" ∷ file.now ∷ inputs_file.now ∷ until.now ∷ limit.now ∷ reaction.now ∷ []) result }
 {
     let (until, limit) = bounds_of(until, limit)?;
     let reaction = canonical(reaction, limits::EVENTS + 1)?;
     if reaction == 0 {
         return None;
     }
-    Some(Command::Save(diagram, inputs, until, limit, reaction))
+    let run = RunWords {
+        file,
+        inputs_file,
+        until,
+        limit,
+    };
+    Some(Command::Save(run, reaction))
 }
 
 fn of_resume<'a>(
-    diagram: &'a str,
-    inputs: &'a str,
+    file: &'a str,
+    inputs_file: &'a str,
     saved: &'a str,
     until: &str,
     limit: &str,
 ) -> Option<Command<'a>>
-    ensures { Parses (codes "resume" ∷ diagram.now ∷ inputs.now ∷ saved.now ∷ until.now ∷ limit.now ∷ []) result }
+    ensures { Parses (codes "resume" ∷ file.now ∷ inputs_file.now ∷ saved.now ∷ until.now ∷ limit.now ∷ []) result }
 {
     let (until, limit) = bounds_of(until, limit)?;
-    Some(Command::Resume(diagram, inputs, saved, until, limit))
+    let run = RunWords {
+        file,
+        inputs_file,
+        until,
+        limit,
+    };
+    Some(Command::Resume(run, saved))
 }
 
 fn of_six<'a>(

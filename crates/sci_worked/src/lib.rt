@@ -1,4 +1,5 @@
-//! Numbers that are fitted, events that are pending, and readers and writers that are interrupted or fail, tried on values that were worked out by hand.
+//! Numbers and intervals that are fitted, events that are pending, and readers and writers that are interrupted or fail, tried on values that were worked
+//! out by hand.
 //! There is nothing here but tests.
 #![tactic(auto)]
 
@@ -6,5 +7,7 @@
 mod fitting;
 #[cfg(test)]
 mod pending;
+#[cfg(test)]
+mod ranges;
 #[cfg(test)]
 mod streams;

@@ -98,6 +98,8 @@ fn banks_have_counted(rt: HostRuntime) -> Result<(), Fail> {
         run_line(alloc, "simulate d i 100 3", COUNTER, "[]")?,
         (0, 11)
     );
+    // the same run, as a dump
+    assert_eq!(rt; run_line(alloc, "vcd d i 100 3", COUNTER, "[]")?, (0, 11));
     // four blocks at each of three ticks
     assert_eq!(rt;
         run_line(alloc, "simulate d i 10 3", BRANCHES, "[[5,-1,0]]")?,

@@ -1,4 +1,4 @@
-use Rattle.sci_cgen.proofs.LaidLemmas.{few_read}
+use Rattle.sci_cgen_base.proofs.LaidLemmas.{few_read}
 use Rattle.sci_cgen.proofs.generator.body.Goals as goal
 
 pub block_body-requires-clause-few : goal.block_body-requires-clause-few

@@ -2,7 +2,7 @@ use Rattle.std.proofs.Common.{suc, false, ◌++◌, map, length, slice_index_or,
 use Rattle.c_ast.specs.View.{function_of}
 use Rattle.sci_net.specs.Sources.{sources_of}
 use Rattle.sci_sched.specs.Plain.{rows_of}
-use Rattle.sci_cgen.specs.Program.{functions_upto, block_function, source_function, other_functions}
+use Rattle.sci_program.specs.Program.{functions_upto, block_function, source_function, other_functions}
 use Rattle.sci_cgen.specs.Built.{marked_function}
 use Rattle.sci_cgen.proofs.EmitLemmas.{marked_same}
 use Rattle.sci_cgen.proofs.generator.called_functions.Goals as goal

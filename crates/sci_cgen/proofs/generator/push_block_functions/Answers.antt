@@ -1,6 +1,6 @@
 use Rattle.std.proofs.Common.{arith, ◌≡◌, suc, ◌+◌, ◌++◌, map, length, slice_index_or, false, ap, ◌∙◌}
 use Rattle.c_ast.specs.View.{function_of}
-use Rattle.sci_cgen.specs.Program.{functions_upto}
+use Rattle.sci_program.specs.Program.{functions_upto}
 use Rattle.sci_cgen.specs.Built.{marked_function}
 use Rattle.sci_cgen.proofs.EmitLemmas.{function_more, none_yet}
 use Rattle.sci_cgen.proofs.generator.push_block_functions.Goals as goal

@@ -1,7 +1,7 @@
 -- The functions so far: those of the first blocks.
 use Rattle.std.proofs.Common.{◌≡◌, ◌≤◌, suc, ◌++◌, map, length, slice_index_or, false}
 use Rattle.c_ast.specs.View.{function_of}
-use Rattle.sci_cgen.specs.Program.{functions_upto}
+use Rattle.sci_program.specs.Program.{functions_upto}
 use Rattle.sci_cgen.specs.Built.{marked_function}
 use Rattle.sci_cgen.proofs.generator.push_block_functions.Given as goal
 

@@ -3,9 +3,9 @@ use Rattle.sci_reaction.specs.Schedule.{Entry}
 use Rattle.c_ast.specs.View.{function_of}
 use Rattle.sci_net.specs.Sources.{sources_of, source_of}
 use Rattle.sci_sched.specs.Plain.{rows_of}
-use Rattle.sci_cgen.specs.Program.{functions_upto, source_function, row_text}
+use Rattle.sci_program.specs.Program.{functions_upto, source_function, row_text}
 use Rattle.c_ast.specs.Syntax.{Function}
-use Rattle.sci_cgen.specs.Names.{source_name}
+use Rattle.sci_program.specs.Names.{source_name}
 use Rattle.sci_cgen.proofs.EmitLemmas.{function_more, none_yet, named_at}
 use Rattle.sci_cgen.proofs.generator.push_source_functions.Goals as goal
 

@@ -3,7 +3,7 @@ use Rattle.std.proofs.Common.{◌≡◌, ◌≤◌, ◌++◌, map, length}
 use Rattle.c_ast.specs.View.{function_of}
 use Rattle.sci_net.specs.Sources.{sources_of}
 use Rattle.sci_sched.specs.Plain.{rows_of}
-use Rattle.sci_cgen.specs.Program.{functions_upto, source_function}
+use Rattle.sci_program.specs.Program.{functions_upto, source_function}
 use Rattle.sci_cgen.proofs.generator.push_source_functions.Given as goal
 
 abbrev pub invariant-loop-source : goal.invariant-loop-source

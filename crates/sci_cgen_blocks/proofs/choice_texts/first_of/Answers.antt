@@ -1,4 +1,4 @@
-use Rattle.std.proofs.Common.{arith, ◌≡◌, ◌≤◌, ◌<◌, ◌-◌, sym, subst, ap, ◌∙◌}
+use Rattle.std.proofs.Common.{arith, ◌<◌, sym, subst, ◌∙◌}
 use Rattle.sci_cgen_blocks.specs.Plain.{plain_places, AreSpelled}
 use Rattle.sci_cgen_blocks.proofs.Reading.{pow_spelled}
 use Rattle.sci_cgen_blocks.proofs.Working.{spelled}

@@ -29,36 +29,6 @@ pub returns-in-Simulate-clause-left : goal.returns-in-Simulate-clause-left
 returns-in-Simulate-clause-left g c =
     rw c.in-Simulate.is (done_counts c.in-Simulate.simulation _ _ _ _ c.print_trace.result c.finish.ensures c.print_trace.ensures.counts_run)
 
-pub returns-in-Usage-clause-left : goal.returns-in-Usage-clause-left
-returns-in-Usage-clause-left g c = λ _. rw c.in-Usage.is refl
-
-pub returns-in-Refused-clause-left : goal.returns-in-Refused-clause-left
-returns-in-Refused-clause-left g c = λ _. rw c.in-Refused.is refl
-
-pub returns-in-ReadFault-clause-left : goal.returns-in-ReadFault-clause-left
-returns-in-ReadFault-clause-left g c = λ _. rw c.in-ReadFault.is refl
-
-pub returns-in-Memory-clause-left : goal.returns-in-Memory-clause-left
-returns-in-Memory-clause-left g c = λ _. rw c.in-Memory.is refl
-
-pub returns-in-Print-clause-left : goal.returns-in-Print-clause-left
-returns-in-Print-clause-left g c = λ _. rw c.in-Print.is refl
-
-pub returns-in-Report-clause-left : goal.returns-in-Report-clause-left
-returns-in-Report-clause-left g c = λ _. rw c.in-Report.is refl
-
-pub returns-in-Code-clause-left : goal.returns-in-Code-clause-left
-returns-in-Code-clause-left g c = λ _. rw c.in-Code.is refl
-
-pub returns-in-Bulk-clause-left : goal.returns-in-Bulk-clause-left
-returns-in-Bulk-clause-left g c = λ _. rw c.in-Bulk.is refl
-
-pub returns-in-RunC-clause-left : goal.returns-in-RunC-clause-left
-returns-in-RunC-clause-left g c = λ _. rw c.in-RunC.is refl
-
-pub returns-in-DumpAt-clause-left : goal.returns-in-DumpAt-clause-left
-returns-in-DumpAt-clause-left g c = λ _. rw c.in-DumpAt.is refl
-
 pub returns-in-Dump-clause-delivered : goal.returns-in-Dump-clause-delivered
 returns-in-Dump-clause-delivered g c =
     rw c.in-Dump.is (inl (dump_written c.in-Dump.simulation _ _ _ _ _ c.print_dump.result c.print_dump.ensures.printed c.finish-in-Dump.ensures))

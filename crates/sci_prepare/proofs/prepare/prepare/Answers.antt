@@ -1,6 +1,6 @@
 use Rattle.std.proofs.Common.{map, string_bytes}
 use Rattle.sci_answers.specs.Answer.{no_memory}
-use Rattle.sci_words.specs.Parsed.{asked_by}
+use Rattle.sci_words.specs.Words.{asked_by}
 use Rattle.sci_prepare.proofs.Looked.{spelled_reaches, spelled_counts, usage_counts}
 use Rattle.sci_prepare.proofs.Defined.{prepared_code, stopped_prepares, unspelled_prepares}
 use Rattle.sci_prepare.proofs.prepare.prepare.Goals as goal

@@ -1,11 +1,12 @@
-use Rattle.std.proofs.Common.{◌≡◌, ℕ}
-use Rattle.sci_store.specs.Marks.{mark_at}
-use Rattle.sci_wave.specs.Noted.{holds_there}
-use Rattle.sci_wave.proofs.Blockwise.{MarkedTo}
+use Rattle.std.proofs.Common.{◌≡◌, ◌≤◌, ◌-◌, length}
+use Rattle.sci_wave.specs.Noted.{AreNotedTo}
 use Rattle.sci_wave.proofs.noting.note_active.Given as goal
 
-abbrev pub invariant-loop-block : goal.invariant-loop-block
-invariant-loop-block l = record {
+abbrev pub invariant-loop-at : goal.invariant-loop-at
+invariant-loop-at l = record {
   rest : l.dump ≡ record l.initial.dump { noted = l.dump.noted };
-  noted : MarkedTo l.ready.fixed.net (λ (b : ℕ). (mark_at l.ready.store.marks b).active) (holds_there l.ready) l.initial.dump.noted l.dump.noted l.block-items l.block-index;
+  noted : AreNotedTo l.ready l.initial.dump.noted l.dump.noted l.blocks l.at;
 }
+
+abbrev pub decreases-loop-at : goal.decreases-loop-at
+decreases-loop-at l = length l.blocks - l.at

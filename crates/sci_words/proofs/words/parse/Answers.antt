@@ -1,5 +1,5 @@
 use Rattle.std.proofs.Common.{rules, List, ℕ, ◌≡◌, ◌∷◌, [], map, string_bytes, subst, sym}
-use Rattle.sci_words.specs.Parsed.{Parses}
+use Rattle.sci_words.specs.Words.{Parses}
 use Rattle.sci_words.proofs.Spoken.{five_words, six_words}
 use Rattle.sci_words.proofs.words.parse.Goals as goal
 

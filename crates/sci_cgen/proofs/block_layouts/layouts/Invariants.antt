@@ -1,5 +1,0 @@
-use Rattle.sci_cgen.proofs.LaidLemmas.{LaidTo}
-use Rattle.sci_cgen.proofs.block_layouts.layouts.Given as goal
-
-abbrev pub invariant-loop-block : goal.invariant-loop-block
-invariant-loop-block l = LaidTo l.net l.block l.layouts.items l.state

@@ -1,6 +1,0 @@
-use Rattle.std.proofs.Common.{refl}
-use Rattle.sci_cgen_blocks.proofs.Written.{pushed}
-use Rattle.sci_cgen.proofs.pieces.push.Goals as goal
-
-pub returns : goal.returns
-returns c = pushed _ _ _ _ c.in_ok-push.ensures.items refl

@@ -1,6 +1,0 @@
-use Rattle.std.proofs.Common.{sym, ◌∙◌}
-use Rattle.sci_cgen.proofs.RowLemmas.{where_false}
-use Rattle.sci_cgen.proofs.row_texts.push_bit.Goals as goal
-
-pub returns-else-has_bit : goal.returns-else-has_bit
-returns-else-has_bit c = where_false _ _ _ (sym c.has_bit.ensures ∙ c.if-has_bit.false)

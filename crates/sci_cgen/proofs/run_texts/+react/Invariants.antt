@@ -1,4 +1,0 @@
-use Rattle.sci_cgen.proofs.run_texts.+react.Given as goal
-
-abbrev pub decreases-react : goal.decreases-react
-decreases-react l = l.depth

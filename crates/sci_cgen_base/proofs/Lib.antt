@@ -1,0 +1,4 @@
+pub mod LaidLemmas
+pub mod RowLemmas
+pub mod TextLemmas
+pub mod NetLemmas

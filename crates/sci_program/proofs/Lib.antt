@@ -1,0 +1,13 @@
+pub mod Table
+pub mod Halves
+pub mod Firings
+pub mod Marks
+pub mod Entries
+pub mod Given
+pub mod Staying
+pub mod States
+pub mod Blank
+pub mod Called
+pub mod Bodies
+pub mod Parted
+pub mod Sizes

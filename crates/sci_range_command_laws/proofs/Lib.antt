@@ -1,0 +1,7 @@
+mod Observing
+mod Going
+mod Safe
+mod Refusing
+mod Longer
+mod Ranged
+mod Resuming

@@ -1,0 +1,4 @@
+pub mod Due
+pub mod Prepared
+pub mod Deliver
+pub mod Meets

@@ -1,0 +1,5 @@
+pub mod Readings
+pub mod View
+pub mod Beside
+pub mod Widest
+pub mod Live

@@ -1,0 +1,5 @@
+pub mod FirstEvents
+pub mod Rowed
+pub mod Marked
+pub mod Placed
+pub mod Tested

@@ -1,0 +1,7 @@
+use Rattle.std.proofs.Common.{◌≡◌, true}
+use Rattle.sci_ranges_rows.specs.Tests.{all_below, shows_at}
+use Rattle.sci_ranges_marks.specs.View.{marks_of}
+use Rattle.sci_ranges_marks.proofs.marks.RowMarks.is_shown.Given as goal
+
+abbrev pub invariant-loop-k : goal.invariant-loop-k
+invariant-loop-k l = all_below (λ k. shows_at l.net (marks_of l.self) k l.block l.p) l.k ≡ true

@@ -1,0 +1,4 @@
+pub mod Branches
+pub mod First
+pub mod Places
+pub mod View

@@ -1,0 +1,5 @@
+pub mod Adding
+pub mod Parts
+pub mod Going
+pub mod Leaking
+pub mod Choosing

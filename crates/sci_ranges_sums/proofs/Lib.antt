@@ -1,0 +1,4 @@
+pub mod Stepped
+pub mod Leaked
+pub mod Leaks
+pub mod Totals
